@@ -1,0 +1,264 @@
+//! Random terms: good ones of every kind, and damaged copies of them.
+use crate::random::Random;
+use reading::terms::{Calls, Leg, Pillars, Sigma};
+use reading::treebasedbondpricer::{Room, Terms};
+
+fn pick<T: Copy>(random: &mut Random, from: &[T]) -> T {
+    from[random.below(from.len() as u64) as usize]
+}
+
+fn whole(random: &mut Random, low: u64, high: u64) -> u32 {
+    (low + random.below(high - low + 1)) as u32
+}
+
+/// 10 to a power between two, either sign where asked.
+fn scaled(random: &mut Random, low: f64, high: f64) -> f64 {
+    10f64.powf(random.between(low, high))
+}
+
+pub fn leg(random: &mut Random, settlement: u32) -> Leg {
+    let count = match random.below(8) {
+        0 => 1,
+        1 => whole(random, 1, 40),
+        _ => whole(random, 1, 8),
+    };
+    let reach = pick(random, &[40, 400, 1500, 4000, 11000]);
+    let mut days: Vec<u32> = (0..count).map(|_| settlement.saturating_sub(200) + whole(random, 0, reach)).collect();
+    days.sort_unstable();
+    let last = days.len() - 1;
+    if days[last] <= settlement && random.below(20) > 0 {
+        days[last] = settlement + whole(random, 1, reach);
+    }
+    let kinds = (0..count).map(|i| u8::from(i as usize == last || random.below(4) == 0)).collect();
+    let amounts = (0..count)
+        .map(|i| match random.below(24) {
+            0 => -random.between(0.0, 5.0),
+            1 => scaled(random, -3.0, 11.9),
+            2 => 0.0,
+            _ if i as usize == last => 100.0,
+            _ => random.between(0.0, 6.0),
+        })
+        .collect();
+    Leg { days, kinds, amounts }
+}
+
+pub fn calls(random: &mut Random, settlement: u32, leg: &Leg) -> Calls {
+    let last = *leg.days.last().unwrap();
+    let count = match random.below(4) {
+        0 => 0,
+        1 => random.below(12),
+        _ => random.below(4),
+    };
+    let mut calls = Calls::default();
+    for _ in 0..count {
+        let low = settlement.saturating_sub(50);
+        let high = if random.below(12) == 0 { last + 100 } else { last.max(low + 1) - 1 };
+        let start = match random.below(6) {
+            0 => settlement,
+            1 => pick(random, &leg.days),
+            _ => whole(random, u64::from(low), u64::from(high.max(low))),
+        };
+        let end = if random.below(2) == 0 { start } else { start + random.below(900) as u32 };
+        let strike = match random.below(16) {
+            0 => scaled(random, -300.0, 6.0),
+            _ => random.between(80.0, 120.0),
+        };
+        calls.starts.push(start);
+        calls.ends.push(end);
+        calls.strikes.push(strike);
+    }
+    calls
+}
+
+pub fn sigma(random: &mut Random) -> Sigma {
+    let count = match random.below(3) {
+        0 => 1,
+        _ => 1 + random.below(5),
+    };
+    let flat = random.below(10) == 0;
+    let mut at = if random.below(2) == 0 { 0.0 } else { random.between(0.0, 2.0) };
+    let mut sigma = Sigma::default();
+    for _ in 0..count {
+        sigma.times.push(at);
+        at += random.between(0.01, 3.0);
+        sigma.sigmas.push(match random.below(12) {
+            _ if flat => random.between(0.0, 1e-9),
+            0 => 0.0,
+            1 => scaled(random, -8.0, 1.0),
+            _ => random.between(0.002, 0.03),
+        });
+    }
+    sigma
+}
+
+pub fn pillars(random: &mut Random, settlement: u32, last: u32) -> Pillars {
+    let mut days = vec![settlement];
+    let rate = random.between(-0.01, 0.08);
+    for _ in 0..random.below(8) {
+        days.push(settlement + 1 + random.below(u64::from(last.max(settlement + 2) - settlement)) as u32);
+    }
+    days.push(last.max(settlement + 1) + random.below(400) as u32);
+    days.sort_unstable();
+    days.dedup();
+    let factors = days
+        .iter()
+        .map(|&day| match random.below(40) {
+            0 => random.between(-1.0, 2.0),
+            1 => scaled(random, -300.0, 2.9),
+            _ => (-rate * f64::from(day - settlement) / 365.0).exp(),
+        })
+        .collect();
+    Pillars { days, factors }
+}
+
+pub fn spread(random: &mut Random) -> f64 {
+    match random.below(5) {
+        0 => 0.0,
+        1 => random.between(-1.0, 1.0),
+        _ => random.between(-0.02, 0.05),
+    }
+}
+
+pub fn terms(random: &mut Random) -> Terms {
+    let settlement = pick(random, &[0, 1, 365, 40000, 45000, 150_000]);
+    let leg = leg(random, settlement);
+    let calls = calls(random, settlement, &leg);
+    let last = *leg.days.last().unwrap();
+    let per_year = pick(random, &[1, 1, 2, 4, 12]);
+    let maximum = match random.below(20) {
+        0 => whole(random, 1, 120),
+        _ => whole(random, 1, 24),
+    };
+    Terms {
+        settlement,
+        units: match random.below(16) {
+            0 => scaled(random, -323.0, 12.0),
+            _ => pick(random, &[1.0, 100.0, 1000.0]),
+        },
+        calls,
+        settings: (per_year, maximum),
+        alpha: match random.below(8) {
+            0 => 0.0,
+            1 => random.between(-10.0, 10.0),
+            2 => random.between(-1e-12, 1e-12) * 2.0,
+            _ => random.between(-0.1, 0.3),
+        },
+        sigma: sigma(random),
+        spread: spread(random),
+        pillars: pillars(random, settlement, last),
+        leg,
+    }
+}
+
+pub fn room(random: &mut Random) -> Room {
+    let ample = Room { nodes: 60_000, probabilities: 90_000, first: 600, second: 600 };
+    if random.below(8) > 0 {
+        return ample;
+    }
+    let some = |random: &mut Random, most: u64| random.below(most + 1) as usize;
+    match random.below(4) {
+        0 => Room { nodes: some(random, 60), ..ample },
+        1 => Room { probabilities: some(random, 90), ..ample },
+        2 => Room { first: some(random, 12), ..ample },
+        _ => Room { second: some(random, 12), ..ample },
+    }
+}
+
+const BAD: [f64; 9] = [f64::NAN, f64::INFINITY, f64::NEG_INFINITY, -0.0, 0.0, -1.0, 1e300, 5e-324, 1.0000001e12];
+
+fn bad(random: &mut Random, limits: &[f64]) -> f64 {
+    if random.below(2) == 0 {
+        return pick(random, &BAD);
+    }
+    let x = pick(random, limits);
+    let x = random.sign(x);
+    random.beside(x)
+}
+
+fn bad_day(random: &mut Random, near: u32) -> u32 {
+    pick(random, &[0, near.saturating_sub(1), near, near + 1, 200_000, 200_001, u32::MAX])
+}
+
+fn spoil<T: Copy>(random: &mut Random, list: &mut Vec<T>, value: T) {
+    match random.below(10) {
+        0 => {
+            list.pop();
+        }
+        1 => list.push(value),
+        2 => list.clear(),
+        3 => list.resize(pick(random, &[63, 64, 65, 255, 256, 257]), value),
+        _ if !list.is_empty() => {
+            let i = random.below(list.len() as u64) as usize;
+            list[i] = value;
+        }
+        _ => {}
+    }
+}
+
+/// Changes one or two fields so that they may break a rule, at the limits and one past them.
+pub fn damage(random: &mut Random, terms: &mut Terms) {
+    for _ in 0..1 + random.below(2) {
+        let near = terms.settlement;
+        match random.below(18) {
+            0 => terms.settlement = bad_day(random, near),
+            1 => {
+                let v = bad_day(random, near);
+                spoil(random, &mut terms.leg.days, v);
+            }
+            2 => {
+                let v = pick(random, &[0, 1, 2, 255]);
+                spoil(random, &mut terms.leg.kinds, v);
+            }
+            3 => {
+                let v = bad(random, &[1e12]);
+                spoil(random, &mut terms.leg.amounts, v);
+            }
+            4 => terms.units = bad(random, &[1e12]),
+            5 => {
+                let v = bad_day(random, near);
+                spoil(random, &mut terms.calls.starts, v);
+            }
+            6 => {
+                let v = bad_day(random, near);
+                spoil(random, &mut terms.calls.ends, v);
+            }
+            7 => {
+                let v = bad(random, &[1e6]);
+                spoil(random, &mut terms.calls.strikes, v);
+            }
+            8 => terms.settings.0 = pick(random, &[0, 1, 366, 367, u32::MAX]),
+            9 => terms.settings.1 = pick(random, &[0, 1, 512, 513, u32::MAX]),
+            10 => terms.alpha = bad(random, &[10.0]),
+            11 => {
+                let v = bad(random, &[0.0, 600.0]);
+                spoil(random, &mut terms.sigma.times, v);
+            }
+            12 => {
+                let v = bad(random, &[0.0, 10.0]);
+                spoil(random, &mut terms.sigma.sigmas, v);
+            }
+            13 => terms.spread = bad(random, &[1.0]),
+            14 => {
+                let v = bad_day(random, near);
+                spoil(random, &mut terms.pillars.days, v);
+            }
+            15 => {
+                let v = bad(random, &[1000.0]);
+                spoil(random, &mut terms.pillars.factors, v);
+            }
+            16 if !terms.leg.days.is_empty() => {
+                // A whole list and its companions, at the limits of its count.
+                let n = pick(random, &[255, 256, 257]);
+                terms.leg.days.resize(n, *terms.leg.days.last().unwrap());
+                terms.leg.kinds.resize(n, 0);
+                terms.leg.amounts.resize(n, 1.0);
+            }
+            _ => {
+                let n = pick(random, &[63, 64, 65]);
+                terms.calls.starts.resize(n, near);
+                terms.calls.ends.resize(n, near);
+                terms.calls.strikes.resize(n, 100.0);
+            }
+        }
+    }
+}

@@ -1,0 +1,5 @@
+-- What the proofs of `sqrt` share: laws on plain numbers.
+mod Scaled
+mod Words
+mod Signs
+mod Places

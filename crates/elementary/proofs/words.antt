@@ -1,0 +1,3 @@
+-- What the proofs of the two-word functions use: laws on plain numbers.
+mod Shifts
+mod Digits
