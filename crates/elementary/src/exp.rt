@@ -11,16 +11,16 @@ ghost use Rattle.elementary.specs.Exponential.{powerOfTwo, expAt, expAlo
 ghost use Rattle.elementary.specs.laws.Exponential.{plainSeries, plainExp, steps};
 ghost use Rattle.elementary.specs.laws.Steps.{Step, Reducible};
 
-// 1/ln 2.
+// 1/ln 2: the bits 3FF71547652B82FE.
 const INVERSE_LN2: f64 = 1.4426950408889634;
 
-// ln 2 in two parts, hi and lo.
-pub const LN2_HIGH: f64 = 0.6931471803691238;
+// ln 2 in two parts, hi and lo: the bits 3FE62E42FEE00000 and 3DEA39EF35793C76.
+pub(crate) const LN2_HIGH: f64 = 0.6931471803691238;
 
-pub const LN2_LOW: f64 = 1.9082149292705877e-10;
+pub(crate) const LN2_LOW: f64 = 1.9082149292705877e-10;
 
 // p from 1, becoming 1 + (r × p)/n for n from 13 down to low + 1.
-pub fn series(r: f64, low: u32) -> f64
+pub(crate) fn series(r: f64, low: u32) -> f64
     ensures { λ p. ⌜ p ≡ plainSeries low (13 - low) r one ⌝ }
 {
     let mut p = 1.0;
