@@ -14,5 +14,10 @@ mod text;
 #[cfg(published)]
 pub use text::{grid, node_count, price, straight, tree, yield_of, yield_with};
 
+#[cfg(not(published))]
+mod absent;
+#[cfg(not(published))]
+pub use absent::{grid, node_count, price, straight, tree, yield_of, yield_with};
+
 /// Whether the published source was there when this was built.
 pub const AVAILABLE: bool = cfg!(published);

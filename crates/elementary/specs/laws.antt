@@ -1,4 +1,4 @@
--- The laws of floats that every crate above may cite, without opening a definition.
+-- The laws of the definitions that every crate above may cite, without opening a definition.
 pub mod Fractions
 pub mod Order
 pub mod Rounding
@@ -32,3 +32,5 @@ pub mod Normal
 pub mod Scales
 pub mod Logarithm
 pub mod Values
+pub mod Finite
+pub mod SameNumber

@@ -7,7 +7,7 @@ fn nearer(y: f64, half: f64) -> f64 {
 }
 
 // A number near √a × 2^53, where a, from 1 up to 4, has these bits.
-pub fn guess(bits: u64) -> u64
+pub(crate) fn guess(bits: u64) -> u64
     requires { ⌜ 0x3ff0_0000_0000_0000 ≤ bits ⌝ }
     requires { ⌜ bits < 0x4010_0000_0000_0000 ⌝ }
 {

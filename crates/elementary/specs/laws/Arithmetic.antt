@@ -9,7 +9,8 @@ use lib.Ieee.{Float, nan, inf, fin, Format, up, down, unlike, neg, add, sub, mul
 use lib.Ieee.Scale.{finite}
 use lib.Ieee.Positive.{den, den-pos}
 use Rattle.elementary.specs.laws.Fractions.{pl, mi, leq-of-le}
-use Rattle.elementary.specs.laws.Order.{number-of-finite, le-refl, le-trans, neg-anti, plusZero}
+use Rattle.elementary.specs.Answers.{plusZero}
+use Rattle.elementary.specs.laws.Order.{number-of-finite, le-refl, le-trans, neg-anti}
 use Rattle.elementary.specs.laws.Rounding.{rounds-mono}
 use Rattle.elementary.specs.laws.Exactly.{add-rounds, mul-rounds, div-rounds, mi-of-above, pl-of-below, pl-of-positive}
 

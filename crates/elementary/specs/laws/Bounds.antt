@@ -6,7 +6,8 @@
 use lib.Dec.{T}
 use lib.Ieee.{Float, Format, binary64, ofBits, mul, le}
 use lib.Ieee.Scale.{finite}
-use Rattle.elementary.specs.laws.Order.{plusZero, le-trans, between}
+use Rattle.elementary.specs.Answers.{plusZero}
+use Rattle.elementary.specs.laws.Order.{le-trans, between}
 use Rattle.elementary.specs.laws.Arithmetic.{mul-mono-left, mul-mono-right, mul-anti-right}
 
 -- ---- x is at most a, and y is between 0 and b

@@ -10,7 +10,7 @@ use lib.Ieee.{Float, nan, inf, fin, Format, up, down, round, sum, neg, add, sub,
 use lib.Ieee.Scale.{finite}
 use lib.Ieee.Positive.{den}
 use Rattle.elementary.specs.laws.Fractions.{pl, mi, on-finite, leq-of-le, less-of-lt}
-use Rattle.elementary.specs.laws.Order.{plusZero}
+use Rattle.elementary.specs.Answers.{plusZero}
 use Rattle.elementary.specs.laws.Rounding.{Rounds, above, under}
 
 rounds-up : (f : Format) (a p n c : ℕ) → p ≡ n + a → Rounds f (round f false a c) p n c

@@ -23,9 +23,13 @@ min-finite a b p q = min-keeps (λ (x : Float). T (finite x)) a b p q
 pub min-number : (a b : Float) → T (number a) → T (number b) → T (number (minOf a b))
 min-number a b p q = min-keeps (λ (x : Float). T (number x)) a b p q
 
-pub min-le-left : (a b : Float) → T (number a) → T (number b) → T (le (minOf a b) a)
+-- never above the first, whatever the second
+pub min-below : (a b : Float) → T (number a) → T (le (minOf a b) a)
 unfolding minOf
-min-le-left a b p q = chosen (λ (x : Float). T (le x a)) (lt b a) b a (le-of-lt b a) (λ _. le-refl a p)
+min-below a b p = chosen (λ (x : Float). T (le x a)) (lt b a) b a (le-of-lt b a) (λ _. le-refl a p)
+
+pub min-le-left : (a b : Float) → T (number a) → T (number b) → T (le (minOf a b) a)
+min-le-left a b p q = min-below a b p
 
 pub min-le-right : (a b : Float) → T (number a) → T (number b) → T (le (minOf a b) b)
 unfolding minOf

@@ -7,14 +7,10 @@ use native.Mathlib.Nat.{mul-comm, mul-assoc, mul-left-comm, add-mul, mul-le-mul-
 use native.Mathlib.Omega.{arith}
 use lib.IntN.{ℤ}
 use lib.Dec.{T, T-not}
-use lib.Ieee.{Float, nan, inf, fin, lt, eq, le, neg, ofBits, binary64}
+use lib.Ieee.{Float, nan, inf, fin, lt, eq, le, neg}
 use lib.Ieee.Scale.{finite}
 use lib.Ieee.Positive.{den, den-pos}
 use Rattle.elementary.specs.laws.Fractions.{pl, mi, Leq, decide, or-l, or-r, less-of-lt, leq-of-not-lt, eq-of-leq, leq-of-le, le-of-leq}
-
--- +0, as the code writes 0.0
-abbrev pub plusZero : Float
-plusZero = ofBits binary64 0
 
 -- finite, or an infinity
 abbrev pub number : Float → Bool

@@ -10,7 +10,8 @@ use lib.Ieee.{Float, nan, inf, fin, Format, up, down, unlike, round, add, sub, m
 use lib.Ieee.Scale.{finite}
 use lib.Ieee.Positive.{den-pos}
 use Rattle.elementary.specs.laws.Fractions.{on-finite, leq-of-le, eq-of-leq}
-use Rattle.elementary.specs.laws.Order.{number, plusZero, le-of-eq, not-le-of-lt}
+use Rattle.elementary.specs.Answers.{plusZero}
+use Rattle.elementary.specs.laws.Order.{number, le-of-eq, not-le-of-lt}
 use Rattle.elementary.specs.laws.Rounding.{Rounds, above, rounds-mono, round-zero, round-signed, number-of-rounds, number-of-signed}
 use Rattle.elementary.specs.laws.Exactly.{add-rounds, sub-rounds, mul-rounds, div-rounds, left, mi-of-above, pl-of-below, pl-of-positive}
 

@@ -1,0 +1,4 @@
+pub mod Rates
+pub mod Prices
+pub mod Brackets
+pub mod Yields

@@ -1,0 +1,65 @@
+// Price from yield, yield from price, and the bracketed root.
+use elementary::Refusal;
+
+// How often interest is compounded in a year.
+pub enum Frequency {
+    Annual,
+    Semiannual,
+    EveryFourthMonth,
+    Quarterly,
+    Bimonthly,
+    Monthly,
+    EveryFourthWeek,
+    Biweekly,
+    Weekly,
+    Daily,
+    OtherFrequency,
+}
+
+// A compounding, with its frequency where it is used.
+pub enum Compounding {
+    Simple,
+    Compounded(Frequency),
+    Continuous,
+    SimpleThenCompounded(Frequency),
+    CompoundedThenSimple(Frequency),
+}
+
+pub struct RateDefinition {
+    pub compounding: Compounding,
+}
+
+// A price and its derivative by the yield, or a refusal.
+pub enum YieldPrice {
+    Price(f64, f64),
+    Refused(Refusal),
+}
+
+// A bracket: its ends, the objective there, and the evaluations so far.
+pub struct Bracket {
+    pub lower: f64,
+    pub upper: f64,
+    pub at_lower: f64,
+    pub at_upper: f64,
+    pub evaluations: u32,
+}
+
+// What one widening hands back: the next bracket, the one at which widening ends, or a refusal.
+pub enum Widened {
+    Next(Bracket),
+    Last(Bracket),
+    Refused(Refusal, u32),
+}
+
+// What one halving hands back: the next bracket, the root, or a refusal.
+pub enum Halved {
+    Next(Bracket),
+    Found(f64, u32),
+    Refused(Refusal, u32),
+}
+
+// A root, or a refusal, with the evaluations made.
+pub enum Root {
+    Found(f64, u32),
+    Refused(Refusal, u32),
+}

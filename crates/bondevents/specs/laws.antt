@@ -1,0 +1,10 @@
+-- The laws of the event grid that every crate above may cite, without opening a definition.
+pub mod Pricing
+pub mod OneEntry
+pub mod KeptSteps
+pub mod LowestPrices
+pub mod NoLower
+pub mod MadeLists
+pub mod Reordering
+pub mod Grids
+pub mod GridAnswers

@@ -1,0 +1,48 @@
+-- Definitions only. Straight value: discounted_value with the spread. The place is 0.
+use Prim.Native.Nat.{ℕ}
+use mathlib.Core.Bool.{cond}
+use mathlib.Core.List.{List, [], _∷_}
+use lib.Dec.{ltb}
+use lib.Ieee.{Float, binary64, add, mul, div, neg, le}
+use Rattle.elementary.specs.declared.Answer.{Answer}
+use Rattle.elementary.specs.declared.Answer.the-variants.{Value, Refused}
+use Rattle.elementary.specs.Answers.{plusZero, andThen, refusal, tested, whenFinite}
+use Rattle.elementary.specs.Exponential.{expAt}
+use Rattle.terms.specs.Terms.{Leg, Pillars}
+use Rattle.terms.specs.Times.{yearFraction}
+use Rattle.terms.specs.Curve.{factorOf, curveOver}
+use Rattle.terms.specs.Checks.{onCheck}
+use Rattle.terms.specs.Entries.{straightChecks}
+
+-- amount × (the day's factor / settlement's) × exp(spread × −time), added to the value.
+unfoldable pub withFlow : ℕ → Pillars → Float → Float → ℕ → Float → Float → Answer
+unfolding curveOver yearFraction expAt add mul div neg
+withFlow settlement pillars spread reference day amount value =
+    andThen (factorOf settlement pillars day 0) λ factor.
+    whenFinite (div binary64 factor reference) 0 λ discount.
+    whenFinite (mul binary64 spread (neg (yearFraction settlement day))) 0 λ x.
+    andThen (expAt x 0) λ spreadDiscount.
+    whenFinite (mul binary64 amount discount) 0 λ y.
+    whenFinite (mul binary64 y spreadDiscount) 0 λ z. tested (add binary64 value z) 0
+
+-- The paid cashflows in list order.
+unfoldable pub flows : ℕ → Pillars → Float → Float → List ℕ → List Float → Float → Answer
+unfolding withFlow
+flows settlement pillars spread reference (day ∷ days) (amount ∷ amounts) value =
+    andThen (cond (ltb settlement day) (withFlow settlement pillars spread reference day amount value) (Value value)) λ value.
+    flows settlement pillars spread reference days amounts value
+flows settlement pillars spread reference (day ∷ days) [] value = Value value
+flows settlement pillars spread reference [] amounts value = Value value
+
+-- 25 is tried on settlement's factor only.
+unfoldable pub discountedValue : ℕ → Leg → Float → Pillars → Answer
+unfolding flows curveOver yearFraction le
+discountedValue settlement leg spread pillars =
+    andThen (factorOf settlement pillars settlement 0) λ reference.
+    cond (le reference plusZero) (refusal 25 0) (flows settlement pillars spread reference (leg .days) (leg .amounts) plusZero)
+
+-- The straight value entry.
+unfoldable pub straightValue : ℕ → Leg → Float → Pillars → Answer
+unfolding straightChecks discountedValue
+straightValue settlement leg spread pillars =
+    onCheck (straightChecks settlement leg spread pillars) Refused (discountedValue settlement leg spread pillars)

@@ -1,0 +1,1 @@
+// What a bond is worth without its calls.

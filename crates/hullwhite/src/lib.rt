@@ -1,0 +1,1 @@
+// The variance of the Hull-White state over each step.

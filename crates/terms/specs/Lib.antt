@@ -1,0 +1,9 @@
+pub mod Numbers
+pub mod Terms
+pub mod Outcomes
+pub mod Checks
+pub mod Entries
+pub mod Times
+pub mod Curve
+pub mod CallLists
+pub mod laws

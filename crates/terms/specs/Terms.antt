@@ -1,0 +1,50 @@
+-- Definitions only. What a call brings: the parallel lists of one kind, gathered.
+use Prim.Native.Nat.{ℕ}
+use mathlib.Core.List.{List}
+use lib.Ieee.{Float}
+
+-- Cashflows: day, kind (0 coupon, 1 redemption), amount.
+pub record Leg : Type 0 where
+  pub days : List ℕ
+  pub kinds : List ℕ
+  pub amounts : List Float
+
+-- Call entries: start day, end day, strike. Equal days make a discrete call, otherwise a window.
+pub record CallSchedule : Type 0 where
+  pub starts : List ℕ
+  pub ends : List ℕ
+  pub strikes : List Float
+
+-- Sigma entries: time and sigma.
+pub record SigmaSchedule : Type 0 where
+  pub times : List Float
+  pub sigmas : List Float
+
+-- Pillars: day and factor.
+pub record Pillars : Type 0 where
+  pub days : List ℕ
+  pub factors : List Float
+
+-- The bond: cashflows and units.
+pub record Bond : Type 0 where
+  pub leg : Leg
+  pub units : Float
+
+-- Steps per year and maximum steps.
+pub record TimeGrid : Type 0 where
+  pub perYear : ℕ
+  pub maximum : ℕ
+
+-- Alpha and sigma.
+pub record HullWhite : Type 0 where
+  pub alpha : Float
+  pub sigma : SigmaSchedule
+
+-- What the tree value takes, but for the call entries and the lent slices.
+pub record Market : Type 0 where
+  pub settlement : ℕ
+  pub bond : Bond
+  pub controls : TimeGrid
+  pub model : HullWhite
+  pub spread : Float
+  pub pillars : Pillars
