@@ -13,3 +13,4 @@ pub mod EntryChecks
 pub mod MadeLists
 pub mod TermChecks
 pub mod Numbered
+pub mod Stages

@@ -1,6 +1,24 @@
 // What a call brings: its limits, the input checks, day times and the discount curve.
 use elementary::Refusal;
 
+mod calls;
+mod cashflows;
+mod counts;
+pub mod curve;
+pub mod entries;
+mod fields;
+mod grid_stages;
+pub mod limits;
+pub mod lists;
+mod numbers;
+mod pillars;
+mod ranges;
+mod sigma;
+mod straight_stages;
+pub mod time;
+mod tree_stages;
+mod yield_stages;
+
 // What an input check finds.
 pub enum Check {
     Passed,

@@ -1,0 +1,19 @@
+-- `not_above` meets its contract: each test of the code is the definition's, in its order. Assumes nothing.
+use Rattle.terms.proofs.Laws.{tests}
+use Rattle.terms.proofs.ranges.not_above.Statement.{statement}
+use Rattle.terms.proofs.ranges.not_above.Tie as tie
+
+not-finite-requires : tie.Need-not-finite-requires
+not-finite-requires c κs = search tests
+
+returns : tie.Need-returns
+returns c = search tests
+
+returns-2 : tie.Need-returns-2
+returns-2 c = search tests
+
+returns-3 : tie.Need-returns-3
+returns-3 c = search tests
+
+pub not-above-spec : {M : Type 1} → statement M
+not-above-spec = tie.close (tie.spec not-finite-requires returns returns-2 returns-3)

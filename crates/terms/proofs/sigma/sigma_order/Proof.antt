@@ -1,0 +1,55 @@
+-- `sigma_order` meets its contract: in the loop, no time before the index stays. Assumes nothing.
+use Prim.Native.Nat.{_-_}
+use lib.ListN.{length, getD}
+use mathlib.Core.Bool.{not, _&&_}
+use lib.Dec.{ltb}
+use lib.Ieee.{lt}
+use Rattle.elementary.specs.Answers.{plusZero}
+use Rattle.terms.proofs.Seeking.{Seeking, seeking}
+use Rattle.terms.proofs.sigma.sigma_order.Statement.{statement}
+use Rattle.terms.proofs.sigma.sigma_order.Tie as tie
+
+abbrev Inv-loop : tie.InvT-loop
+Inv-loop times i₀ i = Seeking 6 (λ k. ltb 0 k && not (lt (getD times (k - 1) plusZero) (getD times k plusZero))) (length times) i
+
+abbrev μ-loop : tie.MeasureT-loop
+μ-loop times i₀ i = length times - i
+
+loop-holds : tie.Need-loop-holds Inv-loop μ-loop
+loop-holds c = search seeking
+
+time-stays-requires : tie.Need-time-stays-requires Inv-loop μ-loop
+time-stays-requires c κs = search seeking
+
+cast-t6 : tie.Need-cast-t6 Inv-loop μ-loop
+cast-t6 c = search seeking
+
+returns : tie.Need-returns Inv-loop μ-loop
+returns c = search seeking
+
+add-i : tie.Need-add-i Inv-loop μ-loop
+add-i c = search seeking
+
+loop-less : tie.Need-loop-less Inv-loop μ-loop
+loop-less c = search seeking
+
+loop-again : tie.Need-loop-again Inv-loop μ-loop
+loop-again c = search seeking
+
+returns-2 : tie.Need-returns-2 Inv-loop μ-loop
+returns-2 c = search seeking
+
+pub sigma-order-spec : {M : Type 1} → statement M
+sigma-order-spec =
+    tie.close
+    (tie.spec
+    Inv-loop
+    μ-loop
+    loop-holds
+    time-stays-requires
+    cast-t6
+    returns
+    add-i
+    loop-less
+    loop-again
+    returns-2)
