@@ -4,6 +4,7 @@ use crate::Check;
 use crate::limits::CallEntries;
 use crate::numbers::not_above_at;
 use crate::ranges::no_day;
+use crate::refusing::refused_at;
 use elementary::Refusal;
 ghost use mathlib.Core.Path.{_≡_};
 ghost use mathlib.Core.Bool.{_||_};
@@ -35,10 +36,7 @@ pub fn call_days(starts: &[u32], ends: &[u32]) -> Check
     let mut i = 0;
     while i < starts.len() {
         if call_day_wrong(starts, ends, i) {
-            return Check::Refused(Refusal {
-                number: Refusal::DAY,
-                place: i as u32,
-            });
+            return refused_at(Refusal::DAY, i);
         }
         i += 1;
     }
@@ -53,10 +51,7 @@ pub fn strike_range(strikes: &[f64]) -> Check
     let mut i = 0;
     while i < strikes.len() {
         if not_above_at(CallEntries::STRIKE, strikes, i) {
-            return Check::Refused(Refusal {
-                number: Refusal::NUMBER,
-                place: i as u32,
-            });
+            return refused_at(Refusal::NUMBER, i);
         }
         i += 1;
     }
@@ -81,10 +76,7 @@ pub fn call_order(starts: &[u32], ends: &[u32]) -> Check
     let mut i = 0;
     while i < starts.len() {
         if ends_early(starts, ends, i) {
-            return Check::Refused(Refusal {
-                number: Refusal::CALL_ORDER,
-                place: i as u32,
-            });
+            return refused_at(Refusal::CALL_ORDER, i);
         }
         i += 1;
     }

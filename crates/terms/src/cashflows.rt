@@ -1,10 +1,11 @@
 // The checks of the cashflows.
 
 use crate::Check;
-use crate::fields::single;
 use crate::limits::Cashflows;
 use crate::lists::last_day;
 use crate::ranges::no_day;
+use crate::refusing::refused_at;
+use crate::refusing::single;
 use elementary::Refusal;
 ghost use mathlib.Core.Path.{_≡_};
 ghost use mathlib.Core.Bool.{_||_};
@@ -42,10 +43,7 @@ pub fn leg_days(days: &[u32], kinds: &[u8]) -> Check
     let mut i = 0;
     while i < days.len() {
         if cashflow_wrong(days, kinds, i) {
-            return Check::Refused(Refusal {
-                number: Refusal::DAY,
-                place: i as u32,
-            });
+            return refused_at(Refusal::DAY, i);
         }
         i += 1;
     }

@@ -1,12 +1,12 @@
 // 2: a list's count outside its limits, or parallel slices of unequal length.
 
 use crate::Check;
-use crate::fields::single;
 use crate::limits::CallEntries;
 use crate::limits::Cashflows;
 use crate::limits::PillarEntries;
 use crate::limits::SigmaEntries;
 use crate::ranges::out_of;
+use crate::refusing::single;
 use elementary::Refusal;
 ghost use mathlib.Core.Path.{_≡_};
 ghost use mathlib.Core.Bool.{not, _||_};

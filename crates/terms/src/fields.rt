@@ -9,22 +9,13 @@ use crate::ranges::no_day;
 use crate::ranges::not_above;
 use crate::ranges::not_within;
 use crate::ranges::out_of;
+use crate::refusing::single;
 use elementary::Refusal;
 ghost use mathlib.Core.Path.{_≡_};
 ghost use mathlib.Core.Bool.{_||_};
 ghost use Rattle.terms.specs.Numbers.{float};
 ghost use Rattle.terms.specs.Terms.{TimeGrid};
 ghost use Rattle.terms.specs.Checks as checks;
-
-// Refused with this number at place 0 where the cause holds.
-pub fn single(number: u32, bad: bool) -> Check
-    ensures { λ r. ⌜ r ≡ checks.single number 0 bad ⌝ }
-{
-    if bad {
-        return Check::Refused(Refusal { number, place: 0 });
-    }
-    Check::Passed
-}
 
 // 1: steps per year or maximum steps outside their range.
 fn setting_wrong(yearly: u32, maximum: u32) -> bool

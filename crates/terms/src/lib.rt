@@ -13,6 +13,7 @@ pub mod lists;
 mod numbers;
 mod pillars;
 mod ranges;
+mod refusing;
 mod sigma;
 mod straight_stages;
 pub mod time;

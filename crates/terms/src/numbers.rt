@@ -5,6 +5,7 @@ use crate::lists::number_at;
 use crate::ranges::not_above;
 use crate::ranges::not_up_to;
 use crate::ranges::not_within;
+use crate::refusing::refused_at;
 use elementary::Refusal;
 ghost use mathlib.Core.Path.{_≡_};
 ghost use Prim.Native.Nat.{_-_, _<_, _≤_};
@@ -54,10 +55,7 @@ pub fn all_within(limit: f64, xs: &[f64]) -> Check
     let mut i = 0;
     while i < xs.len() {
         if not_within_at(limit, xs, i) {
-            return Check::Refused(Refusal {
-                number: Refusal::NUMBER,
-                place: i as u32,
-            });
+            return refused_at(Refusal::NUMBER, i);
         }
         i += 1;
     }

@@ -5,6 +5,7 @@ use crate::limits::PillarEntries;
 use crate::lists::last_day;
 use crate::numbers::all_within;
 use crate::ranges::no_day;
+use crate::refusing::refused_at;
 use elementary::Refusal;
 ghost use mathlib.Core.Path.{_≡_};
 ghost use mathlib.Core.Bool.{not, cond, _&&_, _||_};
@@ -23,10 +24,7 @@ pub fn pillar_days(days: &[u32]) -> Check
     let mut i = 0;
     while i < days.len() {
         if no_day(days[i]) {
-            return Check::Refused(Refusal {
-                number: Refusal::DAY,
-                place: i as u32,
-            });
+            return refused_at(Refusal::DAY, i);
         }
         i += 1;
     }
@@ -66,10 +64,7 @@ fn pillar_order(settlement: u32, maturity: u32, days: &[u32]) -> Check
     let mut i = 0;
     while i < days.len() {
         if pillar_wrong(settlement, maturity, days, i) {
-            return Check::Refused(Refusal {
-                number: Refusal::PILLAR_ORDER,
-                place: i as u32,
-            });
+            return refused_at(Refusal::PILLAR_ORDER, i);
         }
         i += 1;
     }

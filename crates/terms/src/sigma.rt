@@ -4,6 +4,7 @@ use crate::Check;
 use crate::limits::SigmaEntries;
 use crate::numbers::not_up_to_at;
 use crate::numbers::rises_at;
+use crate::refusing::refused_at;
 use elementary::Refusal;
 ghost use mathlib.Core.Path.{_≡_};
 ghost use mathlib.Core.Bool.{not, _&&_, _||_};
@@ -38,10 +39,7 @@ pub fn sigma_range(times: &[f64], sigmas: &[f64]) -> Check
     let mut i = 0;
     while i < times.len() {
         if sigma_wrong(times, sigmas, i) {
-            return Check::Refused(Refusal {
-                number: Refusal::NUMBER,
-                place: i as u32,
-            });
+            return refused_at(Refusal::NUMBER, i);
         }
         i += 1;
     }
@@ -70,10 +68,7 @@ pub fn sigma_order(times: &[f64]) -> Check
     let mut i = 0;
     while i < times.len() {
         if time_stays(times, i) {
-            return Check::Refused(Refusal {
-                number: Refusal::SIGMA_ORDER,
-                place: i as u32,
-            });
+            return refused_at(Refusal::SIGMA_ORDER, i);
         }
         i += 1;
     }

@@ -19,8 +19,8 @@ loop-holds c = search seeking
 call-day-wrong-requires : tie.Need-call-day-wrong-requires Inv-loop μ-loop
 call-day-wrong-requires c κs = search seeking
 
-cast-t7 : tie.Need-cast-t7 Inv-loop μ-loop
-cast-t7 c = search seeking
+refused-at-requires : tie.Need-refused-at-requires Inv-loop μ-loop
+refused-at-requires c κs = search seeking
 
 returns : tie.Need-returns Inv-loop μ-loop
 returns c = search seeking
@@ -45,7 +45,7 @@ call-days-spec =
     μ-loop
     loop-holds
     call-day-wrong-requires
-    cast-t7
+    refused-at-requires
     returns
     add-i
     loop-less

@@ -18,8 +18,8 @@ loop-holds c = search seeking
 ends-early-requires : tie.Need-ends-early-requires Inv-loop μ-loop
 ends-early-requires c κs = search seeking
 
-cast-t7 : tie.Need-cast-t7 Inv-loop μ-loop
-cast-t7 c = search seeking
+refused-at-requires : tie.Need-refused-at-requires Inv-loop μ-loop
+refused-at-requires c κs = search seeking
 
 returns : tie.Need-returns Inv-loop μ-loop
 returns c = search seeking
@@ -44,7 +44,7 @@ call-order-spec =
     μ-loop
     loop-holds
     ends-early-requires
-    cast-t7
+    refused-at-requires
     returns
     add-i
     loop-less

@@ -20,8 +20,8 @@ loop-holds c = search seeking
 not-above-at-requires : tie.Need-not-above-at-requires Inv-loop μ-loop
 not-above-at-requires c κs = search seeking
 
-cast-t6 : tie.Need-cast-t6 Inv-loop μ-loop
-cast-t6 c = search seeking
+refused-at-requires : tie.Need-refused-at-requires Inv-loop μ-loop
+refused-at-requires c κs = search seeking
 
 returns : tie.Need-returns Inv-loop μ-loop
 returns c = search seeking
@@ -46,7 +46,7 @@ strike-range-spec =
     μ-loop
     loop-holds
     not-above-at-requires
-    cast-t6
+    refused-at-requires
     returns
     add-i
     loop-less

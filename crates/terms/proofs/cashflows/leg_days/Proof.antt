@@ -20,8 +20,8 @@ loop-holds c = search seeking
 cashflow-wrong-requires : tie.Need-cashflow-wrong-requires Inv-loop μ-loop
 cashflow-wrong-requires c κs = search seeking
 
-cast-t7 : tie.Need-cast-t7 Inv-loop μ-loop
-cast-t7 c = search seeking
+refused-at-requires : tie.Need-refused-at-requires Inv-loop μ-loop
+refused-at-requires c κs = search seeking
 
 returns : tie.Need-returns Inv-loop μ-loop
 returns c = search seeking
@@ -46,7 +46,7 @@ leg-days-spec =
     μ-loop
     loop-holds
     cashflow-wrong-requires
-    cast-t7
+    refused-at-requires
     returns
     add-i
     loop-less

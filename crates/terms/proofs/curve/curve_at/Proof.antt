@@ -1,7 +1,9 @@
 -- `curve_at` meets its contract: in the loop, the time is not before pillar i, and what is left of the curve from there on is the whole. Assumes nothing.
 use Prim.Native.Nat.{_-_}
+use native.Mathlib.Omega.{arith}
+use mathlib.Core.Path.{refl}
 use lib.ListN.{length}
-use Rattle.terms.proofs.Curving.{Curving, turn, curving}
+use Rattle.terms.proofs.Curving.{Curving, turn, found, days-end, curving}
 use Rattle.terms.proofs.curve.curve_at.Statement.{statement}
 use Rattle.terms.proofs.curve.curve_at.Tie as tie
 
@@ -39,7 +41,7 @@ on-piece-requires : tie.Need-on-piece-requires Inv-loop μ-loop
 on-piece-requires c κs = search curving
 
 returns-4 : tie.Need-returns-4 Inv-loop μ-loop
-returns-4 c = search curving
+returns-4 c = found _ _ _ _ _ _ (c .before .before .before .before .before .loop .inv) (omega arith) (omega arith) (c .before .before .before-next .ensures) (c .before .if4 .taken) (c .on-piece .ensures)
 
 add-i : tie.Need-add-i Inv-loop μ-loop
 add-i c = search curving
@@ -48,13 +50,13 @@ loop-less : tie.Need-loop-less Inv-loop μ-loop
 loop-less c = search curving
 
 loop-again : tie.Need-loop-again Inv-loop μ-loop
-loop-again c = turn _ _ _ _ _ _ (c .before .before .before .before .loop .inv) (c .before .before .before .loop-test .taken) (c .before .before .if3 .left) (c .before .before-next .ensures) (c .if4 .left)
+loop-again c = turn _ _ _ _ _ _ (c .before .before .before .before .loop .inv) (omega arith) (omega arith) (c .before .before-next .ensures) (c .if4 .left)
 
 number-at-requires-2 : tie.Need-number-at-requires-2 Inv-loop μ-loop
 number-at-requires-2 c κs = search curving
 
 returns-5 : tie.Need-returns-5 Inv-loop μ-loop
-returns-5 c = search curving
+returns-5 c = days-end _ _ _ _ _ _ (c .before .before .loop .inv) (omega arith) (c .number-at2 .ensures) refl
 
 pub curve-at-spec : {M : Type 1} → statement M
 curve-at-spec =

@@ -24,8 +24,8 @@ shared-slice-read-no-day c = search seeking
 no-day-requires : tie.Need-no-day-requires Inv-loop μ-loop
 no-day-requires c κs = search seeking
 
-cast-t8 : tie.Need-cast-t8 Inv-loop μ-loop
-cast-t8 c = search seeking
+refused-at-requires : tie.Need-refused-at-requires Inv-loop μ-loop
+refused-at-requires c κs = search seeking
 
 returns : tie.Need-returns Inv-loop μ-loop
 returns c = search seeking
@@ -52,7 +52,7 @@ pillar-days-spec =
     mul-no-day
     shared-slice-read-no-day
     no-day-requires
-    cast-t8
+    refused-at-requires
     returns
     add-i
     loop-less

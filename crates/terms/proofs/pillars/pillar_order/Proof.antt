@@ -19,8 +19,8 @@ loop-holds c = search seeking
 pillar-wrong-requires : tie.Need-pillar-wrong-requires Inv-loop μ-loop
 pillar-wrong-requires c κs = search seeking
 
-cast-t8 : tie.Need-cast-t8 Inv-loop μ-loop
-cast-t8 c = search seeking
+refused-at-requires : tie.Need-refused-at-requires Inv-loop μ-loop
+refused-at-requires c κs = search seeking
 
 returns : tie.Need-returns Inv-loop μ-loop
 returns c = search seeking
@@ -45,7 +45,7 @@ pillar-order-spec =
     μ-loop
     loop-holds
     pillar-wrong-requires
-    cast-t8
+    refused-at-requires
     returns
     add-i
     loop-less

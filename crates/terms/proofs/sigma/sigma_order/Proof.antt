@@ -21,8 +21,8 @@ loop-holds c = search seeking
 time-stays-requires : tie.Need-time-stays-requires Inv-loop μ-loop
 time-stays-requires c κs = search seeking
 
-cast-t6 : tie.Need-cast-t6 Inv-loop μ-loop
-cast-t6 c = search seeking
+refused-at-requires : tie.Need-refused-at-requires Inv-loop μ-loop
+refused-at-requires c κs = search seeking
 
 returns : tie.Need-returns Inv-loop μ-loop
 returns c = search seeking
@@ -47,7 +47,7 @@ sigma-order-spec =
     μ-loop
     loop-holds
     time-stays-requires
-    cast-t6
+    refused-at-requires
     returns
     add-i
     loop-less

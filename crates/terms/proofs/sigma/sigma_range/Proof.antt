@@ -21,8 +21,8 @@ loop-holds c = search seeking
 sigma-wrong-requires : tie.Need-sigma-wrong-requires Inv-loop μ-loop
 sigma-wrong-requires c κs = search seeking
 
-cast-t7 : tie.Need-cast-t7 Inv-loop μ-loop
-cast-t7 c = search seeking
+refused-at-requires : tie.Need-refused-at-requires Inv-loop μ-loop
+refused-at-requires c κs = search seeking
 
 returns : tie.Need-returns Inv-loop μ-loop
 returns c = search seeking
@@ -47,7 +47,7 @@ sigma-range-spec =
     μ-loop
     loop-holds
     sigma-wrong-requires
-    cast-t7
+    refused-at-requires
     returns
     add-i
     loop-less

@@ -1,0 +1,10 @@
+pub mod Clamps
+pub mod Counting
+pub mod Discrete
+pub mod Entering
+pub mod Filling
+pub mod Grids
+pub mod Outcomes
+pub mod Paying
+pub mod Scanning
+pub mod Single

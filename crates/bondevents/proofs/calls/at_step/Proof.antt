@@ -1,0 +1,65 @@
+-- `bondevents::calls::at_step` meets its contract: a refusal is handed up, a price is kept at its step (`Outcomes`). Assumes nothing.
+use Prim.Native.Nat.{_<_}
+use native.Mathlib.Omega.{arith}
+use lib.ListN.{length}
+use borrow.Author.Needs.{needs}
+use Rattle.bondevents.proofs.Outcomes.{handed-up, went-on, kept-at}
+use Rattle.elementary.proofs.Laws.{answers}
+use Rattle.bondevents.proofs.calls.at_step.Statement.{statement}
+use Rattle.bondevents.proofs.calls.at_step.Tie as tie
+
+call-price-requires : tie.Need-call-price-requires
+call-price-requires c κs = search answers
+
+enum-known-answer : tie.Need-enum-known-answer
+enum-known-answer c = search answers
+
+enum-told : tie.Need-enum-told
+enum-told c = search answers
+
+refusal-of-requires : tie.Need-refusal-of-requires
+refusal-of-requires c κs = search answers
+
+no-calls-requires : tie.Need-no-calls-requires
+no-calls-requires c κs = search answers
+
+returns : tie.Need-returns
+returns c = search (handed-up, needs)
+
+mul-call : tie.Need-mul-call
+mul-call c = search answers
+
+array-copy-out-call : tie.Need-array-copy-out-call
+array-copy-out-call c = search answers
+
+keep-lowest-requires : tie.Need-keep-lowest-requires
+keep-lowest-requires c κs = search answers
+
+mul-kept : tie.Need-mul-kept
+mul-kept c = search answers
+
+array-set-from-kept : tie.Need-array-set-from-kept
+array-set-from-kept c = search answers
+
+returns-2 : tie.Need-returns-2
+returns-2 c =
+    let start = c .before .before .before .before .before .before in
+    let inside : start .args .step < length (start .args .calls) = omega arith in
+    search (went-on, kept-at, inside, needs)
+
+pub at-step-spec : {M : Type 1} → statement M
+at-step-spec =
+    tie.close
+    (tie.spec
+    call-price-requires
+    enum-known-answer
+    enum-told
+    refusal-of-requires
+    no-calls-requires
+    returns
+    mul-call
+    array-copy-out-call
+    keep-lowest-requires
+    mul-kept
+    array-set-from-kept
+    returns-2)

@@ -1,0 +1,19 @@
+-- `bondevents::calls::refusal_of` meets its contract: by the two cases of an answer. Assumes nothing.
+use Rattle.elementary.proofs.Laws.{answers}
+use Rattle.bondevents.proofs.calls.refusal_of.Statement.{statement}
+use Rattle.bondevents.proofs.calls.refusal_of.Tie as tie
+
+enum-told : tie.Need-enum-told
+enum-told c = search answers
+
+enum-known-answer : tie.Need-enum-known-answer
+enum-known-answer c = search answers
+
+returns : tie.Need-returns
+returns c = search answers
+
+returns-2 : tie.Need-returns-2
+returns-2 c = search answers
+
+pub refusal-of-spec : {M : Type 1} → statement M
+refusal-of-spec = tie.close (tie.spec enum-told enum-known-answer returns returns-2)

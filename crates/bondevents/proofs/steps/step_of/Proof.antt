@@ -1,0 +1,23 @@
+-- `bondevents::steps::step_of` meets its contract: the definition's quotient and product, through `near_to`. Assumes nothing.
+use lib.Ieee.{mul, div}
+use Rattle.elementary.proofs.Laws.{answers}
+use Rattle.bondevents.specs.Steps.{rawStep}
+use Rattle.bondevents.proofs.steps.step_of.Statement.{statement}
+use Rattle.bondevents.proofs.steps.step_of.Tie as tie
+
+year-fraction-requires : tie.Need-year-fraction-requires
+year-fraction-requires c κs = search answers
+
+int-to-float-near-to : tie.Need-int-to-float-near-to
+int-to-float-near-to c = search answers
+
+near-to-requires : tie.Need-near-to-requires
+near-to-requires c κs = search answers
+
+returns : tie.Need-returns
+unfolding rawStep mul div
+returns c = cc
+
+pub step-of-spec : {M : Type 1} → statement M
+step-of-spec =
+    tie.close (tie.spec year-fraction-requires int-to-float-near-to near-to-requires returns)

@@ -1,0 +1,211 @@
+// The call price of each step: the lowest that an entry gives there.
+
+use crate::CallStep;
+use crate::CallsAnswer;
+use crate::principal::call_principal;
+use crate::steps::call_step_of;
+use elementary::Answer;
+use elementary::Refusal;
+use elementary::finite::not_finite;
+use terms::Check;
+use terms::time::year_fraction;
+ghost use mathlib.Core.Path.{_≡_};
+ghost use mathlib.Core.List.{List};
+ghost use Prim.Native.Nat.{ℕ, _≤_, _<_};
+ghost use lib.ListN.{length, getD, set, replicate};
+ghost use lib.Ieee.{nan};
+ghost use Rattle.terms.specs.Outcomes.{given, valued};
+ghost use Rattle.bondevents.specs.Calls.{newStep, keepLowest, overSteps, withEntry};
+ghost use Rattle.bondevents.specs.Parts.{axisAt, bondOf, entryOf, priced, inWindow, overPrices, Principals, noCalls, refusalOf, callsAnswer};
+
+// Strike × principal/units, refused where there is no principal.
+fn call_price(strike: f64, principal: f64, units: f64) -> Answer
+    ensures { λ r. ⌜ r ≡ priced strike principal units ⌝ }
+{
+    if principal <= 0.0 {
+        return Answer::Refused(Refusal {
+            number: CallStep::NO_PRINCIPAL,
+            place: 0,
+        });
+    }
+    let paid = strike * principal;
+    if not_finite(paid) {
+        return Answer::Refused(Refusal {
+            number: Refusal::NOT_FINITE,
+            place: 0,
+        });
+    }
+    let price = paid / units;
+    if not_finite(price) {
+        return Answer::Refused(Refusal {
+            number: Refusal::NOT_FINITE,
+            place: 0,
+        });
+    }
+    Answer::Value(price)
+}
+
+// Whether the step's time lies within the two times, with the tolerance.
+fn in_window(maturity: f64, steps: usize, from: f64, to: f64, step: usize) -> bool
+    requires { ⌜ (steps ≤ 512) × (step ≤ 512) ⌝ }
+    ensures { λ r. ⌜ r ≡ inWindow (axisAt 0 maturity steps) from to step ⌝ }
+{
+    let time = maturity * step as f64 / steps as f64;
+    if time + 1.0e-12 >= from {
+        return time <= to + 1.0e-12;
+    }
+    false
+}
+
+// What an answer refuses.
+fn refusal_of(answer: Answer) -> Check
+    ensures { λ r. ⌜ r ≡ refusalOf answer ⌝ }
+{
+    match answer {
+        Answer::Value(_) => Check::Passed,
+        Answer::Refused(refusal) => Check::Refused(refusal),
+    }
+}
+
+// No call price at any step, beside a refusal.
+pub fn no_calls(check: Check) -> CallsAnswer
+    ensures { λ r. ⌜ r ≡ record { check = check; calls = noCalls } ⌝ }
+{
+    let none = CallStep::new();
+    let calls = [none; 513];
+    CallsAnswer { check, calls }
+}
+
+// A window over its steps; `principals` has the principal at each step.
+fn over_window(
+    maturity: f64,
+    steps: usize,
+    from: f64,
+    to: f64,
+    strike: f64,
+    units: f64,
+    principals: &[f64; 513],
+    calls: [CallStep; 513],
+) -> CallsAnswer
+    requires { ⌜ steps ≤ 512 ⌝ }
+    ensures { λ r. ⌜ r ≡ callsAnswer (overPrices (inWindow (axisAt 0 maturity steps) from to) (λ step. priced strike (getD (now (principals .entry)) step nan) units) steps 0 calls) ⌝ }
+{
+    let mut kept = calls;
+    let mut i = 0;
+    while i < steps {
+        let step = i;
+        i += 1;
+        if in_window(maturity, steps, from, to, step) {
+            let answer = call_price(strike, principals[step], units);
+            let Answer::Value(price) = answer else {
+                return no_calls(refusal_of(answer));
+            };
+            let call = kept[step];
+            kept[step] = call.keep_lowest(price);
+        }
+    }
+    CallsAnswer {
+        check: Check::Passed,
+        calls: kept,
+    }
+}
+
+// A discrete call at its step.
+fn at_step(
+    step: usize,
+    strike: f64,
+    principal: f64,
+    units: f64,
+    calls: [CallStep; 513],
+) -> CallsAnswer
+    requires { ⌜ step ≤ 512 ⌝ }
+    ensures { λ r. ⌜ r ≡ callsAnswer (valued (priced strike principal units) λ x. given (set calls step (keepLowest (getD calls step newStep) x))) ⌝ }
+{
+    let answer = call_price(strike, principal, units);
+    let Answer::Value(price) = answer else {
+        return no_calls(refusal_of(answer));
+    };
+    let mut kept = calls;
+    let call = kept[step];
+    kept[step] = call.keep_lowest(price);
+    CallsAnswer {
+        check: Check::Passed,
+        calls: kept,
+    }
+}
+
+// A discrete call: on settlement step 0, otherwise the day's step, where that is tried.
+fn with_call(
+    settlement: u32,
+    maturity: f64,
+    steps: usize,
+    days: &[u32],
+    kinds: &[u8],
+    amounts: &[f64],
+    units: f64,
+    date: u32,
+    strike: f64,
+    calls: [CallStep; 513],
+) -> CallsAnswer
+    requires { ⌜ (1 ≤ steps) × (steps ≤ 512) ⌝ }
+    requires { ⌜ (length (now kinds) ≡ length (now days)) × (length (now amounts) ≡ length (now days)) ⌝ }
+    ensures { λ r. ⌜ r ≡ callsAnswer (overSteps (axisAt settlement maturity steps) (bondOf (now (days .entry)) (now (kinds .entry)) (now (amounts .entry)) units) (entryOf date date strike) steps 0 calls) ⌝ }
+{
+    let principal = call_principal(days, kinds, amounts, date);
+    if date == settlement {
+        return at_step(0, strike, principal, units, calls);
+    }
+    let step = call_step_of(settlement, maturity, steps, date);
+    if step < steps {
+        return at_step(step, strike, principal, units, calls);
+    }
+    CallsAnswer {
+        check: Check::Passed,
+        calls,
+    }
+}
+
+// One entry. Those ending before settlement are skipped; a window finds its principals in the table.
+pub fn with_entry(
+    settlement: u32,
+    maturity: f64,
+    steps: usize,
+    days: &[u32],
+    kinds: &[u8],
+    amounts: &[f64],
+    units: f64,
+    start: u32,
+    end: u32,
+    strike: f64,
+    principals: &[f64; 513],
+    calls: [CallStep; 513],
+) -> CallsAnswer
+    requires { ⌜ (1 ≤ steps) × (steps ≤ 512) ⌝ }
+    requires { ⌜ (length (now kinds) ≡ length (now days)) × (length (now amounts) ≡ length (now days)) ⌝ }
+    requires { ⌜ ((start ≡ end → ⊥) → Principals (axisAt settlement maturity steps) (bondOf (now days) (now kinds) (now amounts) units .leg) steps (now principals)) ⌝ }
+    ensures { λ r. ⌜ r ≡ callsAnswer (withEntry (axisAt settlement maturity steps) (bondOf (now (days .entry)) (now (kinds .entry)) (now (amounts .entry)) units) (entryOf start end strike) calls) ⌝ }
+{
+    if end < settlement {
+        return CallsAnswer {
+            check: Check::Passed,
+            calls,
+        };
+    }
+    if start == end {
+        return with_call(
+            settlement,
+            maturity,
+            steps,
+            days,
+            kinds,
+            amounts,
+            units,
+            start,
+            strike,
+            calls,
+        );
+    }
+    let from = year_fraction(settlement, start);
+    let to = year_fraction(settlement, end);
+    over_window(maturity, steps, from, to, strike, units, principals, calls)
+}
