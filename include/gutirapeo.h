@@ -9,6 +9,7 @@
 #ifndef GUTIRAPEO_H
 #define GUTIRAPEO_H
 
+#include <stddef.h>
 #include <stdint.h>
 
 #ifdef __cplusplus
@@ -53,6 +54,64 @@ uint32_t gutirapeo_mul_add(double a, double b, double c, uint32_t *place, double
 
 /* (a + b)/2. */
 uint32_t gutirapeo_midpoint(double a, double b, uint32_t *place, double *value);
+
+/* The bond's entries.
+ *
+ * A list comes as parallel arrays, each with its length. Days are whole, 0 to 200,000; a cashflow's kind is
+ * 0 for a coupon and 1 for a redemption. Refusals found in the input:
+ *   1   a grid setting outside its range
+ *   2   a list's count outside its limits, or parallel arrays of unequal length
+ *   3   a day out of range, cashflow days falling, a kind that isn't 0 or 1
+ *   4   a number that isn't finite or lies outside its range
+ *   5   a call that ends before it starts
+ *   7   no cashflow after settlement
+ *   8   pillar days that don't rise, the first not settlement, the last before maturity
+ *   9   an unknown compounding code, or a frequency that can't be used
+ * The place is the index of the entry, 0 for single fields, counts and 7. */
+
+/* The event grid: maturity time, steps, and 513 cashflows, marks (1 where a step has a call price) and prices.
+ * 20: no principal at a step that can be called. 27: a call price that overflows. */
+uint32_t gutirapeo_grid(uint32_t settlement,
+                        const uint32_t *cashflow_days, size_t cashflow_days_length,
+                        const uint8_t *cashflow_kinds, size_t cashflow_kinds_length,
+                        const double *cashflow_amounts, size_t cashflow_amounts_length,
+                        double units,
+                        const uint32_t *call_starts, size_t call_starts_length,
+                        const uint32_t *call_ends, size_t call_ends_length,
+                        const double *call_strikes, size_t call_strikes_length,
+                        uint32_t steps_per_year, uint32_t max_steps,
+                        uint32_t *place, double *maturity_time, uint32_t *steps,
+                        double cashflows[513], uint8_t marks[513], double prices[513]);
+
+/* What the bond is worth without its calls.
+ * 25: settlement's factor at or below 0. 26: exp outside its range. 27: a result that isn't finite. */
+uint32_t gutirapeo_straight_value(uint32_t settlement,
+                                  const uint32_t *cashflow_days, size_t cashflow_days_length,
+                                  const uint8_t *cashflow_kinds, size_t cashflow_kinds_length,
+                                  const double *cashflow_amounts, size_t cashflow_amounts_length,
+                                  double spread,
+                                  const uint32_t *pillar_days, size_t pillar_days_length,
+                                  const double *pillar_factors, size_t pillar_factors_length,
+                                  uint32_t *place, double *value);
+
+/* The price that a yield means, and its derivative. Compounding 0 to 4: Simple, Compounded, Continuous,
+ * SimpleThenCompounded, CompoundedThenSimple; frequency 1, 2, 3, 4, 6, 12, 13, 26, 52, 365 or 999.
+ * 26, 27 as above. 28: a yield base or simple factor at or below 0. */
+uint32_t gutirapeo_price_from_yield(uint32_t settlement,
+                                    const uint32_t *cashflow_days, size_t cashflow_days_length,
+                                    const uint8_t *cashflow_kinds, size_t cashflow_kinds_length,
+                                    const double *cashflow_amounts, size_t cashflow_amounts_length,
+                                    uint32_t compounding, uint32_t frequency, double yield,
+                                    uint32_t *place, double *price, double *derivative);
+
+/* The yield that a price means, and how often the price was worked out (at most 386; 0 where the input is refused).
+ * 26, 27, 28 as above. 29: no bracket. 30: not converged. */
+uint32_t gutirapeo_yield_from_price(uint32_t settlement,
+                                    const uint32_t *cashflow_days, size_t cashflow_days_length,
+                                    const uint8_t *cashflow_kinds, size_t cashflow_kinds_length,
+                                    const double *cashflow_amounts, size_t cashflow_amounts_length,
+                                    uint32_t compounding, uint32_t frequency, double target,
+                                    uint32_t *place, double *value, uint32_t *evaluations);
 
 #ifdef __cplusplus
 }

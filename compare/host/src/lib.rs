@@ -1,5 +1,7 @@
 //! The C interface, declared as in include/gutirapeo.h, behind safe functions.
-use reading::{Answer, Refusal};
+use reading::bondevents::Grid;
+use reading::terms::{Calls, Leg, Pillars};
+use reading::{Answer, Outcome, Refusal};
 
 
 mod c {
@@ -15,6 +17,76 @@ mod c {
         pub fn gutirapeo_powf(b: f64, y: f64, place: &mut u32, value: &mut f64) -> u32;
         pub fn gutirapeo_mul_add(a: f64, b: f64, c: f64, place: &mut u32, value: &mut f64) -> u32;
         pub fn gutirapeo_midpoint(a: f64, b: f64, place: &mut u32, value: &mut f64) -> u32;
+        pub fn gutirapeo_grid(
+            settlement: u32,
+            cashflow_days: *const u32,
+            cashflow_days_len: usize,
+            cashflow_kinds: *const u8,
+            cashflow_kinds_len: usize,
+            cashflow_amounts: *const f64,
+            cashflow_amounts_len: usize,
+            units: f64,
+            call_starts: *const u32,
+            call_starts_len: usize,
+            call_ends: *const u32,
+            call_ends_len: usize,
+            call_strikes: *const f64,
+            call_strikes_len: usize,
+            steps_per_year: u32,
+            max_steps: u32,
+            place: &mut u32,
+            maturity_time: &mut f64,
+            steps: &mut u32,
+            cashflows: &mut [f64; 513],
+            marks: &mut [u8; 513],
+            prices: &mut [f64; 513],
+        ) -> u32;
+        pub fn gutirapeo_straight_value(
+            settlement: u32,
+            cashflow_days: *const u32,
+            cashflow_days_len: usize,
+            cashflow_kinds: *const u8,
+            cashflow_kinds_len: usize,
+            cashflow_amounts: *const f64,
+            cashflow_amounts_len: usize,
+            spread: f64,
+            pillar_days: *const u32,
+            pillar_days_len: usize,
+            pillar_factors: *const f64,
+            pillar_factors_len: usize,
+            place: &mut u32,
+            value: &mut f64,
+        ) -> u32;
+        pub fn gutirapeo_price_from_yield(
+            settlement: u32,
+            cashflow_days: *const u32,
+            cashflow_days_len: usize,
+            cashflow_kinds: *const u8,
+            cashflow_kinds_len: usize,
+            cashflow_amounts: *const f64,
+            cashflow_amounts_len: usize,
+            compounding: u32,
+            frequency: u32,
+            given_yield: f64,
+            place: &mut u32,
+            price: &mut f64,
+            derivative: &mut f64,
+        ) -> u32;
+        pub fn gutirapeo_yield_from_price(
+            settlement: u32,
+            cashflow_days: *const u32,
+            cashflow_days_len: usize,
+            cashflow_kinds: *const u8,
+            cashflow_kinds_len: usize,
+            cashflow_amounts: *const f64,
+            cashflow_amounts_len: usize,
+            compounding: u32,
+            frequency: u32,
+            target: f64,
+            place: &mut u32,
+            value: &mut f64,
+            evaluations: &mut u32,
+        ) -> u32;
     }
 }
 
@@ -53,4 +125,126 @@ wrapped! {
     powf = gutirapeo_powf(b, y);
     mul_add = gutirapeo_mul_add(a, b, c);
     midpoint = gutirapeo_midpoint(a, b);
+}
+
+/// A slot filled with a pattern, so that a call that doesn't write it shows.
+const PATTERN: f64 = f64::from_bits(0x7ff8_dead_beef_0001);
+
+/// The grid entry.
+pub fn grid(settlement: u32, leg: &Leg, units: f64, calls: &Calls, settings: (u32, u32)) -> Outcome<Grid> {
+    let (mut place, mut maturity_time, mut steps) = (0xdead_beef, PATTERN, 0xdead_beef);
+    let (mut cashflows, mut marks, mut prices) = ([PATTERN; 513], [9u8; 513], [PATTERN; 513]);
+    let number = unsafe {
+        c::gutirapeo_grid(
+            settlement,
+            leg.days.as_ptr(),
+            leg.days.len(),
+            leg.kinds.as_ptr(),
+            leg.kinds.len(),
+            leg.amounts.as_ptr(),
+            leg.amounts.len(),
+            units,
+            calls.starts.as_ptr(),
+            calls.starts.len(),
+            calls.ends.as_ptr(),
+            calls.ends.len(),
+            calls.strikes.as_ptr(),
+            calls.strikes.len(),
+            settings.0,
+            settings.1,
+            &mut place,
+            &mut maturity_time,
+            &mut steps,
+            &mut cashflows,
+            &mut marks,
+            &mut prices,
+        )
+    };
+    if number != 0 {
+        assert!(maturity_time.to_bits() == 0 && steps == 0, "a refused grid is not zero");
+        assert!(cashflows.iter().chain(&prices).all(|x| x.to_bits() == 0) && marks.iter().all(|&m| m == 0), "a refused grid is not zero");
+        return Err(Refusal { number, place });
+    }
+    assert_eq!(place, 0, "an accepted call wrote a place");
+    let calls = marks.iter().zip(&prices).map(|(&mark, &price)| match mark {
+        0 => {
+            assert_eq!(price.to_bits(), 0, "an unmarked step has a price");
+            None
+        }
+        _ => Some(price),
+    });
+    Ok(Grid { maturity_time, steps, cashflows: cashflows.to_vec(), calls: calls.collect() })
+}
+
+/// The straight value entry.
+pub fn straight_value(settlement: u32, leg: &Leg, spread: f64, pillars: &Pillars) -> Answer {
+    let (mut place, mut value) = (0xdead_beef, PATTERN);
+    let number = unsafe {
+        c::gutirapeo_straight_value(
+            settlement,
+            leg.days.as_ptr(),
+            leg.days.len(),
+            leg.kinds.as_ptr(),
+            leg.kinds.len(),
+            leg.amounts.as_ptr(),
+            leg.amounts.len(),
+            spread,
+            pillars.days.as_ptr(),
+            pillars.days.len(),
+            pillars.factors.as_ptr(),
+            pillars.factors.len(),
+            &mut place,
+            &mut value,
+        )
+    };
+    answer(number, place, value)
+}
+
+/// The price from yield entry: price and derivative.
+pub fn price_from_yield(settlement: u32, leg: &Leg, compounding: u32, frequency: u32, y: f64) -> Outcome<(f64, f64)> {
+    let (mut place, mut price, mut derivative) = (0xdead_beef, PATTERN, PATTERN);
+    let number = unsafe {
+        c::gutirapeo_price_from_yield(
+            settlement,
+            leg.days.as_ptr(),
+            leg.days.len(),
+            leg.kinds.as_ptr(),
+            leg.kinds.len(),
+            leg.amounts.as_ptr(),
+            leg.amounts.len(),
+            compounding,
+            frequency,
+            y,
+            &mut place,
+            &mut price,
+            &mut derivative,
+        )
+    };
+    if number != 0 {
+        assert_eq!(derivative.to_bits(), 0, "refusal {number} left a derivative");
+    }
+    answer(number, place, price).map(|price| (price, derivative))
+}
+
+/// The yield from price entry, with the evaluations.
+pub fn yield_from_price(settlement: u32, leg: &Leg, compounding: u32, frequency: u32, target: f64) -> (Answer, u32) {
+    let (mut place, mut value, mut evaluations) = (0xdead_beef, PATTERN, 0xdead_beef);
+    let number = unsafe {
+        c::gutirapeo_yield_from_price(
+            settlement,
+            leg.days.as_ptr(),
+            leg.days.len(),
+            leg.kinds.as_ptr(),
+            leg.kinds.len(),
+            leg.amounts.as_ptr(),
+            leg.amounts.len(),
+            compounding,
+            frequency,
+            target,
+            &mut place,
+            &mut value,
+            &mut evaluations,
+        )
+    };
+    (answer(number, place, value), evaluations)
 }

@@ -1,48 +1,19 @@
 //! The elementary functions: every result against the reading of 01; sqrt, mul_add, round and ceil
 //! against the hardware's too, with 01's signs of zero.
 use crate::random::Random;
+use crate::tally::Tally;
 use reading::{elementary as reading01, Answer};
-use std::collections::BTreeMap;
 
-/// Counts the outcomes of one function and prints the first few differences.
-struct Tally {
-    name: &'static str,
-    cases: u64,
-    outcomes: BTreeMap<u32, u64>,
-    differences: u64,
-}
-
-impl Tally {
-    fn new(name: &'static str) -> Self {
-        Tally { name, cases: 0, outcomes: BTreeMap::new(), differences: 0 }
-    }
-
-    fn case(&mut self, arguments: &[f64], ours: Answer, theirs: Answer, whose: &str) {
-        self.cases += 1;
-        let same = match (ours, theirs) {
-            (Ok(x), Ok(y)) => x.to_bits() == y.to_bits(),
-            (Err(x), Err(y)) => x == y,
-            _ => false,
-        };
-        *self.outcomes.entry(ours.map_or_else(|r| r.number, |_| 0)).or_default() += 1;
-        if !same {
-            self.differences += 1;
-            if self.differences <= 5 {
-                let bits: Vec<String> = arguments.iter().map(|x| format!("{:016x}", x.to_bits())).collect();
-                println!("{}({}) gives {ours:?}, {whose} {theirs:?}", self.name, bits.join(", "));
-            }
-        }
-    }
-
-    fn done(self) -> u64 {
-        let outcomes: Vec<String> = self
-            .outcomes
-            .iter()
-            .map(|(number, count)| if *number == 0 { format!("accepted {count}") } else { format!("{number}: {count}") })
-            .collect();
-        println!("{:9} {:9} comparisons, {} differences ({})", self.name, self.cases, self.differences, outcomes.join(", "));
-        self.differences
-    }
+fn compare(tally: &mut Tally, name: &str, arguments: &[f64], ours: Answer, theirs: Answer, whose: &str) {
+    let same = match (ours, theirs) {
+        (Ok(x), Ok(y)) => x.to_bits() == y.to_bits(),
+        (Err(x), Err(y)) => x == y,
+        _ => false,
+    };
+    tally.case(ours.map_or_else(|r| r.number, |_| 0), same, || {
+        let bits: Vec<String> = arguments.iter().map(|x| format!("{:016x}", x.to_bits())).collect();
+        format!("{name}({}) gives {ours:?}, {whose} {theirs:?}", bits.join(", "))
+    });
 }
 
 /// A zero from round or ceil, and an exact zero of mul_add, is +0.
@@ -73,9 +44,9 @@ fn one(name: &'static str, ours: One, theirs: One, cases: u64, seed: u64) -> u64
     for _ in 0..cases {
         let x = argument(&mut random, name);
         let answer = ours(x);
-        tally.case(&[x], answer, theirs(x), "the reading");
+        compare(&mut tally, name, &[x], answer, theirs(x), "the reading");
         if let (Ok(_), Some(y)) = (answer, hardware(name, x)) {
-            tally.case(&[x], answer, Ok(y), "the hardware");
+            compare(&mut tally, name, &[x], answer, Ok(y), "the hardware");
         }
     }
     tally.done()
@@ -127,7 +98,7 @@ fn two(name: &'static str, ours: Two, theirs: Two, cases: u64, seed: u64) -> u64
             _ => random.double(),
         };
         let a = if name == "powf" && random.below(2) == 0 { a.abs() } else { a };
-        tally.case(&[a, b], ours(a, b), theirs(a, b), "the reading");
+        compare(&mut tally, name, &[a, b], ours(a, b), theirs(a, b), "the reading");
     }
     tally.done()
 }
@@ -138,11 +109,11 @@ fn three(cases: u64, seed: u64) -> u64 {
     for _ in 0..cases {
         let [a, b, c] = random.triple();
         let answer = host::mul_add(a, b, c);
-        tally.case(&[a, b, c], answer, reading01::mul_add(a, b, c), "the reading");
+        compare(&mut tally, "mul_add", &[a, b, c], answer, reading01::mul_add(a, b, c), "the reading");
         if let Ok(x) = answer {
             // The hardware's zero may be −0 where the exact sum is 0; the reading has judged that.
             let y = a.mul_add(b, c);
-            tally.case(&[a, b, c], answer, Ok(if y == 0.0 && x == 0.0 { x } else { y }), "the hardware");
+            compare(&mut tally, "mul_add", &[a, b, c], answer, Ok(if y == 0.0 && x == 0.0 { x } else { y }), "the hardware");
         }
     }
     tally.done()

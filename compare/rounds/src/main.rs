@@ -1,25 +1,51 @@
 //! Compares the proved library with the second reading of document 01 and with the hardware.
 //!
 //! rounds [--long] [--seed N] [NAME...]
+//! rounds --sample FILE KIND...
 //!
 //! The quick round takes seconds, the long one 10^7 cases for each function.
 mod elementary;
+mod grid;
 mod random;
+mod sample;
+mod straight;
+mod tally;
+mod terms;
+mod yields;
 
 fn main() {
     let mut long = false;
     let mut seed = 1;
+    let mut sample = None;
     let mut names = Vec::new();
     let mut words = std::env::args().skip(1);
     while let Some(word) = words.next() {
         match word.as_str() {
             "--long" => long = true,
+            "--sample" => sample = words.next(),
             "--seed" => seed = words.next().and_then(|n| n.parse().ok()).expect("--seed takes a number"),
             _ => names.push(word),
         }
     }
     let wanted = |name: &str| names.is_empty() || names.iter().any(|n| n == name);
-    let differences = elementary::round(long, seed, &wanted);
+    // A refusal of the published text unwinds; its message is of no interest.
+    std::panic::set_hook(Box::new(|_| {}));
+    if let Some(path) = sample {
+        let kinds: Vec<u64> = names.iter().filter_map(|n| n.parse().ok()).collect();
+        sample::write(&path, seed, &kinds);
+        return;
+    }
+    let mut differences = elementary::round(long, seed, &wanted);
+    let entries: [(&str, fn(bool, u64) -> u64); 3] =
+        [("grid", grid::round), ("straight", straight::round), ("yields", yields::round)];
+    for (name, round) in entries {
+        if wanted(name) {
+            differences += round(long, seed);
+        }
+    }
+    if !published::AVAILABLE {
+        println!("the published source is not beside the repository: compared with the reading alone");
+    }
     if differences > 0 {
         println!("{differences} differences");
         std::process::exit(1);

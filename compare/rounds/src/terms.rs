@@ -1,7 +1,7 @@
 //! Random terms: good ones of every kind, and damaged copies of them.
 use crate::random::Random;
 use reading::terms::{Calls, Leg, Pillars, Sigma};
-use reading::treebasedbondpricer::{Room, Terms};
+use reading::treebasedbondpricer::Terms;
 
 fn pick<T: Copy>(random: &mut Random, from: &[T]) -> T {
     from[random.below(from.len() as u64) as usize]
@@ -147,20 +147,6 @@ pub fn terms(random: &mut Random) -> Terms {
         spread: spread(random),
         pillars: pillars(random, settlement, last),
         leg,
-    }
-}
-
-pub fn room(random: &mut Random) -> Room {
-    let ample = Room { nodes: 60_000, probabilities: 90_000, first: 600, second: 600 };
-    if random.below(8) > 0 {
-        return ample;
-    }
-    let some = |random: &mut Random, most: u64| random.below(most + 1) as usize;
-    match random.below(4) {
-        0 => Room { nodes: some(random, 60), ..ample },
-        1 => Room { probabilities: some(random, 90), ..ample },
-        2 => Room { first: some(random, 12), ..ample },
-        _ => Room { second: some(random, 12), ..ample },
     }
 }
 

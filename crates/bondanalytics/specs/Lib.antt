@@ -2,3 +2,4 @@ pub mod Rates
 pub mod Prices
 pub mod Brackets
 pub mod Yields
+pub mod laws

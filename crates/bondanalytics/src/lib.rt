@@ -63,3 +63,48 @@ pub enum Root {
     Found(f64, u32),
     Refused(Refusal, u32),
 }
+
+// What a rate definition's codes give.
+pub enum FoundRate {
+    Given(RateDefinition),
+    Refused(Refusal),
+}
+
+// What a frequency's code gives.
+pub enum FoundFrequency {
+    Given(Frequency),
+    Refused(Refusal),
+}
+
+impl YieldPrice {
+    // A yield base or simple factor at or below 0.
+    pub const BASE: u32 = 28;
+}
+
+impl Root {
+    // No bracket.
+    pub const NO_BRACKET: u32 = 29;
+    // Not converged.
+    pub const NOT_CONVERGED: u32 = 30;
+}
+
+// What is priced at a tried argument: the cashflows at a yield.
+pub enum Priced {
+    Yield,
+}
+
+// What the solver looks for: where what is priced is worth the target.
+pub struct Sought {
+    pub priced: Priced,
+    pub rate: RateDefinition,
+    pub settlement: u32,
+    pub target: f64,
+}
+
+pub mod brackets;
+pub mod objectives;
+pub mod prices;
+pub mod rates;
+mod refusals;
+pub mod solver;
+pub mod yields;

@@ -1,1 +1,172 @@
 // What a bond is worth without its calls.
+use elementary::Answer;
+use elementary::Refusal;
+use elementary::exp::exp_at;
+use elementary::finite::not_finite;
+use terms::Check;
+use terms::curve::factor_of;
+use terms::entries::straight_checks;
+use terms::time::year_fraction;
+ghost use mathlib.Core.Path.{_≡_};
+ghost use mathlib.Core.List.{[]};
+ghost use lib.ListN.{length};
+ghost use Rattle.elementary.specs.Answers.{plusZero, refusal};
+ghost use Rattle.terms.specs.Terms.{Leg, Pillars};
+ghost use Rattle.bondpricer.specs.Straight.{withFlow, flows, discountedValue, straightValue};
+
+// A discount factor at or below 0.
+pub const FACTOR: u32 = 25;
+
+// A refusal with its number, at place 0.
+fn refused(number: u32) -> Answer
+    ensures { λ r. ⌜ r ≡ refusal number 0 ⌝ }
+{
+    Answer::Refused(Refusal { number, place: 0 })
+}
+
+// amount × (the day's factor / settlement's) × exp(spread × −time), added to the value.
+fn with_flow(
+    settlement: u32,
+    pillars: &[u32],
+    factors: &[f64],
+    spread: f64,
+    reference: f64,
+    day: u32,
+    amount: f64,
+    value: f64,
+) -> Answer
+    ensures { λ r. ⌜ r ≡ withFlow settlement (record { days = now (pillars .entry); factors = now (factors .entry) }) spread reference day amount value ⌝ }
+{
+    let a = factor_of(settlement, pillars, factors, day, 0);
+    let Answer::Value(factor) = a else {
+        return a;
+    };
+    let discount = factor / reference;
+    if not_finite(discount) {
+        return refused(Refusal::NOT_FINITE);
+    }
+    let x = spread * -year_fraction(settlement, day);
+    if not_finite(x) {
+        return refused(Refusal::NOT_FINITE);
+    }
+    let e = exp_at(x, 0);
+    let Answer::Value(spread_discount) = e else {
+        return e;
+    };
+    let y = amount * discount;
+    if not_finite(y) {
+        return refused(Refusal::NOT_FINITE);
+    }
+    let z = y * spread_discount;
+    if not_finite(z) {
+        return refused(Refusal::NOT_FINITE);
+    }
+    let sum = value + z;
+    if not_finite(sum) {
+        return refused(Refusal::NOT_FINITE);
+    }
+    Answer::Value(sum)
+}
+
+// The paid cashflows in list order.
+fn all_flows(
+    settlement: u32,
+    days: &[u32],
+    amounts: &[f64],
+    spread: f64,
+    pillars: &[u32],
+    factors: &[f64],
+    reference: f64,
+) -> Answer
+    requires { ⌜ length (now amounts) ≡ length (now days) ⌝ }
+    ensures { λ r. ⌜ r ≡ flows settlement (record { days = now (pillars .entry); factors = now (factors .entry) }) spread reference (now (days .entry)) (now (amounts .entry)) plusZero ⌝ }
+{
+    let mut value = 0.0;
+    let mut i = 0;
+    while i < days.len() {
+        let day = days[i];
+        let amount = amounts[i];
+        i += 1;
+        if settlement < day {
+            let a = with_flow(
+                settlement,
+                pillars,
+                factors,
+                spread,
+                reference,
+                day,
+                amount,
+                value,
+            );
+            let Answer::Value(v) = a else {
+                return a;
+            };
+            value = v;
+        }
+    }
+    Answer::Value(value)
+}
+
+// discounted_value: 25 is tried on settlement's factor only.
+pub fn discounted_value(
+    settlement: u32,
+    days: &[u32],
+    amounts: &[f64],
+    spread: f64,
+    pillars: &[u32],
+    factors: &[f64],
+) -> Answer
+    requires { ⌜ length (now amounts) ≡ length (now days) ⌝ }
+    ensures { λ r. ⌜ r ≡ discountedValue settlement (record { days = now (days .entry); kinds = []; amounts = now (amounts .entry) }) spread (record { days = now (pillars .entry); factors = now (factors .entry) }) ⌝ }
+{
+    let a = factor_of(settlement, pillars, factors, settlement, 0);
+    let Answer::Value(reference) = a else {
+        return a;
+    };
+    if reference <= 0.0 {
+        return refused(FACTOR);
+    }
+    all_flows(
+        settlement,
+        days,
+        amounts,
+        spread,
+        pillars,
+        factors,
+        reference,
+    )
+}
+
+// What the bond is worth without its calls.
+pub fn straight_value(
+    settlement: u32,
+    cashflow_days: &[u32],
+    cashflow_kinds: &[u8],
+    cashflow_amounts: &[f64],
+    spread: f64,
+    pillar_days: &[u32],
+    pillar_factors: &[f64],
+) -> Answer
+    ensures { λ r. ⌜ r ≡ straightValue settlement (record { days = now («cashflow_days» .entry); kinds = now («cashflow_kinds» .entry); amounts = now («cashflow_amounts» .entry) }) spread (record { days = now («pillar_days» .entry); factors = now («pillar_factors» .entry) }) ⌝ }
+{
+    let checked = straight_checks(
+        settlement,
+        cashflow_days,
+        cashflow_kinds,
+        cashflow_amounts,
+        spread,
+        pillar_days,
+        pillar_factors,
+    );
+    if let Check::Refused(q) = checked {
+        return Answer::Refused(q);
+    }
+    discounted_value(
+        settlement,
+        cashflow_days,
+        cashflow_amounts,
+        spread,
+        pillar_days,
+        pillar_factors,
+    )
+}

@@ -1,2 +1,3 @@
 -- What the proofs of more than one function use.
-pub mod Handing
+pub mod Copying
+pub mod Equal

@@ -1,11 +1,59 @@
--- Definitions only. What a C caller is handed of an answer: the refusal number as the result, 0 where accepted, the place, and the value, 0 on a refusal.
+-- Definitions only. What a C caller is handed of an answer: the refusal number as the result, 0 where accepted, the place, and the outputs, 0 on a refusal.
 use Prim.Native.Nat.{ℕ}
 use mathlib.Core.Path.{_≡_}
+use mathlib.Core.Bool.{Bool, cond}
+use mathlib.Core.List.{List, map}
 use lib.Ieee.{Float}
 use Rattle.elementary.specs.declared.Answer.{Answer}
 use Rattle.elementary.specs.Answers.{numberOf, placeOf, valueOf}
+use Rattle.bondevents.specs.declared.CallStep.{CallStep}
+use Rattle.bondevents.specs.declared.GridAnswer.{GridAnswer}
+use Rattle.treebasedbondpricer.specs.declared.TreeValue.{TreeValue}
+use Rattle.treebasedbondpricer.specs.Tree as tree
+use Rattle.bondanalytics.specs.declared.YieldPrice.{YieldPrice}
+use Rattle.bondanalytics.specs.declared.Root.{Root}
+use Rattle.bondanalytics.specs.Yields.{priceNumber, pricePlace, priceOf, derivativeOf, rootNumber, rootPlace, rootValue, evaluationsOf}
 
+-- Of an elementary function and of the straight value.
 pub record Handed (answer : Answer) (result place : ℕ) (value : Float) : Type 0 where
   pub number-is : result ≡ numberOf answer
   pub place-is : place ≡ placeOf answer
   pub value-is : value ≡ valueOf answer
+
+-- A mark is 1 where a step has a call price.
+abbrev pub markOf : CallStep → ℕ
+markOf c = cond (c .marked) 1 0
+
+abbrev pub priceOfStep : CallStep → Float
+priceOfStep c = c .«call_price»
+
+-- Of the grid: all 513 cashflows, marks and prices.
+pub record HandedGrid (answer : GridAnswer) (result place : ℕ) (maturity : Float) (steps : ℕ) (cashflows : List Float) (marks : List ℕ) (prices : List Float) : Type 0 where
+  pub number-is : result ≡ answer .refusal .number
+  pub place-is : place ≡ answer .refusal .place
+  pub maturity-is : maturity ≡ answer .grid .«maturity_time»
+  pub steps-is : steps ≡ answer .grid .steps
+  pub cashflows-are : cashflows ≡ answer .grid .cashflows
+  pub marks-are : marks ≡ map markOf (answer .grid .calls)
+  pub prices-are : prices ≡ map priceOfStep (answer .grid .calls)
+
+-- Of the tree value.
+pub record HandedValue (answer : TreeValue) (result place : ℕ) (value : Float) (nodes : ℕ) : Type 0 where
+  pub number-is : result ≡ tree.numberOf answer
+  pub place-is : place ≡ tree.placeOf answer
+  pub value-is : value ≡ tree.valueOf answer
+  pub nodes-is : nodes ≡ tree.countedBy answer
+
+-- Of price from yield.
+pub record HandedPrice (answer : YieldPrice) (result place : ℕ) (price derivative : Float) : Type 0 where
+  pub number-is : result ≡ priceNumber answer
+  pub place-is : place ≡ pricePlace answer
+  pub price-is : price ≡ priceOf answer
+  pub derivative-is : derivative ≡ derivativeOf answer
+
+-- Of yield from price; evaluations are reported on refusals too.
+pub record HandedRoot (answer : Root) (result place : ℕ) (value : Float) (evaluations : ℕ) : Type 0 where
+  pub number-is : result ≡ rootNumber answer
+  pub place-is : place ≡ rootPlace answer
+  pub value-is : value ≡ rootValue answer
+  pub evaluations-is : evaluations ≡ evaluationsOf answer

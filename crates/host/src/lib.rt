@@ -1,7 +1,15 @@
 // The C interface: one thin function per public entry. Inputs come first, then the place, then the
 // outputs; the result is the refusal number, 0 where accepted. Outputs are 0 on a refusal.
-use elementary::Answer;
-ghost use Rattle.host.specs.Handed.{Handed};
+mod grids;
+mod handing;
+
+use crate::grids::hand_grid;
+use crate::handing::hand_over;
+use crate::handing::hand_price;
+use crate::handing::hand_root;
+ghost use Rattle.host.specs.Handed.{Handed, HandedGrid, HandedPrice, HandedRoot};
+ghost use Rattle.bondpricer.specs.Straight.{straightValue};
+ghost use Rattle.bondanalytics.specs.Yields.{priceFromYield, yieldFromPrice};
 ghost use Rattle.elementary.specs.Root.{sqrtAlone};
 ghost use Rattle.elementary.specs.Whole.{roundAlone, ceilAlone};
 ghost use Rattle.elementary.specs.Extremes.{maxAlone, minAlone};
@@ -10,24 +18,7 @@ ghost use Rattle.elementary.specs.Logarithm.{lnAlone};
 ghost use Rattle.elementary.specs.Power.{powfAlone};
 ghost use Rattle.elementary.specs.Fused.{mulAddAlone};
 ghost use Rattle.elementary.specs.Middle.{midpointAlone};
-
-// Writes an answer's place and value, and gives its number.
-fn hand_over(answer: Answer, place: &mut u32, value: &mut f64) -> u32
-    ensures { λ r. ⌜ Handed answer r (now (place .exit)) (now (value .exit)) ⌝ }
-{
-    match answer {
-        Answer::Value(x) => {
-            *place = 0;
-            *value = x;
-            0
-        }
-        Answer::Refused(refusal) => {
-            *place = refusal.place;
-            *value = 0.0;
-            refusal.number
-        }
-    }
-}
+ghost use Rattle.bondevents.specs.Grid.{gridAnswer};
 
 // The correctly rounded root; below 0 refused with 26.
 #[no_mangle]
@@ -115,4 +106,142 @@ pub extern "C" fn gutirapeo_midpoint(a: f64, b: f64, place: &mut u32, value: &mu
     ensures { λ r. ⌜ Handed (midpointAlone a b) r (now (place .exit)) (now (value .exit)) ⌝ }
 {
     hand_over(elementary::midpoint::midpoint(a, b), place, value)
+}
+
+// The event grid: maturity time, steps, and all 513 cashflows, marks and call prices.
+#[no_mangle]
+pub extern "C" fn gutirapeo_grid(
+    settlement: u32,
+    days: &[u32],
+    kinds: &[u8],
+    amounts: &[f64],
+    units: f64,
+    starts: &[u32],
+    ends: &[u32],
+    strikes: &[f64],
+    yearly: u32,
+    maximum: u32,
+    place: &mut u32,
+    maturity: &mut f64,
+    steps: &mut u32,
+    cashflows: &mut [f64; 513],
+    marks: &mut [u8; 513],
+    prices: &mut [f64; 513],
+) -> u32
+    ensures { λ r. ⌜ HandedGrid
+        (gridAnswer settlement
+        (record { leg = record { days = now (days .entry); kinds = now (kinds .entry); amounts = now (amounts .entry) }; units = units })
+        (record { starts = now (starts .entry); ends = now (ends .entry); strikes = now (strikes .entry) })
+        (record { perYear = yearly; maximum = maximum }))
+        r (now (place .exit)) (now (maturity .exit)) (now (steps .exit)) (now (cashflows .exit)) (now (marks .exit)) (now (prices .exit)) ⌝ }
+{
+    let answer = bondevents::grid::bond_event_grid(
+        settlement,
+        days,
+        kinds,
+        amounts,
+        units,
+        starts,
+        ends,
+        strikes,
+        yearly,
+        maximum,
+    );
+    hand_grid(answer, place, maturity, steps, cashflows, marks, prices)
+}
+
+// What the bond is worth without its calls.
+#[no_mangle]
+pub extern "C" fn gutirapeo_straight_value(
+    settlement: u32,
+    days: &[u32],
+    kinds: &[u8],
+    amounts: &[f64],
+    spread: f64,
+    pillars: &[u32],
+    factors: &[f64],
+    place: &mut u32,
+    value: &mut f64,
+) -> u32
+    ensures { λ r. ⌜ Handed
+        (straightValue settlement
+        (record { days = now (days .entry); kinds = now (kinds .entry); amounts = now (amounts .entry) })
+        spread
+        (record { days = now (pillars .entry); factors = now (factors .entry) }))
+        r (now (place .exit)) (now (value .exit)) ⌝ }
+{
+    let answer = bondpricer::straight_value(
+        settlement,
+        days,
+        kinds,
+        amounts,
+        spread,
+        pillars,
+        factors,
+    );
+    hand_over(answer, place, value)
+}
+
+// The price that a yield means, and its derivative.
+#[no_mangle]
+pub extern "C" fn gutirapeo_price_from_yield(
+    settlement: u32,
+    days: &[u32],
+    kinds: &[u8],
+    amounts: &[f64],
+    compounding: u32,
+    frequency: u32,
+    given: f64,
+    place: &mut u32,
+    price: &mut f64,
+    derivative: &mut f64,
+) -> u32
+    ensures { λ r. ⌜ HandedPrice
+        (priceFromYield settlement
+        (record { days = now (days .entry); kinds = now (kinds .entry); amounts = now (amounts .entry) })
+        compounding frequency given)
+        r (now (place .exit)) (now (price .exit)) (now (derivative .exit)) ⌝ }
+{
+    let answer = bondanalytics::yields::price_from_yield(
+        settlement,
+        days,
+        kinds,
+        amounts,
+        compounding,
+        frequency,
+        given,
+    );
+    hand_price(answer, place, price, derivative)
+}
+
+// The yield that a price means, and the evaluations that the search made.
+#[no_mangle]
+pub extern "C" fn gutirapeo_yield_from_price(
+    settlement: u32,
+    days: &[u32],
+    kinds: &[u8],
+    amounts: &[f64],
+    compounding: u32,
+    frequency: u32,
+    target: f64,
+    place: &mut u32,
+    value: &mut f64,
+    evaluations: &mut u32,
+) -> u32
+    ensures { λ r. ⌜ HandedRoot
+        (yieldFromPrice settlement
+        (record { days = now (days .entry); kinds = now (kinds .entry); amounts = now (amounts .entry) })
+        compounding frequency target)
+        r (now (place .exit)) (now (value .exit)) (now (evaluations .exit)) ⌝ }
+{
+    let answer = bondanalytics::yields::yield_from_price(
+        settlement,
+        days,
+        kinds,
+        amounts,
+        compounding,
+        frequency,
+        target,
+    );
+    hand_root(answer, place, value, evaluations)
 }

@@ -1,6 +1,6 @@
 -- `gutirapeo_ceil` hands over the answer of `ceil`. Assumes nothing.
 use borrow.Author.Needs.{needs}
-use Rattle.host.proofs.Handing.{handed-as}
+use Rattle.host.proofs.Equal.{handed-as}
 use Rattle.host.proofs.gutirapeo_ceil.Statement.{statement}
 use Rattle.host.proofs.gutirapeo_ceil.Tie as tie
 

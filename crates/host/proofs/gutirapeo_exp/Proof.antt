@@ -1,6 +1,6 @@
 -- `gutirapeo_exp` hands over the answer of `exp`. Assumes nothing.
 use borrow.Author.Needs.{needs}
-use Rattle.host.proofs.Handing.{handed-as}
+use Rattle.host.proofs.Equal.{handed-as}
 use Rattle.host.proofs.gutirapeo_exp.Statement.{statement}
 use Rattle.host.proofs.gutirapeo_exp.Tie as tie
 

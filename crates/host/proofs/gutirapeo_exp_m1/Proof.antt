@@ -1,6 +1,6 @@
 -- `gutirapeo_exp_m1` hands over the answer of `exp_m1`. Assumes nothing.
 use borrow.Author.Needs.{needs}
-use Rattle.host.proofs.Handing.{handed-as}
+use Rattle.host.proofs.Equal.{handed-as}
 use Rattle.host.proofs.gutirapeo_exp_m1.Statement.{statement}
 use Rattle.host.proofs.gutirapeo_exp_m1.Tie as tie
 

@@ -1,6 +1,6 @@
 -- `gutirapeo_ln` hands over the answer of `ln`. Assumes nothing.
 use borrow.Author.Needs.{needs}
-use Rattle.host.proofs.Handing.{handed-as}
+use Rattle.host.proofs.Equal.{handed-as}
 use Rattle.host.proofs.gutirapeo_ln.Statement.{statement}
 use Rattle.host.proofs.gutirapeo_ln.Tie as tie
 

@@ -1,6 +1,6 @@
 -- `gutirapeo_max` hands over the answer of `max`. Assumes nothing.
 use borrow.Author.Needs.{needs}
-use Rattle.host.proofs.Handing.{handed-as}
+use Rattle.host.proofs.Equal.{handed-as}
 use Rattle.host.proofs.gutirapeo_max.Statement.{statement}
 use Rattle.host.proofs.gutirapeo_max.Tie as tie
 

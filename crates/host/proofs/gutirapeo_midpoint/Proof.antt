@@ -1,6 +1,6 @@
 -- `gutirapeo_midpoint` hands over the answer of `midpoint`. Assumes nothing.
 use borrow.Author.Needs.{needs}
-use Rattle.host.proofs.Handing.{handed-as}
+use Rattle.host.proofs.Equal.{handed-as}
 use Rattle.host.proofs.gutirapeo_midpoint.Statement.{statement}
 use Rattle.host.proofs.gutirapeo_midpoint.Tie as tie
 

@@ -1,6 +1,6 @@
 -- `gutirapeo_min` hands over the answer of `min`. Assumes nothing.
 use borrow.Author.Needs.{needs}
-use Rattle.host.proofs.Handing.{handed-as}
+use Rattle.host.proofs.Equal.{handed-as}
 use Rattle.host.proofs.gutirapeo_min.Statement.{statement}
 use Rattle.host.proofs.gutirapeo_min.Tie as tie
 

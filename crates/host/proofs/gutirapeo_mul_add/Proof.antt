@@ -1,6 +1,6 @@
 -- `gutirapeo_mul_add` hands over the answer of `mul_add`. Assumes nothing.
 use borrow.Author.Needs.{needs}
-use Rattle.host.proofs.Handing.{handed-as}
+use Rattle.host.proofs.Equal.{handed-as}
 use Rattle.host.proofs.gutirapeo_mul_add.Statement.{statement}
 use Rattle.host.proofs.gutirapeo_mul_add.Tie as tie
 

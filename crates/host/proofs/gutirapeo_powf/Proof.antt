@@ -1,6 +1,6 @@
 -- `gutirapeo_powf` hands over the answer of `powf`. Assumes nothing.
 use borrow.Author.Needs.{needs}
-use Rattle.host.proofs.Handing.{handed-as}
+use Rattle.host.proofs.Equal.{handed-as}
 use Rattle.host.proofs.gutirapeo_powf.Statement.{statement}
 use Rattle.host.proofs.gutirapeo_powf.Tie as tie
 

@@ -1,6 +1,6 @@
 -- `gutirapeo_round` hands over the answer of `round`. Assumes nothing.
 use borrow.Author.Needs.{needs}
-use Rattle.host.proofs.Handing.{handed-as}
+use Rattle.host.proofs.Equal.{handed-as}
 use Rattle.host.proofs.gutirapeo_round.Statement.{statement}
 use Rattle.host.proofs.gutirapeo_round.Tie as tie
 

@@ -1,6 +1,6 @@
 -- `gutirapeo_sqrt` hands over the answer of `sqrt`. Assumes nothing.
 use borrow.Author.Needs.{needs}
-use Rattle.host.proofs.Handing.{handed-as}
+use Rattle.host.proofs.Equal.{handed-as}
 use Rattle.host.proofs.gutirapeo_sqrt.Statement.{statement}
 use Rattle.host.proofs.gutirapeo_sqrt.Tie as tie
 

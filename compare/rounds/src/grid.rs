@@ -1,0 +1,46 @@
+//! The event grid against the second reading (refusals, places) and, where accepted, the published text.
+use crate::random::Random;
+use crate::tally::{published, same_number, Tally};
+use crate::terms;
+use reading::bondevents::{self, Grid};
+
+fn same(a: &Grid, b: &Grid) -> bool {
+    same_number(a.maturity_time, b.maturity_time)
+        && a.steps == b.steps
+        && a.cashflows.iter().zip(&b.cashflows).all(|(x, y)| same_number(*x, *y))
+        && a.calls.iter().zip(&b.calls).all(|(x, y)| match (x, y) {
+            (Some(x), Some(y)) => same_number(*x, *y),
+            (None, None) => true,
+            _ => false,
+        })
+}
+
+pub fn round(long: bool, seed: u64) -> u64 {
+    let cases = if long { 1_000_000 } else { 10_000 };
+    let mut random = Random(seed);
+    let mut tally = Tally::new("grid");
+    for _ in 0..cases {
+        let mut t = terms::terms(&mut random);
+        if random.below(4) == 0 {
+            terms::damage(&mut random, &mut t);
+        }
+        let ours = host::grid(t.settlement, &t.leg, t.units, &t.calls, t.settings);
+        let theirs = bondevents::grid(t.settlement, &t.leg, t.units, &t.calls, t.settings);
+        let agree = match (&ours, &theirs) {
+            (Ok(a), Ok(b)) => same(a, b),
+            (Err(a), Err(b)) => a == b,
+            _ => false,
+        };
+        tally.case(ours.as_ref().map_or_else(|r| r.number, |_| 0), agree, || format!("{t:?} gives {ours:?}, the reading {theirs:?}"));
+        if let (Ok(a), true) = (&ours, published::AVAILABLE) {
+            let text = published(|| published::grid(t.settlement, &t.leg, t.units, &t.calls, t.settings));
+            let agree = text.is_some_and(|(maturity_time, steps, mut cashflows, mut calls)| {
+                cashflows.resize(513, 0.0);
+                calls.resize(513, None);
+                same(a, &Grid { maturity_time, steps: steps as u32, cashflows, calls })
+            });
+            tally.case(0, agree, || format!("{t:?} gives {ours:?}, not what the published text gives"));
+        }
+    }
+    tally.done()
+}

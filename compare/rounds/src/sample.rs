@@ -1,0 +1,216 @@
+//! Writes the stored sample that the program `replay` runs without Rust: `rounds --sample FILE`.
+//!
+//! A record is 160 words of 64 bits, little-endian, at the places below; floats as their bits. Accepted answers are the
+//! published text's, refusals the second reading's.
+use crate::random::Random;
+use crate::tally::published;
+use crate::terms;
+use reading::bondanalytics::{self, Rate};
+use reading::treebasedbondpricer::{self, Room, Terms};
+use reading::{bondevents, bondpricer, elementary, Answer, Refusal};
+use std::io::Write;
+
+const WORDS: usize = 160;
+const FLOWS: usize = 8;
+const CALLS: usize = 4;
+const STEPS: usize = 24;
+
+type Record = [u64; WORDS];
+
+fn floats(record: &mut Record, at: usize, values: &[f64]) {
+    for (i, x) in values.iter().enumerate() {
+        record[at + i] = x.to_bits();
+    }
+}
+
+fn numbers(record: &mut Record, at: usize, values: impl Iterator<Item = u64>) {
+    for (i, n) in values.enumerate() {
+        record[at + i] = n;
+    }
+}
+
+/// The inputs of any entry.
+fn inputs(kind: u64, t: &Terms) -> Record {
+    let mut r = [0; WORDS];
+    (r[0], r[1]) = (kind, u64::from(t.settlement));
+    r[2] = t.leg.days.len() as u64;
+    numbers(&mut r, 3, t.leg.days.iter().map(|&n| u64::from(n)));
+    numbers(&mut r, 11, t.leg.kinds.iter().map(|&n| u64::from(n)));
+    floats(&mut r, 19, &t.leg.amounts);
+    floats(&mut r, 27, &[t.units]);
+    r[28] = t.calls.starts.len() as u64;
+    numbers(&mut r, 29, t.calls.starts.iter().map(|&n| u64::from(n)));
+    numbers(&mut r, 33, t.calls.ends.iter().map(|&n| u64::from(n)));
+    floats(&mut r, 37, &t.calls.strikes);
+    (r[41], r[42]) = (u64::from(t.settings.0), u64::from(t.settings.1));
+    floats(&mut r, 43, &[t.alpha]);
+    r[44] = t.sigma.times.len() as u64;
+    floats(&mut r, 45, &t.sigma.times);
+    floats(&mut r, 49, &t.sigma.sigmas);
+    floats(&mut r, 53, &[t.spread]);
+    r[54] = t.pillars.days.len() as u64;
+    numbers(&mut r, 55, t.pillars.days.iter().map(|&n| u64::from(n)));
+    floats(&mut r, 63, &t.pillars.factors);
+    r
+}
+
+fn refused(mut r: Record, refusal: Refusal) -> Record {
+    (r[80], r[81]) = (u64::from(refusal.number), u64::from(refusal.place));
+    r
+}
+
+/// Terms small enough for a record, with no NaN.
+fn small(random: &mut Random) -> Terms {
+    loop {
+        let mut t = terms::terms(random);
+        if random.below(4) == 0 {
+            terms::damage(random, &mut t);
+        }
+        let fits = t.leg.days.len() <= FLOWS
+            && t.leg.kinds.len() == t.leg.days.len()
+            && t.leg.amounts.len() == t.leg.days.len()
+            && t.calls.starts.len() <= CALLS
+            && t.calls.ends.len() == t.calls.starts.len()
+            && t.calls.strikes.len() == t.calls.starts.len()
+            && t.sigma.times.len() <= CALLS
+            && t.sigma.sigmas.len() == t.sigma.times.len()
+            && t.pillars.days.len() <= FLOWS
+            && t.pillars.factors.len() == t.pillars.days.len()
+            && t.settings.1 as usize <= STEPS;
+        let all = [t.units, t.alpha, t.spread];
+        let lists = [&t.leg.amounts, &t.calls.strikes, &t.sigma.times, &t.sigma.sigmas, &t.pillars.factors];
+        if fits && !all.iter().chain(lists.into_iter().flatten()).any(|x| x.is_nan()) {
+            return t;
+        }
+    }
+}
+
+fn elementary_record(random: &mut Random, kind: u64) -> Record {
+    let (a, b, c) = loop {
+        let [a, b, c] = random.triple();
+        if ![a, b, c].iter().any(|x| x.is_nan()) {
+            break (a, b, c);
+        }
+    };
+    let answer: Answer = match kind {
+        1 => elementary::sqrt(a),
+        2 => elementary::round(a),
+        3 => elementary::ceil(a),
+        4 => elementary::max(a, b),
+        5 => elementary::min(a, b),
+        6 => elementary::exp(a),
+        7 => elementary::exp_m1(a),
+        8 => elementary::ln(a),
+        9 => elementary::powf(a, b),
+        10 => elementary::mul_add(a, b, c),
+        _ => elementary::midpoint(a, b),
+    };
+    let mut r = [0; WORDS];
+    r[0] = kind;
+    floats(&mut r, 73, &[a, b, c]);
+    match answer {
+        Ok(x) => {
+            floats(&mut r, 82, &[x]);
+            r
+        }
+        Err(refusal) => refused(r, refusal),
+    }
+}
+
+fn grid_record(random: &mut Random) -> Record {
+    let t = small(random);
+    let mut r = inputs(12, &t);
+    match bondevents::grid(t.settlement, &t.leg, t.units, &t.calls, t.settings) {
+        Err(refusal) => refused(r, refusal),
+        Ok(_) => {
+            let (maturity, steps, cashflows, calls) =
+                published(|| published::grid(t.settlement, &t.leg, t.units, &t.calls, t.settings)).expect("the published text accepts");
+            floats(&mut r, 82, &[maturity]);
+            r[84] = steps as u64;
+            floats(&mut r, 85, &cashflows);
+            numbers(&mut r, 110, calls.iter().map(|c| u64::from(c.is_some())));
+            floats(&mut r, 135, &calls.iter().map(|c| c.unwrap_or(0.0)).collect::<Vec<_>>());
+            r
+        }
+    }
+}
+
+fn tree_record(random: &mut Random) -> Record {
+    let t = small(random);
+    let mut r = inputs(13, &t);
+    let room = Room { nodes: 4000, probabilities: 6000, first: 64, second: 64 };
+    match treebasedbondpricer::tree_value(&t, room).0 {
+        Err(refusal) => refused(r, refusal),
+        Ok((_, count)) => {
+            floats(&mut r, 82, &[published(|| published::tree(&t)).expect("the published text accepts")]);
+            r[83] = count;
+            r
+        }
+    }
+}
+
+fn straight_record(random: &mut Random) -> Record {
+    let t = small(random);
+    let mut r = inputs(14, &t);
+    match bondpricer::straight_value(t.settlement, &t.leg, t.spread, &t.pillars) {
+        Err(refusal) => refused(r, refusal),
+        Ok(_) => {
+            let value = published(|| published::straight(t.settlement, &t.leg, t.spread, &t.pillars)).expect("the published text accepts");
+            floats(&mut r, 82, &[value]);
+            r
+        }
+    }
+}
+
+fn yield_record(random: &mut Random, kind: u64) -> Record {
+    let t = small(random);
+    let rate = Rate { compounding: random.below(6) as u32, frequency: [1, 2, 4, 12, 365, 7][random.below(6) as usize] };
+    let mut r = inputs(kind, &t);
+    (r[71], r[72]) = (u64::from(rate.compounding), u64::from(rate.frequency));
+    if kind == 15 {
+        let y = random.between(-0.3, 0.5);
+        floats(&mut r, 73, &[y]);
+        return match bondanalytics::price_from_yield(t.settlement, &t.leg, rate, y) {
+            Err(refusal) => refused(r, refusal),
+            Ok(_) => {
+                let (price, derivative) =
+                    published(|| published::price(t.settlement, &t.leg, rate.compounding, rate.frequency, y)).expect("the published text accepts");
+                floats(&mut r, 82, &[price, derivative]);
+                r
+            }
+        };
+    }
+    let target = random.between(-20.0, 200.0);
+    floats(&mut r, 73, &[target]);
+    let (answer, evaluations) = bondanalytics::yield_from_price(t.settlement, &t.leg, rate, target);
+    r[84] = u64::from(evaluations);
+    match answer {
+        Err(refusal) => refused(r, refusal),
+        Ok(_) => {
+            let y = published(|| published::yield_of(t.settlement, &t.leg, rate.compounding, rate.frequency, target)).expect("the published text accepts");
+            floats(&mut r, 82, &[y]);
+            r
+        }
+    }
+}
+
+/// Writes a sample; `kinds` says which entries there are.
+pub fn write(path: &str, seed: u64, kinds: &[u64]) {
+    assert!(published::AVAILABLE, "the published source is not beside the repository");
+    let mut random = Random(seed);
+    let mut bytes = Vec::new();
+    for &kind in kinds {
+        let count = if kind < 12 { 8 } else { 60 };
+        for _ in 0..count {
+            let record = match kind {
+                1..=11 => elementary_record(&mut random, kind),
+                12 => grid_record(&mut random),
+                13 => tree_record(&mut random),
+                14 => straight_record(&mut random),
+                _ => yield_record(&mut random, kind),
+            };
+            bytes.extend(record.iter().flat_map(|word| word.to_le_bytes()));
+        }
+    }
+    std::fs::File::create(path).and_then(|mut file| file.write_all(&bytes)).expect("the sample is written");
+}

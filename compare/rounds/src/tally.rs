@@ -1,0 +1,48 @@
+//! Counts outcomes by refusal number and prints the first few differences.
+use std::collections::BTreeMap;
+use std::panic;
+
+pub struct Tally {
+    name: &'static str,
+    cases: u64,
+    outcomes: BTreeMap<u32, u64>,
+    differences: u64,
+}
+
+impl Tally {
+    pub fn new(name: &'static str) -> Self {
+        Tally { name, cases: 0, outcomes: BTreeMap::new(), differences: 0 }
+    }
+
+    /// One comparison: the refusal number met (0 where accepted), and whether the two sides agree.
+    pub fn case(&mut self, number: u32, same: bool, say: impl FnOnce() -> String) {
+        self.cases += 1;
+        *self.outcomes.entry(number).or_default() += 1;
+        if !same {
+            self.differences += 1;
+            if self.differences <= 5 {
+                println!("{}: {}", self.name, say());
+            }
+        }
+    }
+
+    pub fn done(self) -> u64 {
+        let outcomes: Vec<String> = self
+            .outcomes
+            .iter()
+            .map(|(number, count)| if *number == 0 { format!("accepted {count}") } else { format!("{number}: {count}") })
+            .collect();
+        println!("{:12} {:9} comparisons, {} differences ({})", self.name, self.cases, self.differences, outcomes.join(", "));
+        self.differences
+    }
+}
+
+/// The same number, the sign of zero aside.
+pub fn same_number(x: f64, y: f64) -> bool {
+    x.to_bits() == y.to_bits() || x == 0.0 && y == 0.0
+}
+
+/// What the published text answers; nothing where it refuses or a refusal unwinds.
+pub fn published<T>(call: impl FnOnce() -> Option<T>) -> Option<T> {
+    panic::catch_unwind(panic::AssertUnwindSafe(call)).ok().flatten()
+}

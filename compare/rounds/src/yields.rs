@@ -1,0 +1,76 @@
+//! Price from yield and yield from price against the second reading and, where accepted, the published text.
+use crate::random::Random;
+use crate::tally::{published, same_number, Tally};
+use crate::terms;
+use reading::bondanalytics::{self, Rate};
+use reading::terms::Leg;
+use reading::Outcome;
+
+const FREQUENCIES: [u32; 14] = [1, 2, 3, 4, 6, 12, 13, 26, 52, 365, 999, 0, 5, 7];
+
+fn number<T>(outcome: &Outcome<T>) -> u32 {
+    outcome.as_ref().map_or_else(|r| r.number, |_| 0)
+}
+
+fn price(random: &mut Random, tally: &mut Tally, settlement: u32, leg: &Leg, rate: Rate) -> Option<f64> {
+    let y = match random.below(12) {
+        0 => random.double(),
+        1 => random.between(-3.0, 60.0),
+        _ => random.between(-0.1, 0.3),
+    };
+    let ours = host::price_from_yield(settlement, leg, rate.compounding, rate.frequency, y);
+    let theirs = bondanalytics::price_from_yield(settlement, leg, rate, y);
+    let agree = match (ours, theirs) {
+        (Ok(a), Ok(b)) => same_number(a.0, b.0) && same_number(a.1, b.1),
+        (a, b) => a == b,
+    };
+    tally.case(number(&ours), agree, || format!("{settlement} {leg:?} {rate:?} {y} gives {ours:?}, the reading {theirs:?}"));
+    if let (Ok(a), true) = (ours, published::AVAILABLE) {
+        let text = published(|| published::price(settlement, leg, rate.compounding, rate.frequency, y));
+        let agree = text.is_some_and(|b| same_number(a.0, b.0) && same_number(a.1, b.1));
+        tally.case(0, agree, || format!("{settlement} {leg:?} {rate:?} {y} gives {a:?}, the published text {text:?}"));
+    }
+    ours.ok().map(|(price, _)| price)
+}
+
+fn solve(tally: &mut Tally, settlement: u32, leg: &Leg, rate: Rate, target: f64) {
+    let (ours, evaluations) = host::yield_from_price(settlement, leg, rate.compounding, rate.frequency, target);
+    let (theirs, counted) = bondanalytics::yield_from_price(settlement, leg, rate, target);
+    let agree = evaluations == counted
+        && match (ours, theirs) {
+            (Ok(a), Ok(b)) => same_number(a, b),
+            (a, b) => a == b,
+        };
+    tally.case(number(&ours), agree, || {
+        format!("{settlement} {leg:?} {rate:?} {target} gives {ours:?} after {evaluations}, the reading {theirs:?} after {counted}")
+    });
+    if let (Ok(a), true) = (ours, published::AVAILABLE) {
+        let text = published(|| published::yield_of(settlement, leg, rate.compounding, rate.frequency, target));
+        tally.case(0, text.is_some_and(|b| same_number(a, b)), || format!("{settlement} {leg:?} {rate:?} {target} gives {a}, the published text {text:?}"));
+    }
+}
+
+pub fn round(long: bool, seed: u64) -> u64 {
+    let cases = if long { 1_000_000 } else { 10_000 };
+    let mut random = Random(seed);
+    let mut prices = Tally::new("price");
+    let mut yields = Tally::new("yield");
+    for _ in 0..cases {
+        let mut t = terms::terms(&mut random);
+        if random.below(6) == 0 {
+            terms::damage(&mut random, &mut t);
+        }
+        let rate = Rate {
+            compounding: if random.below(30) == 0 { 5 } else { random.below(5) as u32 },
+            frequency: FREQUENCIES[random.below(14).min(random.below(14)) as usize],
+        };
+        let price = price(&mut random, &mut prices, t.settlement, &t.leg, rate);
+        let target = match (random.below(10), price) {
+            (0, _) | (1..=8, None) => random.between(-50.0, 300.0),
+            (1..=8, Some(price)) => price,
+            _ => random.double(),
+        };
+        solve(&mut yields, t.settlement, &t.leg, rate, target);
+    }
+    prices.done() + yields.done()
+}

@@ -1,0 +1,101 @@
+-- One halving meets its contract. Assumes nothing.
+use Rattle.bondanalytics.specs.Brackets.{halve}
+use Rattle.bondanalytics.proofs.Laws.{prices, same-bracket}
+use Rattle.bondanalytics.proofs.Bracket.halve.Statement.{statement}
+use Rattle.bondanalytics.proofs.Bracket.halve.Tie as tie
+
+midpoint-at-requires : tie.Need-midpoint-at-requires
+midpoint-at-requires c κs = search prices
+
+enum-known-a : tie.Need-enum-known-a
+enum-known-a c = search prices
+
+enum-told : tie.Need-enum-told
+enum-told c = search prices
+
+refusal-of-requires : tie.Need-refusal-of-requires
+refusal-of-requires c κs = search prices
+
+returns : tie.Need-returns
+unfolding halve
+returns c = search prices
+
+add-evaluations : tie.Need-add-evaluations
+add-evaluations c = search prices
+
+objective-requires : tie.Need-objective-requires
+objective-requires c κs = search prices
+
+enum-known-y : tie.Need-enum-known-y
+enum-known-y c = search prices
+
+enum-told-2 : tie.Need-enum-told-2
+enum-told-2 c = search prices
+
+refusal-of-requires-2 : tie.Need-refusal-of-requires-2
+refusal-of-requires-2 c κs = search prices
+
+returns-2 : tie.Need-returns-2
+unfolding halve
+returns-2 c = search prices
+
+is-small-requires : tie.Need-is-small-requires
+is-small-requires c κs = search prices
+
+returns-3 : tie.Need-returns-3
+unfolding halve
+returns-3 c = search prices
+
+not-finite-requires : tie.Need-not-finite-requires
+not-finite-requires c κs = search prices
+
+returns-4 : tie.Need-returns-4
+unfolding halve
+returns-4 c = search prices
+
+is-small-requires-2 : tie.Need-is-small-requires-2
+is-small-requires-2 c κs = search prices
+
+returns-5 : tie.Need-returns-5
+unfolding halve
+returns-5 c = search prices
+
+from-lower-requires : tie.Need-from-lower-requires
+from-lower-requires c κs = search prices
+
+returns-6 : tie.Need-returns-6
+unfolding halve
+returns-6 c = search (prices, same-bracket, c .before .before .before .before .before .before .before .before .before .before .before .before .before .before .before .before .before .midpoint-at .ensures, c .before .before .before .before .before .before .before .before .before .before .before .before .before .before .before .a .given .1, c .before .before .before .before .before .before .before .before .before .before .before .before .objective .ensures, c .before .before .before .before .before .before .before .before .before .before .y .given .1, c .before .before .before .before .before .before .before .before .is-small .ensures, c .before .before .before .before .before .before .before .if1 .left, c .before .before .before .before .before .not-finite .ensures, c .before .before .before .before .if2 .left, c .before .before .before .is-small2 .ensures, c .before .before .if3 .left, c .before .if4 .taken, c .from-lower .ensures) depth 30 fits 4000
+
+to-upper-requires : tie.Need-to-upper-requires
+to-upper-requires c κs = search prices
+
+returns-7 : tie.Need-returns-7
+unfolding halve
+returns-7 c = search (prices, same-bracket, c .before .before .before .before .before .before .before .before .before .before .before .before .before .before .before .before .before .midpoint-at .ensures, c .before .before .before .before .before .before .before .before .before .before .before .before .before .before .before .a .given .1, c .before .before .before .before .before .before .before .before .before .before .before .before .objective .ensures, c .before .before .before .before .before .before .before .before .before .before .y .given .1, c .before .before .before .before .before .before .before .before .is-small .ensures, c .before .before .before .before .before .before .before .if1 .left, c .before .before .before .before .before .not-finite .ensures, c .before .before .before .before .if2 .left, c .before .before .before .is-small2 .ensures, c .before .before .if3 .left, c .before .if4 .left, c .to-upper .ensures) depth 30 fits 4000
+
+pub halve-spec : {M : Type 1} → statement M
+halve-spec =
+    tie.close
+    (tie.spec
+    midpoint-at-requires
+    enum-known-a
+    enum-told
+    refusal-of-requires
+    returns
+    add-evaluations
+    objective-requires
+    enum-known-y
+    enum-told-2
+    refusal-of-requires-2
+    returns-2
+    is-small-requires
+    returns-3
+    not-finite-requires
+    returns-4
+    is-small-requires-2
+    returns-5
+    from-lower-requires
+    returns-6
+    to-upper-requires
+    returns-7)

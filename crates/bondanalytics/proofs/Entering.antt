@@ -1,0 +1,97 @@
+-- The two yield entries in the shape that `search` wants: the checks, the rate definition, and what is then done with it. Assumes nothing.
+use Prim.Native.Nat.{ℕ}
+use mathlib.Core.Path.{_≡_, sym, ap, _∙_}
+use mathlib.Core.List.{List, []}
+use lib.Ieee.{Float}
+use lib.ListN.{length}
+use Rattle.elementary.specs.declared.Refusal.{Refusal}
+use Rattle.elementary.specs.Answers.{plusZero}
+use Rattle.terms.specs.declared.Check.{Check}
+use Rattle.terms.specs.declared.Check.the-variants as check
+use Rattle.terms.specs.Numbers.{million, targetLimit}
+use Rattle.terms.specs.Terms.{Leg}
+use Rattle.terms.specs.Outcomes.{Outcome, onOutcome}
+use Rattle.terms.specs.Checks.{onCheck}
+use Rattle.terms.specs.Entries.{yieldChecks, priceChecks, targetChecks}
+use Rattle.terms.specs.laws.TermChecks.{leg-counted}
+use Rattle.terms.specs.laws.EntryChecks.{yield-terms}
+use Rattle.bondanalytics.specs.declared.RateDefinition.{RateDefinition}
+use Rattle.bondanalytics.specs.declared.FoundRate.{FoundRate}
+use Rattle.bondanalytics.specs.declared.FoundRate.the-variants.{Given, Refused}
+use Rattle.bondanalytics.specs.declared.YieldPrice.{YieldPrice}
+use Rattle.bondanalytics.specs.declared.YieldPrice.the-variants as price
+use Rattle.bondanalytics.specs.declared.Root.{Root}
+use Rattle.bondanalytics.specs.declared.Root.the-variants as root
+use Rattle.bondanalytics.specs.Rates.{rateOf, rateCheck, lowestYield}
+use Rattle.bondanalytics.specs.Prices.{flows}
+use Rattle.bondanalytics.specs.Yields.{priceAndDerivative, priceFromYield, objective, firstLower, firstUpper, solveYield, yieldFromPrice}
+use Rattle.bondanalytics.specs.Brackets.{bracketedRoot}
+use Rattle.bondanalytics.specs.declared.Priced.the-variants.{Yield}
+use Rattle.bondanalytics.specs.laws.Seeking.{soughtAt}
+use Rattle.bondanalytics.specs.laws.Found.{foundRate, foundCheck, found-check}
+
+module _ (limit x : Float) (settlement : ℕ) (leg : Leg) (compounding code : ℕ) (f : FoundRate) {w s : Check} (e : foundRate f ≡ rateOf compounding code) (k : w ≡ foundCheck f) (h : s ≡ yieldChecks limit settlement leg x w) where
+  checked : s ≡ yieldChecks limit settlement leg x (rateCheck compounding code)
+  checked = h ∙ ap (yieldChecks limit settlement leg x) (k ∙ found-check compounding code f e)
+
+  -- Checks that passed give as many amounts as days.
+  pub same-count : s ≡ check.Passed → length (leg .amounts) ≡ length (leg .days)
+  same-count p = leg-counted leg (yield-terms limit settlement leg x w (sym h ∙ p) .0 .counted) .amounts-too
+
+  module _ {A : Type 0} (refuse : Refusal → A) (go : RateDefinition → A) where
+    abbrev entered : A
+    entered = onCheck (yieldChecks limit settlement leg x (rateCheck compounding code)) refuse (onOutcome (rateOf compounding code) refuse go)
+
+    refused : {q : Refusal} → s ≡ check.Refused q → refuse q ≡ entered
+    unfolding onCheck
+    refused v = ap (λ (z : Check). onCheck z refuse (onOutcome (rateOf compounding code) refuse go)) (sym v ∙ checked)
+
+    passed : s ≡ check.Passed → onOutcome (foundRate f) refuse go ≡ entered
+    unfolding onCheck
+    passed v =
+        ap (λ (z : Outcome RateDefinition). onOutcome z refuse go) e
+        ∙ ap (λ (z : Check). onCheck z refuse (onOutcome (rateOf compounding code) refuse go)) (sym v ∙ checked)
+
+    given : {d : RateDefinition} → s ≡ check.Passed → f ≡ Given d → go d ≡ entered
+    unfolding onOutcome
+    given v g = rw g at (passed v)
+
+    unknown : {q : Refusal} → s ≡ check.Passed → f ≡ Refused q → refuse q ≡ entered
+    unfolding onOutcome
+    unknown v g = rw g at (passed v)
+
+module _ (settlement : ℕ) (leg : Leg) (compounding code : ℕ) (x : Float) (f : FoundRate) {w s : Check} (e : foundRate f ≡ rateOf compounding code) (k : w ≡ foundCheck f) where
+  module _ (h : s ≡ priceChecks settlement leg x w) where
+    pub price-refused : {q : Refusal} → s ≡ check.Refused q → price.Refused q ≡ priceFromYield settlement leg compounding code x
+    unfolding priceFromYield
+    price-refused v = refused million x settlement leg compounding code f e k h price.Refused (λ rate. priceAndDerivative settlement leg rate x) v
+
+    pub price-unknown : {q : Refusal} → s ≡ check.Passed → f ≡ Refused q → price.Refused q ≡ priceFromYield settlement leg compounding code x
+    unfolding priceFromYield
+    price-unknown v g = unknown million x settlement leg compounding code f e k h price.Refused (λ rate. priceAndDerivative settlement leg rate x) v g
+
+    pub price-given : {d : RateDefinition} {r : YieldPrice} → s ≡ check.Passed → f ≡ Given d → r ≡ flows x (d .compounding) settlement (leg .days) (leg .amounts) plusZero plusZero → r ≡ priceFromYield settlement leg compounding code x
+    unfolding priceFromYield
+    price-given v g p = p ∙ given million x settlement leg compounding code f e k h price.Refused (λ rate. priceAndDerivative settlement leg rate x) v g
+
+  module _ (h : s ≡ targetChecks settlement leg x w) where
+    pub yield-refused : {q : Refusal} → s ≡ check.Refused q → root.Refused q 0 ≡ yieldFromPrice settlement leg compounding code x
+    unfolding yieldFromPrice
+    yield-refused v = refused targetLimit x settlement leg compounding code f e k h (λ r. root.Refused r 0) (λ rate. solveYield settlement leg rate x) v
+
+    pub yield-unknown : {q : Refusal} → s ≡ check.Passed → f ≡ Refused q → root.Refused q 0 ≡ yieldFromPrice settlement leg compounding code x
+    unfolding yieldFromPrice
+    yield-unknown v g = unknown targetLimit x settlement leg compounding code f e k h (λ r. root.Refused r 0) (λ rate. solveYield settlement leg rate x) v g
+
+    -- The kinds play no part.
+    pub yield-given : {d : RateDefinition} {r : Root} → s ≡ check.Passed → f ≡ Given d → r ≡ solveYield settlement (record { days = leg .days; kinds = []; amounts = leg .amounts }) d x → r ≡ yieldFromPrice settlement leg compounding code x
+    unfolding yieldFromPrice objective
+    yield-given v g p = p ∙ given targetLimit x settlement leg compounding code f e k h (λ r. root.Refused r 0) (λ rate. solveYield settlement leg rate x) v g
+
+-- The solver's call, with the lowest yield that it is given.
+pub solves : (settlement : ℕ) (days : List ℕ) (amounts : List Float) (rate : RateDefinition) (target : Float) {l : Float} {r : Root}
+    → r ≡ bracketedRoot (soughtAt (record { priced = Yield; rate = rate; settlement = settlement; target = target }) days amounts) firstLower firstUpper l
+    → l ≡ lowestYield (rate .compounding)
+    → r ≡ solveYield settlement (record { days = days; kinds = []; amounts = amounts }) rate target
+solves settlement days amounts rate target p m =
+    p ∙ ap (bracketedRoot (soughtAt (record { priced = Yield; rate = rate; settlement = settlement; target = target }) days amounts) firstLower firstUpper) m

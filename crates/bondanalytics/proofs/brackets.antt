@@ -1,0 +1,2 @@
+-- What the proof of moving the lower end uses.
+pub mod Lowering

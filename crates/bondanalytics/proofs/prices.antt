@@ -1,0 +1,2 @@
+-- What the proof of the loop over the cashflows uses.
+mod Flowing

@@ -1,0 +1,2 @@
+-- What the proofs of the solver's loops use.
+mod Rounds

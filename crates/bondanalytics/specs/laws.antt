@@ -1,0 +1,4 @@
+-- Laws of rates, prices and brackets that proofs and the crates above may cite.
+pub mod Found
+pub mod Seeking
+pub mod Evaluations

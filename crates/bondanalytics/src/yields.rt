@@ -1,0 +1,127 @@
+// The entries: price from yield, and yield from price.
+use crate::FoundRate;
+use crate::Priced;
+use crate::RateDefinition;
+use crate::Root;
+use crate::Sought;
+use crate::YieldPrice;
+use crate::prices::yield_price_and_derivative;
+use crate::rates::lowest_yield;
+use crate::rates::rate_check;
+use crate::rates::rate_of;
+use crate::solver::bracketed_root;
+use terms::Check;
+use terms::entries::price_checks;
+use terms::entries::target_checks;
+ghost use mathlib.Core.Path.{_≡_};
+ghost use mathlib.Core.List.{[]};
+ghost use lib.ListN.{length};
+ghost use Rattle.terms.specs.Terms.{Leg};
+ghost use Rattle.bondanalytics.specs.Yields.{priceFromYield, yieldFromPrice, solveYield};
+
+impl Sought {
+    // The ends of the first bracket of a yield.
+    pub const LOWER: f64 = -0.05;
+
+    pub const UPPER: f64 = 0.1;
+}
+
+// The price of the cashflows at a yield, and its derivative.
+pub fn price_from_yield(
+    settlement: u32,
+    cashflow_days: &[u32],
+    cashflow_kinds: &[u8],
+    cashflow_amounts: &[f64],
+    compounding: u32,
+    frequency: u32,
+    y: f64,
+) -> YieldPrice
+    ensures { λ r. ⌜ r ≡ priceFromYield settlement (record { days = now («cashflow_days» .entry); kinds = now («cashflow_kinds» .entry); amounts = now («cashflow_amounts» .entry) }) compounding frequency y ⌝ }
+{
+    let found = rate_of(compounding, frequency);
+    let checked = price_checks(
+        settlement,
+        cashflow_days,
+        cashflow_kinds,
+        cashflow_amounts,
+        y,
+        rate_check(found),
+    );
+    if let Check::Refused(q) = checked {
+        return YieldPrice::Refused(q);
+    }
+    match found {
+        FoundRate::Given(rate) => yield_price_and_derivative(
+            settlement,
+            cashflow_days,
+            cashflow_amounts,
+            rate,
+            y,
+        ),
+        FoundRate::Refused(q) => YieldPrice::Refused(q),
+    }
+}
+
+// The yield at which the cashflows are worth the target.
+fn solve_yield(
+    settlement: u32,
+    days: &[u32],
+    amounts: &[f64],
+    rate: RateDefinition,
+    target: f64,
+) -> Root
+    requires { ⌜ length (now amounts) ≡ length (now days) ⌝ }
+    ensures { λ r. ⌜ r ≡ solveYield settlement (record { days = now (days .entry); kinds = []; amounts = now (amounts .entry) }) rate target ⌝ }
+{
+    let sought = Sought {
+        priced: Priced::Yield,
+        rate,
+        settlement,
+        target,
+    };
+    let compounding = rate.compounding;
+    bracketed_root(
+        sought,
+        days,
+        amounts,
+        Sought::LOWER,
+        Sought::UPPER,
+        lowest_yield(compounding),
+    )
+}
+
+// The yield at which the cashflows are worth the target, and the evaluations made.
+pub fn yield_from_price(
+    settlement: u32,
+    cashflow_days: &[u32],
+    cashflow_kinds: &[u8],
+    cashflow_amounts: &[f64],
+    compounding: u32,
+    frequency: u32,
+    target: f64,
+) -> Root
+    ensures { λ r. ⌜ r ≡ yieldFromPrice settlement (record { days = now («cashflow_days» .entry); kinds = now («cashflow_kinds» .entry); amounts = now («cashflow_amounts» .entry) }) compounding frequency target ⌝ }
+{
+    let found = rate_of(compounding, frequency);
+    let checked = target_checks(
+        settlement,
+        cashflow_days,
+        cashflow_kinds,
+        cashflow_amounts,
+        target,
+        rate_check(found),
+    );
+    if let Check::Refused(q) = checked {
+        return Root::Refused(q, 0);
+    }
+    match found {
+        FoundRate::Given(rate) => solve_yield(
+            settlement,
+            cashflow_days,
+            cashflow_amounts,
+            rate,
+            target,
+        ),
+        FoundRate::Refused(q) => Root::Refused(q, 0),
+    }
+}

@@ -1,0 +1,2 @@
+pub mod Flowing
+pub mod Entering

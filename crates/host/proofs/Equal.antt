@@ -1,0 +1,22 @@
+-- What is handed over of an answer is handed over of the definition that it equals. Assumes nothing.
+use Prim.Native.Nat.{ℕ}
+use mathlib.Core.Path.{_≡_}
+use mathlib.Core.List.{List}
+use lib.Ieee.{Float}
+use Rattle.elementary.specs.declared.Answer.{Answer}
+use Rattle.bondevents.specs.declared.GridAnswer.{GridAnswer}
+use Rattle.bondanalytics.specs.declared.YieldPrice.{YieldPrice}
+use Rattle.bondanalytics.specs.declared.Root.{Root}
+use Rattle.host.specs.Handed.{Handed, HandedGrid, HandedPrice, HandedRoot}
+
+pub handed-as : {a b : Answer} {result place : ℕ} {value : Float} → a ≡ b → Handed a result place value → Handed b result place value
+handed-as e h = rw (← e) h
+
+pub grid-as : {a b : GridAnswer} {result place steps : ℕ} {maturity : Float} {cashflows prices : List Float} {marks : List ℕ} → a ≡ b → HandedGrid a result place maturity steps cashflows marks prices → HandedGrid b result place maturity steps cashflows marks prices
+grid-as e h = rw (← e) h
+
+pub price-as : {a b : YieldPrice} {result place : ℕ} {price derivative : Float} → a ≡ b → HandedPrice a result place price derivative → HandedPrice b result place price derivative
+price-as e h = rw (← e) h
+
+pub root-as : {a b : Root} {result place evaluations : ℕ} {value : Float} → a ≡ b → HandedRoot a result place value evaluations → HandedRoot b result place value evaluations
+root-as e h = rw (← e) h
