@@ -1,4 +1,6 @@
 //! Nanoseconds per call of the proved functions beside Rust code of the same rules, in one run.
+mod entries;
+
 use reading::{elementary as reading01, Answer};
 use std::hint::black_box;
 use std::time::Instant;
@@ -81,4 +83,5 @@ fn main() {
     let c = spread(-20.0, 20.0);
     line("mul_add", timed(|i| host::mul_add(a[i], b[i], c[i])), timed(|i| fused(a[i], b[i], c[i])));
     println!("sqrt and mul_add stand beside the hardware's root and the C library's fma; the others beside the same rules in Rust.");
+    entries::run();
 }
