@@ -1,6 +1,14 @@
 // Price from yield, yield from price, and the bracketed root.
 use elementary::Refusal;
 
+pub mod brackets;
+pub mod objectives;
+pub mod prices;
+pub mod rates;
+mod refusals;
+pub mod solver;
+pub mod yields;
+
 // How often interest is compounded in a year.
 pub enum Frequency {
     Annual,
@@ -100,11 +108,3 @@ pub struct Sought {
     pub settlement: u32,
     pub target: f64,
 }
-
-pub mod brackets;
-pub mod objectives;
-pub mod prices;
-pub mod rates;
-mod refusals;
-pub mod solver;
-pub mod yields;

@@ -66,7 +66,7 @@ module _ (objective : Float → Answer) (first : Bracket) where
     pub halving-goes-on : {s : Halved} (c : Bracket) → s ≡ halve objective b → s ≡ halved.Next c → Halving (left - 1) c
     unfolding onHalved
     halving-goes-on c e v =
-        let k : c .evaluations ≤ b .evaluations + 1 = subst (HalvedWithin (b .evaluations + 1)) (sym e ∙ v) (halve-within objective b) .count in
+        let k : c .evaluations ≤ b .evaluations + 1 = subst (HalvedWithin (b .evaluations + 1)) (sym e ∙ v) (halve-within objective b .it) in
         record { room = omega (arith, g .room); rest = rw v at (halving-by e) }
 
     pub halving-finds : {s : Halved} (x : Float) (n : ℕ) → s ≡ halve objective b → s ≡ halved.Found x n → Found x n ≡ halving objective 256 first
@@ -102,18 +102,18 @@ module _ (objective : Float → Answer) (lowest : Float) (first : Bracket) where
     widening-by e = rw e (sym (widening-round left b some) ∙ g .rest)
 
     bounded : {s : Widened} → s ≡ widen objective lowest b → WidenedWithin (b .evaluations + 2) s
-    bounded e = subst (WidenedWithin (b .evaluations + 2)) (sym e) (widen-within objective lowest b)
+    bounded e = subst (WidenedWithin (b .evaluations + 2)) (sym e) (widen-within objective lowest b .it)
 
     pub widening-goes-on : {s : Widened} (c : Bracket) → s ≡ widen objective lowest b → s ≡ widened.Next c → Widening (left - 1) c
     unfolding onWidened
     widening-goes-on c e v =
-        let k : c .evaluations ≤ b .evaluations + 2 = rw v at (bounded e .count) in
+        let k : c .evaluations ≤ b .evaluations + 2 = rw v at (bounded e) in
         record { room = omega (arith, g .room); rest = rw v at (widening-by e) }
 
     -- A last bracket has room for the halvings.
     pub last-room : {s : Widened} (c : Bracket) → s ≡ widen objective lowest b → s ≡ widened.Last c → c .evaluations ≤ 130
     last-room c e v =
-        let k : c .evaluations ≤ b .evaluations + 2 = rw v at (bounded e .count) in
+        let k : c .evaluations ≤ b .evaluations + 2 = rw v at (bounded e) in
         omega (arith, g .room)
 
     pub widening-settles : {s : Widened} {r : Root} (c : Bracket) → s ≡ widen objective lowest b → s ≡ widened.Last c → r ≡ settled objective c → r ≡ widening objective lowest 64 first
