@@ -1,1 +1,2 @@
 pub mod Variance
+pub mod laws

@@ -1,0 +1,136 @@
+-- `replay::grids::same` is safe: no part of a list is longer than its eight places. Assumes nothing.
+use native.Mathlib.Omega.{arith}
+use mathlib.Core.Path.{sym}
+use lib.Seq.{length-take-le}
+use borrow.Author.Needs.{needs}
+use Rattle.replay.proofs.grids.same.Statement.{statement}
+use Rattle.replay.proofs.grids.same.Tie as tie
+
+number-requires : tie.Need-number-requires
+number-requires c κs = search needs
+
+cast-flows : tie.Need-cast-flows
+cast-flows c = search needs
+
+number-requires-2 : tie.Need-number-requires-2
+number-requires-2 c κs = search needs
+
+cast-entries : tie.Need-cast-entries
+cast-entries c = search needs
+
+returns : tie.Need-returns
+returns c = search needs
+
+returns-2 : tie.Need-returns-2
+returns-2 c = search needs
+
+eight-numbers-requires : tie.Need-eight-numbers-requires
+eight-numbers-requires c κs = search needs
+
+eight-bytes-requires : tie.Need-eight-bytes-requires
+eight-bytes-requires c κs = search needs
+
+eight-floats-requires : tie.Need-eight-floats-requires
+eight-floats-requires c κs = search needs
+
+eight-numbers-requires-2 : tie.Need-eight-numbers-requires-2
+eight-numbers-requires-2 c κs = search needs
+
+eight-numbers-requires-3 : tie.Need-eight-numbers-requires-3
+eight-numbers-requires-3 c κs = search needs
+
+eight-floats-requires-2 : tie.Need-eight-floats-requires-2
+eight-floats-requires-2 c κs = search needs
+
+number-requires-3 : tie.Need-number-requires-3
+number-requires-3 c κs = search needs
+
+array-share-prefix-days : tie.Need-array-share-prefix-days
+array-share-prefix-days c = search needs
+
+slice-aggregate-bond-event-grid : tie.Need-slice-aggregate-bond-event-grid
+slice-aggregate-bond-event-grid c = sym (length-take-le _ _ (omega arith))
+
+array-share-prefix-kinds : tie.Need-array-share-prefix-kinds
+array-share-prefix-kinds c = search needs
+
+slice-aggregate-bond-event-grid-2 : tie.Need-slice-aggregate-bond-event-grid-2
+slice-aggregate-bond-event-grid-2 c = sym (length-take-le _ _ (omega arith))
+
+array-share-prefix-amounts : tie.Need-array-share-prefix-amounts
+array-share-prefix-amounts c = search needs
+
+slice-aggregate-bond-event-grid-3 : tie.Need-slice-aggregate-bond-event-grid-3
+slice-aggregate-bond-event-grid-3 c = sym (length-take-le _ _ (omega arith))
+
+float-requires : tie.Need-float-requires
+float-requires c κs = search needs
+
+array-share-prefix-starts : tie.Need-array-share-prefix-starts
+array-share-prefix-starts c = search needs
+
+slice-aggregate-bond-event-grid-4 : tie.Need-slice-aggregate-bond-event-grid-4
+slice-aggregate-bond-event-grid-4 c = sym (length-take-le _ _ (omega arith))
+
+array-share-prefix-ends : tie.Need-array-share-prefix-ends
+array-share-prefix-ends c = search needs
+
+slice-aggregate-bond-event-grid-5 : tie.Need-slice-aggregate-bond-event-grid-5
+slice-aggregate-bond-event-grid-5 c = sym (length-take-le _ _ (omega arith))
+
+array-share-prefix-strikes : tie.Need-array-share-prefix-strikes
+array-share-prefix-strikes c = search needs
+
+slice-aggregate-bond-event-grid-6 : tie.Need-slice-aggregate-bond-event-grid-6
+slice-aggregate-bond-event-grid-6 c = sym (length-take-le _ _ (omega arith))
+
+number-requires-4 : tie.Need-number-requires-4
+number-requires-4 c κs = search needs
+
+number-requires-5 : tie.Need-number-requires-5
+number-requires-5 c κs = search needs
+
+bond-event-grid-requires : tie.Need-bond-event-grid-requires
+bond-event-grid-requires c κs = search needs
+
+same-grid-requires : tie.Need-same-grid-requires
+same-grid-requires c κs = search needs
+
+returns-3 : tie.Need-returns-3
+returns-3 c = search needs
+
+pub same-spec : {M : Type 1} → statement M
+same-spec =
+    tie.close
+    (tie.spec
+    number-requires
+    cast-flows
+    number-requires-2
+    cast-entries
+    returns
+    returns-2
+    eight-numbers-requires
+    eight-bytes-requires
+    eight-floats-requires
+    eight-numbers-requires-2
+    eight-numbers-requires-3
+    eight-floats-requires-2
+    number-requires-3
+    array-share-prefix-days
+    slice-aggregate-bond-event-grid
+    array-share-prefix-kinds
+    slice-aggregate-bond-event-grid-2
+    array-share-prefix-amounts
+    slice-aggregate-bond-event-grid-3
+    float-requires
+    array-share-prefix-starts
+    slice-aggregate-bond-event-grid-4
+    array-share-prefix-ends
+    slice-aggregate-bond-event-grid-5
+    array-share-prefix-strikes
+    slice-aggregate-bond-event-grid-6
+    number-requires-4
+    number-requires-5
+    bond-event-grid-requires
+    same-grid-requires
+    returns-3)

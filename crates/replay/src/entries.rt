@@ -1,0 +1,46 @@
+// The elementary functions, kinds 1 to 11.
+
+use crate::record::float;
+use crate::record::number;
+use elementary::Answer;
+
+fn answer_to(kind: u64, a: f64, b: f64, c: f64) -> Answer {
+    match kind {
+        1 => elementary::sqrt::sqrt(a),
+        2 => elementary::round::round(a),
+        3 => elementary::ceil::ceil(a),
+        4 => elementary::max::max(a, b),
+        5 => elementary::min::min(a, b),
+        6 => elementary::exp::exp(a),
+        7 => elementary::exp_m1::exp_m1(a),
+        8 => elementary::ln::ln(a),
+        9 => elementary::powf::powf(a, b),
+        10 => elementary::mul_add::mul_add(a, b, c),
+        _ => elementary::midpoint::midpoint(a, b),
+    }
+}
+
+// Whether an answer is the number, the place and the value that a record holds.
+fn is_answer(answer: Answer, number: u32, place: u32, value: f64) -> bool {
+    match answer {
+        Answer::Value(x) => number == 0 && place == 0 && x == value,
+        Answer::Refused(refusal) => refusal.number == number
+            && refusal.place == place
+            && value == 0.0,
+    }
+}
+
+pub fn same(kind: u64, record: &[u8; 1280]) -> bool {
+    let answer = answer_to(
+        kind,
+        float(record, 73),
+        float(record, 74),
+        float(record, 75),
+    );
+    is_answer(
+        answer,
+        number(record, 80),
+        number(record, 81),
+        float(record, 82),
+    )
+}

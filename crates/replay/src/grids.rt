@@ -1,0 +1,135 @@
+// The event grid, kind 12: at most 8 cashflows, 4 call entries and 24 steps.
+
+use crate::record::byte;
+use crate::record::float;
+use crate::record::number;
+use bondevents::GridAnswer;
+ghost use mathlib.Core.Path.{_≡_};
+ghost use lib.ListN.{length};
+
+// Whether a step is what the record holds of it.
+fn same_step(record: &[u8; 1280], step: usize, cashflow: f64, marked: bool, price: f64) -> bool {
+    if step > 24 {
+        return false;
+    }
+    let mark = number(record, 110 + step) == 1;
+    mark == marked && cashflow == float(record, 85 + step) && price == float(record, 135 + step)
+}
+
+fn same_steps(answer: GridAnswer, record: &[u8; 1280]) -> bool {
+    let grid = answer.grid;
+    let flows = grid.cashflows;
+    let calls = grid.calls;
+    let mut step: usize = 0;
+    while step < 25 {
+        let call = calls[step];
+        if !same_step(record, step, flows[step], call.marked, call.call_price) {
+            return false;
+        }
+        step += 1;
+    }
+    true
+}
+
+fn same_grid(answer: GridAnswer, record: &[u8; 1280]) -> bool {
+    let refusal = answer.refusal;
+    let grid = answer.grid;
+    if refusal.number != number(record, 80) {
+        return false;
+    }
+    if refusal.place != number(record, 81) {
+        return false;
+    }
+    if grid.steps != number(record, 84) {
+        return false;
+    }
+    if grid.maturity_time != float(record, 82) {
+        return false;
+    }
+    same_steps(answer, record)
+}
+
+fn eight_numbers(r: &[u8; 1280], at: usize) -> [u32; 8]
+    ensures { λ r. ⌜ length r ≡ 8 ⌝ }
+{
+    if at > 150 {
+        return [0; 8];
+    }
+    [
+        number(r, at),
+        number(r, at + 1),
+        number(r, at + 2),
+        number(r, at + 3),
+        number(r, at + 4),
+        number(r, at + 5),
+        number(r, at + 6),
+        number(r, at + 7),
+    ]
+}
+
+fn eight_bytes(r: &[u8; 1280], at: usize) -> [u8; 8]
+    ensures { λ r. ⌜ length r ≡ 8 ⌝ }
+{
+    if at > 150 {
+        return [0; 8];
+    }
+    [
+        byte(r, at),
+        byte(r, at + 1),
+        byte(r, at + 2),
+        byte(r, at + 3),
+        byte(r, at + 4),
+        byte(r, at + 5),
+        byte(r, at + 6),
+        byte(r, at + 7),
+    ]
+}
+
+fn eight_floats(r: &[u8; 1280], at: usize) -> [f64; 8]
+    ensures { λ r. ⌜ length r ≡ 8 ⌝ }
+{
+    if at > 150 {
+        return [0.0; 8];
+    }
+    [
+        float(r, at),
+        float(r, at + 1),
+        float(r, at + 2),
+        float(r, at + 3),
+        float(r, at + 4),
+        float(r, at + 5),
+        float(r, at + 6),
+        float(r, at + 7),
+    ]
+}
+
+// The inputs that a record holds: of the lists the first `flows` and the first `entries` count.
+pub fn same(record: &[u8; 1280]) -> bool {
+    let flows = number(record, 2) as usize;
+    let entries = number(record, 28) as usize;
+    if flows > 8 {
+        return false;
+    }
+    if entries > 4 {
+        return false;
+    }
+    let days = eight_numbers(record, 3);
+    let kinds = eight_bytes(record, 11);
+    let amounts = eight_floats(record, 19);
+    let starts = eight_numbers(record, 29);
+    let ends = eight_numbers(record, 33);
+    let strikes = eight_floats(record, 37);
+    let answer = bondevents::grid::bond_event_grid(
+        number(record, 1),
+        &days[..flows],
+        &kinds[..flows],
+        &amounts[..flows],
+        float(record, 27),
+        &starts[..entries],
+        &ends[..entries],
+        &strikes[..entries],
+        number(record, 41),
+        number(record, 42),
+    );
+    same_grid(answer, record)
+}

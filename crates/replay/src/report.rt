@@ -1,0 +1,67 @@
+// How many records were replayed and how many differ.
+
+use std::num::wrapping_add_u64;
+
+pub struct Tally {
+    elementary: u64,
+    elementary_differ: u64,
+    grid: u64,
+    grid_differ: u64,
+    unknown: u64,
+}
+
+fn one_more(count: u64) -> u64 {
+    wrapping_add_u64(count, 1)
+}
+
+fn one_more_unless(same: bool, count: u64) -> u64 {
+    if same {
+        return count;
+    }
+    one_more(count)
+}
+
+fn write_line(name: &[u8], replayed: u64, differ: u64) {
+    io::write_all(1, name);
+    io::print_decimal(1, replayed);
+    io::write_all(1, b" replayed, ");
+    io::print_decimal(1, differ);
+    io::write_all(1, b" differ\n");
+}
+
+impl Tally {
+    pub fn new() -> Self {
+        Tally {
+            elementary: 0,
+            elementary_differ: 0,
+            grid: 0,
+            grid_differ: 0,
+            unknown: 0,
+        }
+    }
+
+    pub fn elementary(mut self, same: bool) -> Self {
+        self.elementary = one_more(self.elementary);
+        self.elementary_differ = one_more_unless(same, self.elementary_differ);
+        self
+    }
+
+    pub fn grid(mut self, same: bool) -> Self {
+        self.grid = one_more(self.grid);
+        self.grid_differ = one_more_unless(same, self.grid_differ);
+        self
+    }
+
+    pub fn unknown(mut self) -> Self {
+        self.unknown = one_more(self.unknown);
+        self
+    }
+
+    pub fn write(self) {
+        write_line(b"elementary ", self.elementary, self.elementary_differ);
+        write_line(b"grid ", self.grid, self.grid_differ);
+        io::write_all(1, b"unknown ");
+        io::print_decimal(1, self.unknown);
+        io::write_all(1, b"\n");
+    }
+}
