@@ -40,6 +40,15 @@ pub fn run() {
         return;
     }
     println!("entry                                     Gutirapeo    published text   ratio");
+    println!("with document 01's functions:");
+    measured();
+    println!("with the platform's functions:");
+    published::PLATFORM.store(true, std::sync::atomic::Ordering::Relaxed);
+    measured();
+    published::PLATFORM.store(false, std::sync::atomic::Ordering::Relaxed);
+}
+
+fn measured() {
     let mut leg = flows(255, 40, 2.0);
     for kind in leg.kinds.iter_mut().step_by(4) {
         *kind = 1;

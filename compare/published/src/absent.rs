@@ -30,3 +30,5 @@ pub fn yield_of(_: u32, _: &Leg, _: u32, _: u32, _: f64) -> Option<f64> {
 pub fn yield_with(_: &mut dyn FnMut(f64) -> f64, _: f64, _: f64, _: f64) -> Option<f64> {
     None
 }
+
+pub static PLATFORM: core::sync::atomic::AtomicBool = core::sync::atomic::AtomicBool::new(false);

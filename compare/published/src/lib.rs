@@ -12,10 +12,14 @@ mod stand_ins;
 #[cfg(published)]
 mod text;
 #[cfg(published)]
+pub use stand_ins::PLATFORM;
+#[cfg(published)]
 pub use text::{grid, node_count, price, straight, tree, yield_of, yield_with};
 
 #[cfg(not(published))]
 mod absent;
+#[cfg(not(published))]
+pub use absent::PLATFORM;
 #[cfg(not(published))]
 pub use absent::{grid, node_count, price, straight, tree, yield_of, yield_with};
 

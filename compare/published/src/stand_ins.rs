@@ -23,31 +23,46 @@ pub trait Elementary {
     fn ceil(self) -> f64;
 }
 
-impl Elementary for f64 {
-    fn exp(self) -> f64 {
-        or_unwind(reading01::exp_at(self, 0))
+/// Set to measure the text with the platform's functions instead of document 01's.
+pub static PLATFORM: core::sync::atomic::AtomicBool = core::sync::atomic::AtomicBool::new(false);
+
+/// The C library's functions, which are the platform's.
+mod platform {
+    extern "C" {
+        pub fn exp(x: f64) -> f64;
+        pub fn expm1(x: f64) -> f64;
+        pub fn log(x: f64) -> f64;
+        pub fn sqrt(x: f64) -> f64;
+        pub fn pow(x: f64, y: f64) -> f64;
+        pub fn fma(x: f64, y: f64, z: f64) -> f64;
+        pub fn round(x: f64) -> f64;
+        pub fn ceil(x: f64) -> f64;
     }
-    fn exp_m1(self) -> f64 {
-        or_unwind(reading01::exp_m1_at(self, 0))
-    }
-    fn ln(self) -> f64 {
-        or_unwind(reading01::ln_at(self, 0))
-    }
-    fn sqrt(self) -> f64 {
-        or_unwind(reading01::sqrt_at(self, 0))
-    }
-    fn powf(self, p: f64) -> f64 {
-        or_unwind(reading01::powf_at(self, p, 0))
-    }
-    fn mul_add(self, a: f64, b: f64) -> f64 {
-        or_unwind(reading01::mul_add_at(self, a, b, 0))
-    }
-    fn round(self) -> f64 {
-        or_unwind(reading01::round_at(self, 0))
-    }
-    fn ceil(self) -> f64 {
-        or_unwind(reading01::ceil_at(self, 0))
-    }
+}
+
+macro_rules! elementary {
+    ($($name:ident($($argument:ident),*) = $reading:ident, $platform:ident;)+) => {
+        impl Elementary for f64 {$(
+            fn $name(self, $($argument: f64),*) -> f64 {
+                if PLATFORM.load(core::sync::atomic::Ordering::Relaxed) {
+                    unsafe { platform::$platform(self, $($argument),*) }
+                } else {
+                    or_unwind(reading01::$reading(self, $($argument,)* 0))
+                }
+            }
+        )+}
+    };
+}
+
+elementary! {
+    exp() = exp_at, exp;
+    exp_m1() = exp_m1_at, expm1;
+    ln() = ln_at, log;
+    sqrt() = sqrt_at, sqrt;
+    powf(p) = powf_at, pow;
+    mul_add(a, b) = mul_add_at, fma;
+    round() = round_at, round;
+    ceil() = ceil_at, ceil;
 }
 
 pub enum QSError {
