@@ -21,7 +21,7 @@ fn half_up(digits: u64, places: u64) -> u64
 
 // The whole number nearest to a finite number. By the exponent's field it lies below 1/2 in size, or is whole, or has
 // `places` binary places.
-pub(crate) fn near(x: f64) -> f64
+pub fn near(x: f64) -> f64
     requires { ⌜ T (finite x) ⌝ }
     ensures { λ r. ⌜ r ≡ rounded x ⌝ }
 {

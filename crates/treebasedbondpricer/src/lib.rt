@@ -1,6 +1,16 @@
 // Trinomial-tree valuation of a callable bond.
 use elementary::Refusal;
 
+mod fit;
+mod layer;
+mod layers;
+mod node;
+mod reach;
+mod refusals;
+mod rows;
+mod walk;
+mod zero;
+
 // From one node to three of the next layer, with their probabilities.
 pub struct Transition {
     pub down: i32,
