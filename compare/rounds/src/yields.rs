@@ -50,11 +50,23 @@ fn solve(tally: &mut Tally, settlement: u32, leg: &Leg, rate: Rate, target: f64)
     }
 }
 
+/// Document 01's two yield examples: Simple, one flow of 1 at 365 days.
+fn examples(tally: &mut Tally) {
+    let leg = Leg { days: vec![365], kinds: vec![1], amounts: vec![1.0] };
+    for (target, refusal, evaluations) in [(-1.0, 29, 66), (1e6, 28, 7)] {
+        let (answer, counted) = host::yield_from_price(0, &leg, 0, 1, target);
+        tally.case(number(&answer), number(&answer) == refusal && counted == evaluations, || {
+            format!("the example with target {target} gives {answer:?} after {counted}, not {refusal} after {evaluations}")
+        });
+    }
+}
+
 pub fn round(long: bool, seed: u64) -> u64 {
     let cases = if long { 1_000_000 } else { 10_000 };
     let mut random = Random(seed);
     let mut prices = Tally::new("price");
     let mut yields = Tally::new("yield");
+    examples(&mut yields);
     for _ in 0..cases {
         let mut t = terms::terms(&mut random);
         if random.below(6) == 0 {

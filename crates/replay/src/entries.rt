@@ -30,7 +30,7 @@ fn is_answer(answer: Answer, number: u32, place: u32, value: f64) -> bool {
     }
 }
 
-pub fn same(kind: u64, record: &[u8; 1280]) -> bool {
+pub(crate) fn same(kind: u64, record: &[u8; 1280]) -> bool {
     let answer = answer_to(
         kind,
         float(record, 73),

@@ -104,7 +104,7 @@ fn eight_floats(r: &[u8; 1280], at: usize) -> [f64; 8]
 }
 
 // The inputs that a record holds: of the lists the first `flows` and the first `entries` count.
-pub fn same(record: &[u8; 1280]) -> bool {
+pub(crate) fn same(record: &[u8; 1280]) -> bool {
     let flows = number(record, 2) as usize;
     let entries = number(record, 28) as usize;
     if flows > 8 {

@@ -21,7 +21,7 @@ fn half(record: &[u8; 1280], at: usize) -> u64
     first + second * 256 + third * 65536 + fourth * 16777216
 }
 
-pub fn word(record: &[u8; 1280], at: usize) -> u64 {
+pub(crate) fn word(record: &[u8; 1280], at: usize) -> u64 {
     if at > 159 {
         return 0;
     }
@@ -31,7 +31,7 @@ pub fn word(record: &[u8; 1280], at: usize) -> u64 {
 }
 
 // A word as a number of 32 bits, the greatest where it does not fit.
-pub fn number(record: &[u8; 1280], at: usize) -> u32 {
+pub(crate) fn number(record: &[u8; 1280], at: usize) -> u32 {
     let n = word(record, at);
     if n > 4294967295 {
         return 4294967295;
@@ -40,7 +40,7 @@ pub fn number(record: &[u8; 1280], at: usize) -> u32 {
 }
 
 // A word as a byte, the greatest where it does not fit.
-pub fn byte(record: &[u8; 1280], at: usize) -> u8 {
+pub(crate) fn byte(record: &[u8; 1280], at: usize) -> u8 {
     let n = word(record, at);
     if n > 255 {
         return 255;
@@ -53,7 +53,7 @@ fn is_nan(bits: u64) -> bool {
 }
 
 // A word as a double, 0 where its bits are a NaN's.
-pub fn float(record: &[u8; 1280], at: usize) -> f64 {
+pub(crate) fn float(record: &[u8; 1280], at: usize) -> f64 {
     let bits = word(record, at);
     if bits % 9223372036854775808 > 9218868437227405312 {
         return 0.0;
@@ -62,7 +62,7 @@ pub fn float(record: &[u8; 1280], at: usize) -> f64 {
 }
 
 // Whether some word of the record is a NaN's bits. No other word is as large as that.
-pub fn any_nan(record: &[u8; 1280]) -> bool {
+pub(crate) fn any_nan(record: &[u8; 1280]) -> bool {
     let mut at: usize = 0;
     while at < 160 {
         if is_nan(word(record, at)) {

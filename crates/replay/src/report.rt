@@ -30,7 +30,7 @@ fn write_line(name: &[u8], replayed: u64, differ: u64) {
 }
 
 impl Tally {
-    pub fn new() -> Self {
+    pub(crate) fn new() -> Self {
         Tally {
             elementary: 0,
             elementary_differ: 0,
@@ -40,24 +40,24 @@ impl Tally {
         }
     }
 
-    pub fn elementary(mut self, same: bool) -> Self {
+    pub(crate) fn elementary(mut self, same: bool) -> Self {
         self.elementary = one_more(self.elementary);
         self.elementary_differ = one_more_unless(same, self.elementary_differ);
         self
     }
 
-    pub fn grid(mut self, same: bool) -> Self {
+    pub(crate) fn grid(mut self, same: bool) -> Self {
         self.grid = one_more(self.grid);
         self.grid_differ = one_more_unless(same, self.grid_differ);
         self
     }
 
-    pub fn unknown(mut self) -> Self {
+    pub(crate) fn unknown(mut self) -> Self {
         self.unknown = one_more(self.unknown);
         self
     }
 
-    pub fn write(self) {
+    pub(crate) fn write(self) {
         write_line(b"elementary ", self.elementary, self.elementary_differ);
         write_line(b"grid ", self.grid, self.grid_differ);
         io::write_all(1, b"unknown ");
