@@ -1,4 +1,5 @@
 pub mod Clamps
+pub mod Copying
 pub mod Counting
 pub mod Discrete
 pub mod Entering

@@ -89,3 +89,10 @@ noGrid = zeroGrid
 -- The grid, or the refusal beside one that is all zero.
 abbrev pub gridOutcome : Outcome BondEventGrid → EventGrid
 gridOutcome o = onOutcome o (λ r. record { check = Refused r; grid = noGrid }) λ g. record { check = Passed; grid = g }
+
+-- A mark is 1 where a step has a call price.
+abbrev pub markOf : CallStep → ℕ
+markOf c = cond (c .marked) 1 0
+
+abbrev pub priceOfStep : CallStep → Float
+priceOfStep c = c .«call_price»

@@ -2,6 +2,7 @@
 mod calls;
 mod cashflows;
 pub mod grid;
+pub mod marks;
 mod principal;
 mod schedule;
 mod steps;

@@ -1,13 +1,12 @@
 -- Definitions only. What a C caller is handed of an answer: the refusal number as the result, 0 where accepted, the place, and the outputs, 0 on a refusal.
 use Prim.Native.Nat.{ℕ}
 use mathlib.Core.Path.{_≡_}
-use mathlib.Core.Bool.{Bool, cond}
 use mathlib.Core.List.{List, map}
 use lib.Ieee.{Float}
 use Rattle.elementary.specs.declared.Answer.{Answer}
 use Rattle.elementary.specs.Answers.{numberOf, placeOf, valueOf}
-use Rattle.bondevents.specs.declared.CallStep.{CallStep}
 use Rattle.bondevents.specs.declared.GridAnswer.{GridAnswer}
+use Rattle.bondevents.specs.Parts.{markOf, priceOfStep}
 use Rattle.treebasedbondpricer.specs.declared.TreeValue.{TreeValue}
 use Rattle.treebasedbondpricer.specs.Tree as tree
 use Rattle.bondanalytics.specs.declared.YieldPrice.{YieldPrice}
@@ -19,13 +18,6 @@ pub record Handed (answer : Answer) (result place : ℕ) (value : Float) : Type 
   pub number-is : result ≡ numberOf answer
   pub place-is : place ≡ placeOf answer
   pub value-is : value ≡ valueOf answer
-
--- A mark is 1 where a step has a call price.
-abbrev pub markOf : CallStep → ℕ
-markOf c = cond (c .marked) 1 0
-
-abbrev pub priceOfStep : CallStep → Float
-priceOfStep c = c .«call_price»
 
 -- Of the grid: all 513 cashflows, marks and prices.
 pub record HandedGrid (answer : GridAnswer) (result place : ℕ) (maturity : Float) (steps : ℕ) (cashflows : List Float) (marks : List ℕ) (prices : List Float) : Type 0 where

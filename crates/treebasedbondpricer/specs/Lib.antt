@@ -5,4 +5,5 @@ pub mod Fit
 pub mod Walk
 pub mod Tree
 pub mod CallLists
+pub mod Entry
 pub mod laws

@@ -13,10 +13,10 @@ ghost use lib.IntN.{pos};
 ghost use Rattle.hullwhite.specs.laws.Filled.{checkOf};
 ghost use Rattle.treebasedbondpricer.specs.laws.Making.{madeOutcome, stepFrom};
 ghost use Rattle.treebasedbondpricer.specs.laws.FilledLayer.{FilledLayer};
-ghost use Rattle.treebasedbondpricer.specs.laws.Bounds.{Numbered};
-ghost use Rattle.treebasedbondpricer.specs.laws.Reaching.{reachOne, reachAll, nothingBelow};
-ghost use Rattle.treebasedbondpricer.specs.laws.Laying.{Pushed, pushed};
-ghost use Rattle.treebasedbondpricer.specs.laws.Counting.{middlesFrom, AllWithin};
+ghost use Rattle.treebasedbondpricer.specs.laws.Bounds.{Within, Numbered, AllWithin};
+ghost use Rattle.treebasedbondpricer.specs.laws.Reaching.{reachOne, reach, reachAll, nothingBelow};
+ghost use Rattle.treebasedbondpricer.specs.laws.Laying.{Pushed, pushed, pushedThree, pushedAll};
+ghost use Rattle.treebasedbondpricer.specs.laws.Counting.{middlesFrom};
 
 // A refusal met on the way is handed up unchanged.
 fn unmade(made: MadeTransition) -> Check
@@ -62,7 +62,7 @@ pub fn fill(
 
 // How many nodes of the next layer the middles of a layer of `count` nodes reach.
 pub fn count_next(count: usize, nodes: &[i32]) -> Reach
-    requires { ⌜ (0 < count) × (2 * count ≤ length (now nodes)) × (count < 1000000000000) × AllWithin (middlesFrom (now nodes) 0 count) ⌝ }
+    requires { ⌜ (0 < count) × (2 * count ≤ length (now nodes)) × (count < 1152921504606846976) × AllWithin (middlesFrom (now nodes) 0 count) ⌝ }
     ensures { λ r. ⌜ r ≡ reachAll (nothingBelow (getD (now (nodes .entry)) 1 (pos 0))) (middlesFrom (now (nodes .entry)) 0 count) ⌝ }
 {
     let first = nodes[1];
@@ -93,4 +93,29 @@ fn push(r: Reach, node: i32, from: usize, nodes: &mut [i32]) -> Reach
         };
     }
     r
+}
+
+// The three destinations around a middle, rising.
+fn push_three(r: Reach, middle: i32, from: usize, nodes: &mut [i32]) -> Reach
+    requires { ⌜ (2 * (from + reach r middle .count) ≤ length (now nodes)) × Within middle ⌝ }
+    ensures { λ s. ⌜ Pushed s (reach r middle) (now (nodes .exit)) (pushedThree from r middle (now (nodes .entry))) ⌝ }
+{
+    let low = push(r, middle - 1, from, nodes);
+    let mid = push(low, middle, from, nodes);
+    push(mid, middle + 1, from, nodes)
+}
+
+// The nodes that the middles of the layer of `count` nodes in front reach, laid behind it.
+pub fn spread(count: usize, nodes: &mut [i32])
+    requires { ⌜ (0 < count) × (2 * (count + reachAll (nothingBelow (getD (now nodes) 1 (pos 0))) (middlesFrom (now nodes) 0 count) .count) ≤ length (now nodes)) × AllWithin (middlesFrom (now nodes) 0 count) ⌝ }
+    ensures { λ _. ⌜ now (nodes .exit) ≡ pushedAll count (nothingBelow (getD (now (nodes .entry)) 1 (pos 0))) (middlesFrom (now (nodes .entry)) 0 count) (now (nodes .entry)) ⌝ }
+{
+    let first = nodes[1];
+    let mut r = nothing_below(first);
+    let mut i = 0;
+    while i < count {
+        let middle = nodes[2 * i + 1];
+        r = push_three(r, middle, count, nodes);
+        i += 1;
+    }
 }

@@ -1,14 +1,23 @@
 // Trinomial-tree valuation of a callable bond.
 use elementary::Refusal;
 
+mod curved;
 mod fit;
+mod fitted;
+mod fitting;
+mod flat;
+mod grow;
+mod lattice;
 mod layer;
 mod layers;
 mod node;
 mod reach;
 mod refusals;
 mod rows;
+pub mod tree;
+pub mod value;
 mod walk;
+mod walking;
 mod zero;
 
 // From one node to three of the next layer, with their probabilities.

@@ -4,10 +4,16 @@ use native.Mathlib.Nat.{le-refl}
 use native.Mathlib.Omega.{arith}
 use lib.IntN.{ℤ, pos, negsuc, sucℤ, predℤ}
 use lib.Signed.{mag}
+use mathlib.Core.List.{List, [], _∷_}
 
 -- The size of a middle; −1,000,001 is let in too.
 pub record Within (m : ℤ) : Type 0 where
   pub within : mag m ≤ 1000000
+
+-- Every middle lies within its limit.
+pub data AllWithin : List ℤ → Type 0 where
+  no-middle : AllWithin []
+  one-middle : {m : ℤ} {ms : List ℤ} → Within m → AllWithin ms → AllWithin (m ∷ ms)
 
 -- The size of a node: a middle or one beside it.
 pub record Numbered (n : ℤ) : Type 0 where

@@ -6,18 +6,13 @@ use mathlib.Core.List.{List, [], _∷_}
 use lib.ListN.{length, getD}
 use lib.IntN.{ℤ, pos}
 use Rattle.treebasedbondpricer.specs.declared.reach.Reach.{Reach}
-use Rattle.treebasedbondpricer.specs.laws.Bounds.{Within}
+use Rattle.treebasedbondpricer.specs.laws.Bounds.{Within, AllWithin, one-middle}
 use Rattle.treebasedbondpricer.specs.laws.Reaching.{reach, reachAll, reach-count, nothingBelow}
 
 -- The middles of k nodes from node i on.
 unfoldable pub middlesFrom : List ℤ → ℕ → ℕ → List ℤ
 middlesFrom nodes i zero = []
 middlesFrom nodes i (suc k) = getD nodes (2 * i + 1) (pos 0) ∷ middlesFrom nodes (i + 1) k
-
--- Every middle lies within its limit.
-pub data AllWithin : List ℤ → Type 0 where
-  no-middle : AllWithin []
-  one-middle : {m : ℤ} {ms : List ℤ} → Within m → AllWithin ms → AllWithin (m ∷ ms)
 
 -- The reach of the middles from node i on, replayed so far.
 pub record Counting (nodes : List ℤ) (count : ℕ) (r : Reach) (i : ℕ) : Type 0 where

@@ -11,7 +11,7 @@ use Rattle.treebasedbondpricer.specs.laws.Stored.{numbersIn, middlesIn, 
 use Rattle.treebasedbondpricer.specs.laws.RisingMiddles.{Climbs}
 use Rattle.treebasedbondpricer.specs.laws.Positions.{startOf}
 use Rattle.treebasedbondpricer.specs.laws.Placing.{Placed}
-use Rattle.treebasedbondpricer.specs.laws.Replayed.{AllWithin}
+use Rattle.treebasedbondpricer.specs.laws.Bounds.{AllWithin}
 
 -- The layer that stands in front, of c nodes.
 abbrev pub frontNodes : ℕ → List ℤ → List ℤ

@@ -9,7 +9,7 @@ use lib.Dec.{ltb}
 use lib.ListN.{length, getD}
 use lib.IntN.{ℤ, pos, predℤ, sucℤ}
 use Rattle.treebasedbondpricer.specs.declared.reach.Reach.{Reach}
-use Rattle.treebasedbondpricer.specs.laws.Bounds.{Within}
+use Rattle.treebasedbondpricer.specs.laws.Bounds.{Within, AllWithin, one-middle}
 use Rattle.treebasedbondpricer.specs.laws.Reaching.{reach, reach-count, nothingBelow}
 use Rattle.treebasedbondpricer.specs.laws.Replaying.{Stands, Replays, done, node}
 use Rattle.treebasedbondpricer.specs.laws.Positions.{spotAt, past, Roomy, no-nodes, one-node}
@@ -77,10 +77,6 @@ unfolding reach
 placed-flat = next-placed {r = nothingBelow (pos 0)} {m = pos 0} {ms = []} refl (record { three = omega arith; counted = omega arith; low = at-root _; mid = at-root _; high = at-root _ }) (all-placed refl)
 
 -- ---- room for the destinations
-
-pub data AllWithin : List ℤ → Type 0 where
-  no-middles : AllWithin []
-  one-middle : {m : ℤ} {ms : List ℤ} → Within m → AllWithin ms → AllWithin (m ∷ ms)
 
 pub roomy-of : {ns : List ℤ} {flat : Bool} {r : Reach} {c : ℕ} {ms : List ℤ} (room : ℕ) → Placed ns flat r c ms → AllWithin ms → length ns ≤ room → Roomy flat room r ms
 roomy-of room (all-placed e) w l = no-nodes

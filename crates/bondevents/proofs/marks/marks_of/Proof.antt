@@ -1,12 +1,12 @@
--- `host::grids::marks_of` meets its contract: the loop's invariant is `Copying`. Assumes nothing.
+-- `bondevents::marks::marks_of` meets its contract: the loop's invariant is `Copying`. Assumes nothing.
 use Prim.Native.Nat.{_-_}
 use borrow.Author.Needs.{needs}
 use native.Mathlib.Omega.{arith}
 use Rattle.bondevents.proofs.Filling.{begin, more}
-use Rattle.host.specs.Handed.{markOf}
-use Rattle.host.proofs.Copying.{pastEnd, Copying, copied}
-use Rattle.host.proofs.grids.marks_of.Statement.{statement}
-use Rattle.host.proofs.grids.marks_of.Tie as tie
+use Rattle.bondevents.specs.Parts.{markOf}
+use Rattle.bondevents.proofs.Copying.{pastEnd, Copying, copied}
+use Rattle.bondevents.proofs.marks.marks_of.Statement.{statement}
+use Rattle.bondevents.proofs.marks.marks_of.Tie as tie
 
 abbrev Inv-loop : tie.InvT-loop
 Inv-loop calls marks₀ i₀ marks i = Copying markOf pastEnd 513 calls i marks

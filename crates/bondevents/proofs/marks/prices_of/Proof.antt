@@ -1,14 +1,14 @@
--- `host::grids::prices_of` meets its contract: the loop's invariant is `Copying`. Assumes nothing.
+-- `bondevents::marks::prices_of` meets its contract: the loop's invariant is `Copying`. Assumes nothing.
 use Prim.Native.Nat.{_-_}
 use borrow.Author.Needs.{needs}
 use native.Mathlib.Omega.{arith}
 use mathlib.Core.Path.{refl}
 use lib.Ieee.{nan}
 use Rattle.bondevents.proofs.Filling.{begin, more}
-use Rattle.host.specs.Handed.{priceOfStep}
-use Rattle.host.proofs.Copying.{pastEnd, Copying, copied}
-use Rattle.host.proofs.grids.prices_of.Statement.{statement}
-use Rattle.host.proofs.grids.prices_of.Tie as tie
+use Rattle.bondevents.specs.Parts.{priceOfStep}
+use Rattle.bondevents.proofs.Copying.{pastEnd, Copying, copied}
+use Rattle.bondevents.proofs.marks.prices_of.Statement.{statement}
+use Rattle.bondevents.proofs.marks.prices_of.Tie as tie
 
 abbrev Inv-loop : tie.InvT-loop
 Inv-loop calls prices₀ i₀ prices i = Copying priceOfStep pastEnd 513 calls i prices

@@ -1,0 +1,2 @@
+-- What the proofs of the curved tree share.
+pub mod Layering

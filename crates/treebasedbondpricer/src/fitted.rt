@@ -1,0 +1,185 @@
+// The tree before the walk: time_step, layers and shifts. Nothing of it reads the calls, the cashflows or the spread.
+
+use crate::fitting::fit_tree;
+use crate::flat::all_flat;
+use crate::lattice::lattice_transitions;
+use elementary::Refusal;
+use elementary::finite::not_finite;
+use hullwhite::variance::transition_variances;
+use terms::Check;
+ghost use mathlib.Core.Path.{_≡_};
+ghost use Prim.Native.Nat.{_+_, _<_, _≤_};
+ghost use lib.ListN.{length};
+ghost use lib.Ieee.{binary64, div};
+ghost use Rattle.terms.specs.Numbers.{float};
+ghost use Rattle.terms.specs.Outcomes.{finiteThen};
+ghost use Rattle.hullwhite.specs.laws.Filled.{modelOf};
+ghost use Rattle.treebasedbondpricer.specs.laws.Growing.{roomLeft};
+ghost use Rattle.treebasedbondpricer.specs.laws.FittedIn.{FitsTree, fittedWith, fittedOver, unfittedOf};
+
+// Fitted: time_step, and whether the tree is flat. Its layers stand in the lent slices, counts, spacings and shifts beside them.
+pub enum FittedTree {
+    Fitted(f64, bool),
+    Refused(Refusal),
+}
+
+// A refusal met on the way is handed up unchanged.
+fn unfitted(check: Check) -> FittedTree
+    ensures { λ r. ⌜ r ≡ unfittedOf check ⌝ }
+{
+    match check {
+        Check::Passed => FittedTree::Fitted(0.0, false),
+        Check::Refused(refusal) => FittedTree::Refused(refusal),
+    }
+}
+
+// Transitions, then the fit.
+fn fitted_with(
+    settlement: u32,
+    dt: f64,
+    alpha: f64,
+    days: &[u32],
+    factors: &[f64],
+    variances: &[f64],
+    counts: &mut [usize],
+    spacings: &mut [f64],
+    shifts: &mut [f64],
+    nodes: &mut [i32],
+    probabilities: &mut [f64],
+    first: &mut [f64],
+    second: &mut [f64],
+) -> FittedTree
+    requires { ⌜ (0 < length (now variances)) × (length (now variances) ≤ 512) ⌝ }
+    requires { ⌜ (length (now counts) ≡ length (now variances) + 1) × (length (now spacings) ≡ length (now variances)) × (length (now shifts) ≡ length (now variances)) ⌝ }
+    ensures { λ r. ⌜ FitsTree (fittedWith settlement (record { days = now (days .entry); factors = now (factors .entry) }) (roomLeft (now (nodes .entry)) (now (probabilities .entry)) (length (now (first .entry))) (length (now (second .entry)))) alpha dt (now (variances .entry))) (length (now (first .entry))) (length (now (second .entry))) (now (counts .exit)) (now (spacings .exit)) (now (shifts .exit)) (now (nodes .exit)) (now (probabilities .exit)) r ⌝ }
+{
+    let one = first.len();
+    let two = second.len();
+    let l = lattice_transitions(
+        alpha,
+        dt,
+        variances,
+        counts,
+        spacings,
+        nodes,
+        probabilities,
+        one,
+        two,
+    );
+    let Check::Passed = l else {
+        return unfitted(l);
+    };
+    let flat = all_flat(variances);
+    let s = fit_tree(
+        nodes,
+        probabilities,
+        counts,
+        spacings,
+        flat,
+        settlement,
+        days,
+        factors,
+        dt,
+        first,
+        second,
+        shifts,
+    );
+    let Check::Passed = s else {
+        return unfitted(s);
+    };
+    FittedTree::Fitted(dt, flat)
+}
+
+// Variances, transitions, then the fit.
+fn fitted_over(
+    settlement: u32,
+    steps: u32,
+    dt: f64,
+    alpha: f64,
+    times: &[f64],
+    sigmas: &[f64],
+    days: &[u32],
+    factors: &[f64],
+    variances: &mut [f64],
+    counts: &mut [usize],
+    spacings: &mut [f64],
+    shifts: &mut [f64],
+    nodes: &mut [i32],
+    probabilities: &mut [f64],
+    first: &mut [f64],
+    second: &mut [f64],
+) -> FittedTree
+    requires { ⌜ (0 < steps) × (steps ≤ 512) × (length (now variances) ≡ steps) ⌝ }
+    requires { ⌜ (length (now counts) ≡ steps + 1) × (length (now spacings) ≡ steps) × (length (now shifts) ≡ steps) ⌝ }
+    ensures { λ r. ⌜ FitsTree (fittedOver settlement (modelOf alpha (now (times .entry)) (now (sigmas .entry))) (record { days = now (days .entry); factors = now (factors .entry) }) (roomLeft (now (nodes .entry)) (now (probabilities .entry)) (length (now (first .entry))) (length (now (second .entry)))) steps dt) (length (now (first .entry))) (length (now (second .entry))) (now (counts .exit)) (now (spacings .exit)) (now (shifts .exit)) (now (nodes .exit)) (now (probabilities .exit)) r ⌝ }
+{
+    let v = transition_variances(alpha, times, sigmas, steps, dt, variances);
+    let Check::Passed = v else {
+        return unfitted(v);
+    };
+    fitted_with(
+        settlement,
+        dt,
+        alpha,
+        days,
+        factors,
+        variances,
+        counts,
+        spacings,
+        shifts,
+        nodes,
+        probabilities,
+        first,
+        second,
+    )
+}
+
+// time_step = T/steps, then the tree.
+pub fn fitted_tree(
+    settlement: u32,
+    maturity: f64,
+    steps: u32,
+    alpha: f64,
+    times: &[f64],
+    sigmas: &[f64],
+    days: &[u32],
+    factors: &[f64],
+    counts: &mut [usize],
+    spacings: &mut [f64],
+    shifts: &mut [f64],
+    nodes: &mut [i32],
+    probabilities: &mut [f64],
+    first: &mut [f64],
+    second: &mut [f64],
+) -> FittedTree
+    requires { ⌜ (0 < steps) × (steps ≤ 512) ⌝ }
+    requires { ⌜ (length (now counts) ≡ steps + 1) × (length (now spacings) ≡ steps) × (length (now shifts) ≡ steps) ⌝ }
+    ensures { λ r. ⌜ FitsTree (finiteThen (div binary64 maturity (float steps)) 0 λ dt. fittedOver settlement (modelOf alpha (now (times .entry)) (now (sigmas .entry))) (record { days = now (days .entry); factors = now (factors .entry) }) (roomLeft (now (nodes .entry)) (now (probabilities .entry)) (length (now (first .entry))) (length (now (second .entry)))) steps dt) (length (now (first .entry))) (length (now (second .entry))) (now (counts .exit)) (now (spacings .exit)) (now (shifts .exit)) (now (nodes .exit)) (now (probabilities .exit)) r ⌝ }
+{
+    let dt = maturity / (steps as f64);
+    if not_finite(dt) {
+        return FittedTree::Refused(Refusal {
+            number: Refusal::NOT_FINITE,
+            place: 0,
+        });
+    }
+    let mut variances = [0.0; 512];
+    fitted_over(
+        settlement,
+        steps,
+        dt,
+        alpha,
+        times,
+        sigmas,
+        days,
+        factors,
+        &mut variances[..steps as usize],
+        counts,
+        spacings,
+        shifts,
+        nodes,
+        probabilities,
+        first,
+        second,
+    )
+}
