@@ -64,6 +64,7 @@ uint32_t gutirapeo_midpoint(double a, double b, uint32_t *place, double *value);
  *   3   a day out of range, cashflow days falling, a kind that isn't 0 or 1
  *   4   a number that isn't finite or lies outside its range
  *   5   a call that ends before it starts
+ *   6   sigma times that don't rise
  *   7   no cashflow after settlement
  *   8   pillar days that don't rise, the first not settlement, the last before maturity
  *   9   an unknown compounding code, or a frequency that can't be used
@@ -82,6 +83,47 @@ uint32_t gutirapeo_grid(uint32_t settlement,
                         uint32_t steps_per_year, uint32_t max_steps,
                         uint32_t *place, double *maturity_time, uint32_t *steps,
                         double cashflows[513], uint8_t marks[513], double prices[513]);
+
+/* What the bond is worth with its calls, and the nodes of the tree.
+ *
+ * Sigma comes as 1 to 64 times (years from settlement, rising) and the sigma from each time on, the first reaching back to
+ * settlement; the curve as 2 to 256 pillars, a day and a discount factor each, from settlement to maturity or beyond.
+ *
+ * Lent, to work in: nodes with 2 places for each node of the tree, probabilities with 3 for each, and two rows, each as long as
+ * the largest layer. A tree of n steps has the layers 0 to n. With alpha at or above 0 and sigmas that never fall, layer k has at
+ * most 2k + 1 nodes: 2(n + 1)^2 nodes, 3(n + 1)^2 probabilities and rows of 2n + 1 are enough then. Whatever they held, all
+ * four are untouched after a refusal of 1 to 8, and else all zero, to the last place.
+ *
+ * The refusals 1 to 8 have the places above. Of the others the place is the step, where nothing else is said:
+ *   20  no principal at a step that can be called (place 0)
+ *   21  a layer doesn't fit into what is lent (the place is the layer)
+ *   22  no variance on this step, but on others
+ *   23  a node beyond 1,000,000 either way
+ *   24  a probability below -1e-12
+ *   25  a discount factor at or below 0
+ *   26  exp or ln outside its range
+ *   27  a result that isn't finite (place 0 where it is a call price)
+ * 26 and 27 have place 0 too where one step's decay can't be worked out. */
+uint32_t gutirapeo_tree_value(uint32_t settlement,
+                              const uint32_t *cashflow_days, size_t cashflow_days_length,
+                              const uint8_t *cashflow_kinds, size_t cashflow_kinds_length,
+                              const double *cashflow_amounts, size_t cashflow_amounts_length,
+                              double units,
+                              const uint32_t *call_starts, size_t call_starts_length,
+                              const uint32_t *call_ends, size_t call_ends_length,
+                              const double *call_strikes, size_t call_strikes_length,
+                              uint32_t steps_per_year, uint32_t max_steps,
+                              double alpha,
+                              const double *sigma_times, size_t sigma_times_length,
+                              const double *sigmas, size_t sigmas_length,
+                              double spread,
+                              const uint32_t *pillar_days, size_t pillar_days_length,
+                              const double *pillar_factors, size_t pillar_factors_length,
+                              int32_t *nodes, size_t nodes_length,
+                              double *probabilities, size_t probabilities_length,
+                              double *first_row, size_t first_row_length,
+                              double *second_row, size_t second_row_length,
+                              uint32_t *place, double *value, uint64_t *node_count);
 
 /* What the bond is worth without its calls.
  * 25: settlement's factor at or below 0. 26: exp outside its range. 27: a result that isn't finite. */

@@ -4,7 +4,7 @@ use std::hint::black_box;
 use std::time::Instant;
 
 /// The best of a few timings of one call, in microseconds.
-fn timed(calls: usize, mut call: impl FnMut()) -> f64 {
+pub fn timed(calls: usize, mut call: impl FnMut()) -> f64 {
     let mut best = f64::INFINITY;
     for _ in 0..5 {
         let start = Instant::now();
@@ -46,6 +46,7 @@ pub fn run() {
     published::PLATFORM.store(true, std::sync::atomic::Ordering::Relaxed);
     measured();
     published::PLATFORM.store(false, std::sync::atomic::Ordering::Relaxed);
+    crate::trees::run();
 }
 
 fn measured() {

@@ -1,7 +1,6 @@
 //! The text itself, and a function for each entry that hands it 01's inputs.
 use crate::stand_ins::*;
 use core::fmt;
-use reading::elementary as reading01;
 use reading::terms::{curve, Calls, Leg as Flows, Pillars, Sigma};
 use std::collections::{BTreeMap, BTreeSet};
 use std::{format, vec, vec::Vec};
@@ -22,13 +21,13 @@ impl Scalar for Tested {
         Tested(1.0)
     }
     fn exp(self) -> Self {
-        Tested(or_unwind(reading01::exp_at(self.0, 0)))
+        Tested(Elementary::exp(self.0))
     }
     fn ln(self) -> Self {
-        Tested(or_unwind(reading01::ln_at(self.0, 0)))
+        Tested(Elementary::ln(self.0))
     }
     fn sqrt(self) -> Self {
-        Tested(or_unwind(reading01::sqrt_at(self.0, 0)))
+        Tested(Elementary::sqrt(self.0))
     }
     fn sin(self) -> Self {
         unimplemented!()
@@ -40,7 +39,7 @@ impl Scalar for Tested {
         Tested(self.0.abs())
     }
     fn powf(self, p: f64) -> Self {
-        Tested(or_unwind(reading01::powf_at(self.0, p, 0)))
+        Tested(Elementary::powf(self.0, p))
     }
     fn pows(self, p: Self) -> Self {
         self.powf(p.0)

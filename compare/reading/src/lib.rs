@@ -15,6 +15,7 @@ pub mod bondpricer;
 pub mod elementary;
 pub mod exact;
 pub mod hullwhite;
+pub mod ordinary;
 pub mod terms;
 pub mod treebasedbondpricer;
 

@@ -193,9 +193,8 @@ fn walked(grid: &Grid, tree: &Tree, shifts: &[f64], time_step: f64, spread: f64)
     Ok(values[&0])
 }
 
-/// The tree value entry: value and node count, or the refusal, and whether it was found in the input.
-pub fn tree_value(terms: &Terms, room: Room) -> (Outcome<(f64, u64)>, bool) {
-    let input = Input {
+fn input(terms: &Terms) -> Input<'_> {
+    Input {
         settlement: terms.settlement,
         leg: Some(&terms.leg),
         units: Some(terms.units),
@@ -206,22 +205,41 @@ pub fn tree_value(terms: &Terms, room: Room) -> (Outcome<(f64, u64)>, bool) {
         spread: Some(terms.spread),
         pillars: Some(&terms.pillars),
         ..Input::default()
-    };
-    if let Err(refusal) = input.checked() {
+    }
+}
+
+/// The tree value entry: value and node count, or the refusal, and whether it was found in the input.
+pub fn tree_value(terms: &Terms, room: Room) -> (Outcome<(f64, u64)>, bool) {
+    if let Err(refusal) = input(terms).checked() {
         return (Err(refusal), true);
     }
     (valued(terms, room), false)
 }
 
+fn tree_of(terms: &Terms, room: Room, grid: &Grid, time_step: f64) -> Outcome<Tree> {
+    let variances = transition_variances(terms.alpha, &terms.sigma, grid.steps, time_step)?;
+    if variances.iter().all(|&v| v <= f64::EPSILON) {
+        flat(room, grid.steps)
+    } else {
+        grown(room, terms.alpha, time_step, &variances)
+    }
+}
+
+/// The least room for the tree of these terms, where it can be grown within a given one.
+pub fn least_room(terms: &Terms, within: Room) -> Option<Room> {
+    input(terms).checked().ok()?;
+    let grid = bond_event_grid(terms.settlement, &terms.leg, terms.units, &terms.calls, terms.settings).ok()?;
+    let time_step = tested(grid.maturity_time / f64::from(grid.steps), 0).ok()?;
+    let tree = tree_of(terms, within, &grid, time_step).ok()?;
+    let all = tree.nodes as usize;
+    let widest = tree.layers.iter().map(BTreeMap::len).max()?.max(tree.last.len());
+    Some(Room { nodes: 2 * all, probabilities: 3 * all, first: widest, second: widest })
+}
+
 fn valued(terms: &Terms, room: Room) -> Outcome<(f64, u64)> {
     let grid = bond_event_grid(terms.settlement, &terms.leg, terms.units, &terms.calls, terms.settings)?;
     let time_step = tested(grid.maturity_time / f64::from(grid.steps), 0)?;
-    let variances = transition_variances(terms.alpha, &terms.sigma, grid.steps, time_step)?;
-    let tree = if variances.iter().all(|&v| v <= f64::EPSILON) {
-        flat(room, grid.steps)?
-    } else {
-        grown(room, terms.alpha, time_step, &variances)?
-    };
+    let tree = tree_of(terms, room, &grid, time_step)?;
     let shifts = fitted(terms, &tree, time_step)?;
     Ok((walked(&grid, &tree, &shifts, time_step, terms.spread)?, tree.nodes))
 }

@@ -1,9 +1,10 @@
-//! Compares the proved library with the second reading of document 01 and with the hardware.
+//! Compares the proved library with the second reading of document 01, with the hardware and with the published text.
 //!
 //! rounds [--long] [--seed N] [NAME...]
 //! rounds --sample FILE KIND...
 //!
-//! The quick round takes seconds, the long one 10^7 cases for each function.
+//! The quick round takes seconds; the long one has 10^7 cases for each elementary function and 10^6 or more for each entry.
+mod calllists;
 mod elementary;
 mod grid;
 mod random;
@@ -11,6 +12,7 @@ mod sample;
 mod straight;
 mod tally;
 mod terms;
+mod tree;
 mod yields;
 
 fn main() {
@@ -36,8 +38,13 @@ fn main() {
         return;
     }
     let mut differences = elementary::round(long, seed, &wanted);
-    let entries: [(&str, fn(bool, u64) -> u64); 3] =
-        [("grid", grid::round), ("straight", straight::round), ("yields", yields::round)];
+    let entries: [(&str, fn(bool, u64) -> u64); 5] = [
+        ("grid", grid::round),
+        ("tree", tree::round),
+        ("calllists", calllists::round),
+        ("straight", straight::round),
+        ("yields", yields::round),
+    ];
     for (name, round) in entries {
         if wanted(name) {
             differences += round(long, seed);

@@ -5,9 +5,11 @@
 use crate::random::Random;
 use crate::tally::published;
 use crate::terms;
+use crate::tree::tree_terms;
 use reading::bondanalytics::{self, Rate};
 use reading::treebasedbondpricer::{self, Room, Terms};
 use reading::{bondevents, bondpricer, elementary, Answer, Refusal};
+use std::collections::BTreeMap;
 use std::io::Write;
 
 const WORDS: usize = 160;
@@ -60,9 +62,9 @@ fn refused(mut r: Record, refusal: Refusal) -> Record {
 }
 
 /// Terms small enough for a record, with no NaN.
-fn small(random: &mut Random) -> Terms {
+fn small(random: &mut Random, terms: fn(&mut Random) -> Terms) -> Terms {
     loop {
-        let mut t = terms::terms(random);
+        let mut t = terms(random);
         if random.below(4) == 0 {
             terms::damage(random, &mut t);
         }
@@ -118,7 +120,7 @@ fn elementary_record(random: &mut Random, kind: u64) -> Record {
 }
 
 fn grid_record(random: &mut Random) -> Record {
-    let t = small(random);
+    let t = small(random, terms::terms);
     let mut r = inputs(12, &t);
     match bondevents::grid(t.settlement, &t.leg, t.units, &t.calls, t.settings) {
         Err(refusal) => refused(r, refusal),
@@ -135,10 +137,21 @@ fn grid_record(random: &mut Random) -> Record {
     }
 }
 
+/// What the replayed tree is lent at the most.
+const LENT: Room = Room { nodes: 2_000, probabilities: 3_000, first: 100, second: 100 };
+
 fn tree_record(random: &mut Random) -> Record {
-    let t = small(random);
+    let mut t = small(random, tree_terms);
+    if random.below(40) == 0 {
+        t.sigma = Default::default();
+    }
+    let mut room = LENT;
+    if random.below(20) == 0 {
+        let slices = [&mut room.nodes, &mut room.probabilities, &mut room.first, &mut room.second];
+        slices.into_iter().for_each(|length| *length = random.below(*length as u64 / 4) as usize);
+    }
     let mut r = inputs(13, &t);
-    let room = Room { nodes: 4000, probabilities: 6000, first: 64, second: 64 };
+    numbers(&mut r, 76, [room.nodes, room.probabilities, room.first, room.second].into_iter().map(|n| n as u64));
     match treebasedbondpricer::tree_value(&t, room).0 {
         Err(refusal) => refused(r, refusal),
         Ok((_, count)) => {
@@ -149,8 +162,26 @@ fn tree_record(random: &mut Random) -> Record {
     }
 }
 
+/// 200 tree values: 6 of each refusal that can be met, 20 accepted of any kind, the rest accepted with calls and some nodes.
+fn tree_records(random: &mut Random) -> Vec<Record> {
+    const PLAIN: u64 = 100;
+    let mut left: BTreeMap<u64, u32> = [1, 2, 3, 4, 5, 6, 7, 8, 20, 21, 22, 23, 25, 26, 27].into_iter().map(|number| (number, 6)).collect();
+    left.extend([(PLAIN, 20), (0, 90)]);
+    let mut records = Vec::new();
+    while records.len() < 200 {
+        let record = tree_record(random);
+        let (number, calls, nodes) = (record[80], record[28], record[83]);
+        let kind = if number == 0 && (calls == 0 || nodes < 10) { PLAIN } else { number };
+        if let Some(count) = left.get_mut(&kind).filter(|count| **count > 0) {
+            *count -= 1;
+            records.push(record);
+        }
+    }
+    records
+}
+
 fn straight_record(random: &mut Random) -> Record {
-    let t = small(random);
+    let t = small(random, terms::terms);
     let mut r = inputs(14, &t);
     match bondpricer::straight_value(t.settlement, &t.leg, t.spread, &t.pillars) {
         Err(refusal) => refused(r, refusal),
@@ -163,7 +194,7 @@ fn straight_record(random: &mut Random) -> Record {
 }
 
 fn yield_record(random: &mut Random, kind: u64) -> Record {
-    let t = small(random);
+    let t = small(random, terms::terms);
     let rate = Rate { compounding: random.below(6) as u32, frequency: [1, 2, 4, 12, 365, 7][random.below(6) as usize] };
     let mut r = inputs(kind, &t);
     (r[71], r[72]) = (u64::from(rate.compounding), u64::from(rate.frequency));
@@ -200,17 +231,14 @@ pub fn write(path: &str, seed: u64, kinds: &[u64]) {
     let mut random = Random(seed);
     let mut bytes = Vec::new();
     for &kind in kinds {
-        let count = if kind < 12 { 8 } else { 60 };
-        for _ in 0..count {
-            let record = match kind {
-                1..=11 => elementary_record(&mut random, kind),
-                12 => grid_record(&mut random),
-                13 => tree_record(&mut random),
-                14 => straight_record(&mut random),
-                _ => yield_record(&mut random, kind),
-            };
-            bytes.extend(record.iter().flat_map(|word| word.to_le_bytes()));
-        }
+        let records: Vec<Record> = match kind {
+            1..=11 => (0..8).map(|_| elementary_record(&mut random, kind)).collect(),
+            12 => (0..60).map(|_| grid_record(&mut random)).collect(),
+            13 => tree_records(&mut random),
+            14 => (0..60).map(|_| straight_record(&mut random)).collect(),
+            _ => (0..60).map(|_| yield_record(&mut random, kind)).collect(),
+        };
+        bytes.extend(records.iter().flatten().flat_map(|word| word.to_le_bytes()));
     }
     std::fs::File::create(path).and_then(|mut file| file.write_all(&bytes)).expect("the sample is written");
 }

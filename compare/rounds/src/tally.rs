@@ -26,6 +26,15 @@ impl Tally {
         }
     }
 
+    /// How many of these numbers were not met.
+    pub fn missing(&self, numbers: &[u32]) -> u64 {
+        let missing: Vec<u32> = numbers.iter().copied().filter(|n| !self.outcomes.contains_key(n)).collect();
+        if !missing.is_empty() {
+            println!("{}: not met in this run: {missing:?}", self.name);
+        }
+        missing.len() as u64
+    }
+
     pub fn done(self) -> u64 {
         let outcomes: Vec<String> = self
             .outcomes

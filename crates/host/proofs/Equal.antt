@@ -5,15 +5,22 @@ use mathlib.Core.List.{List}
 use lib.Ieee.{Float}
 use Rattle.elementary.specs.declared.Answer.{Answer}
 use Rattle.bondevents.specs.declared.GridAnswer.{GridAnswer}
+use Rattle.terms.specs.Terms.{CallSchedule, Market}
+use Rattle.treebasedbondpricer.specs.declared.TreeValue.{TreeValue}
+use Rattle.treebasedbondpricer.specs.Tree.{Lent}
+use Rattle.treebasedbondpricer.specs.Entry.{Entered}
 use Rattle.bondanalytics.specs.declared.YieldPrice.{YieldPrice}
 use Rattle.bondanalytics.specs.declared.Root.{Root}
-use Rattle.host.specs.Handed.{Handed, HandedGrid, HandedPrice, HandedRoot}
+use Rattle.host.specs.Handed.{Handed, HandedGrid, HandedValue, HandedTree, HandedPrice, HandedRoot}
 
 pub handed-as : {a b : Answer} {result place : ℕ} {value : Float} → a ≡ b → Handed a result place value → Handed b result place value
 handed-as e h = rw (← e) h
 
 pub grid-as : {a b : GridAnswer} {result place steps : ℕ} {maturity : Float} {cashflows prices : List Float} {marks : List ℕ} → a ≡ b → HandedGrid a result place maturity steps cashflows marks prices → HandedGrid b result place maturity steps cashflows marks prices
 grid-as e h = rw (← e) h
+
+pub tree-as : {m : Market} {calls : CallSchedule} {a : TreeValue} {before after : Lent} {result place nodes : ℕ} {value : Float} → Entered m calls a before after → HandedValue a result place value nodes → HandedTree m calls before after result place value nodes
+tree-as e h = record { handed = rw (← e .value) h; slices = e .slices }
 
 pub price-as : {a b : YieldPrice} {result place : ℕ} {price derivative : Float} → a ≡ b → HandedPrice a result place price derivative → HandedPrice b result place price derivative
 price-as e h = rw (← e) h

@@ -24,7 +24,7 @@ use Rattle.bondevents.specs.Grid.{gridAnswer, axisOf}
 use Rattle.hullwhite.specs.Variance.{piecewiseVariance, varianceOver}
 use Rattle.treebasedbondpricer.specs.declared.TreeValue.{TreeValue}
 use Rattle.treebasedbondpricer.specs.declared.TreeValue.the-variants as tree
-use Rattle.treebasedbondpricer.specs.Lattice.{Layer, Lattice, lattice}
+use Rattle.lattice.specs.Lattice.{Layer, Lattice, lattice}
 use Rattle.treebasedbondpricer.specs.Tree.{treeValue, Lent, roomOf, lentAfter, zeroed}
 
 -- Doubles of the examples: −0.5, −1, −701, 1 + 2^−52, 1 − 2^−52, −2^−104, 0.5, 5, 99, 100.

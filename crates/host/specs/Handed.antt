@@ -8,6 +8,8 @@ use Rattle.elementary.specs.Answers.{numberOf, placeOf, valueOf}
 use Rattle.bondevents.specs.declared.GridAnswer.{GridAnswer}
 use Rattle.bondevents.specs.Parts.{markOf, priceOfStep}
 use Rattle.treebasedbondpricer.specs.declared.TreeValue.{TreeValue}
+use Rattle.terms.specs.Terms.{CallSchedule, Market}
+use Rattle.treebasedbondpricer.specs.Tree.{treeValue, Lent, roomOf, lentAfter}
 use Rattle.treebasedbondpricer.specs.Tree as tree
 use Rattle.bondanalytics.specs.declared.YieldPrice.{YieldPrice}
 use Rattle.bondanalytics.specs.declared.Root.{Root}
@@ -35,6 +37,11 @@ pub record HandedValue (answer : TreeValue) (result place : ℕ) (value : Float)
   pub place-is : place ≡ tree.placeOf answer
   pub value-is : value ≡ tree.valueOf answer
   pub nodes-is : nodes ≡ tree.countedBy answer
+
+-- Of the tree value's entry: the answer, and the end content of the four lent slices.
+pub record HandedTree (m : Market) (calls : CallSchedule) (before after : Lent) (result place : ℕ) (value : Float) (nodes : ℕ) : Type 0 where
+  pub handed : HandedValue (treeValue m calls (roomOf before)) result place value nodes
+  pub slices : after ≡ lentAfter m calls before
 
 -- Of price from yield.
 pub record HandedPrice (answer : YieldPrice) (result place : ℕ) (price derivative : Float) : Type 0 where

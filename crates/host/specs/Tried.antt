@@ -15,7 +15,7 @@ use Rattle.terms.specs.Outcomes.{onOutcome}
 use Rattle.terms.specs.Curve.{curveOver}
 use Rattle.bondevents.specs.Steps.{paidInto, rawStep}
 use Rattle.treebasedbondpricer.specs.declared.TreeValue.the-variants as tree
-use Rattle.treebasedbondpricer.specs.Layers.{Room}
+use Rattle.lattice.specs.Layers.{Room}
 use Rattle.treebasedbondpricer.specs.Tree.{treeValue}
 use Rattle.bondpricer.specs.Straight.{straightValue}
 use Rattle.bondanalytics.specs.declared.YieldPrice.the-variants as price

@@ -2,6 +2,7 @@
 // outputs; the result is the refusal number, 0 where accepted. Outputs are 0 on a refusal.
 mod grids;
 mod handing;
+mod trees;
 
 use crate::grids::hand_grid;
 use crate::handing::hand_over;

@@ -1,11 +1,11 @@
 // The event grid, kind 12: at most 8 cashflows, 4 call entries and 24 steps.
 
-use crate::record::byte;
+use crate::lists::eight_bytes;
+use crate::lists::eight_floats;
+use crate::lists::eight_numbers;
 use crate::record::float;
 use crate::record::number;
 use bondevents::GridAnswer;
-ghost use mathlib.Core.Path.{_≡_};
-ghost use lib.ListN.{length};
 
 // Whether a step is what the record holds of it.
 fn same_step(record: &[u8; 1280], step: usize, cashflow: f64, marked: bool, price: f64) -> bool {
@@ -47,60 +47,6 @@ fn same_grid(answer: GridAnswer, record: &[u8; 1280]) -> bool {
         return false;
     }
     same_steps(answer, record)
-}
-
-fn eight_numbers(r: &[u8; 1280], at: usize) -> [u32; 8]
-    ensures { λ r. ⌜ length r ≡ 8 ⌝ }
-{
-    if at > 150 {
-        return [0; 8];
-    }
-    [
-        number(r, at),
-        number(r, at + 1),
-        number(r, at + 2),
-        number(r, at + 3),
-        number(r, at + 4),
-        number(r, at + 5),
-        number(r, at + 6),
-        number(r, at + 7),
-    ]
-}
-
-fn eight_bytes(r: &[u8; 1280], at: usize) -> [u8; 8]
-    ensures { λ r. ⌜ length r ≡ 8 ⌝ }
-{
-    if at > 150 {
-        return [0; 8];
-    }
-    [
-        byte(r, at),
-        byte(r, at + 1),
-        byte(r, at + 2),
-        byte(r, at + 3),
-        byte(r, at + 4),
-        byte(r, at + 5),
-        byte(r, at + 6),
-        byte(r, at + 7),
-    ]
-}
-
-fn eight_floats(r: &[u8; 1280], at: usize) -> [f64; 8]
-    ensures { λ r. ⌜ length r ≡ 8 ⌝ }
-{
-    if at > 150 {
-        return [0.0; 8];
-    }
-    [
-        float(r, at),
-        float(r, at + 1),
-        float(r, at + 2),
-        float(r, at + 3),
-        float(r, at + 4),
-        float(r, at + 5),
-        float(r, at + 6),
-        float(r, at + 7),
-    ]
 }
 
 // The inputs that a record holds: of the lists the first `flows` and the first `entries` count.

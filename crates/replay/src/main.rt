@@ -2,8 +2,10 @@
 // out anew, and writes how many of each kind were replayed and how many differ.
 mod entries;
 mod grids;
+mod lists;
 mod record;
 mod report;
+mod trees;
 
 use crate::record::any_nan;
 use crate::record::word;
@@ -26,6 +28,12 @@ fn tallied(tally: Tally, record: &[u8; 1280]) -> Tally {
             return tally.grid(false);
         }
         return tally.grid(grids::same(record));
+    }
+    if kind == 13 {
+        if any_nan(record) {
+            return tally.tree(false);
+        }
+        return tally.tree(trees::same(record));
     }
     tally.unknown()
 }

@@ -7,6 +7,8 @@ pub struct Tally {
     elementary_differ: u64,
     grid: u64,
     grid_differ: u64,
+    tree: u64,
+    tree_differ: u64,
     unknown: u64,
 }
 
@@ -36,6 +38,8 @@ impl Tally {
             elementary_differ: 0,
             grid: 0,
             grid_differ: 0,
+            tree: 0,
+            tree_differ: 0,
             unknown: 0,
         }
     }
@@ -52,6 +56,12 @@ impl Tally {
         self
     }
 
+    pub(crate) fn tree(mut self, same: bool) -> Self {
+        self.tree = one_more(self.tree);
+        self.tree_differ = one_more_unless(same, self.tree_differ);
+        self
+    }
+
     pub(crate) fn unknown(mut self) -> Self {
         self.unknown = one_more(self.unknown);
         self
@@ -60,6 +70,7 @@ impl Tally {
     pub(crate) fn write(self) {
         write_line(b"elementary ", self.elementary, self.elementary_differ);
         write_line(b"grid ", self.grid, self.grid_differ);
+        write_line(b"tree value ", self.tree, self.tree_differ);
         io::write_all(1, b"unknown ");
         io::print_decimal(1, self.unknown);
         io::write_all(1, b"\n");

@@ -5,7 +5,7 @@ use Rattle.elementary.proofs.Laws.{answers}
 use Rattle.terms.specs.declared.Check.{Check}
 use Rattle.terms.specs.declared.Check.the-variants.{Passed, Refused}
 use Rattle.terms.specs.Outcomes.{Outcome, given, refused, onOutcome, follow}
-use Rattle.treebasedbondpricer.specs.laws.Rows.{outcomeOf}
+use Rattle.lattice.specs.laws.Rows.{outcomeOf}
 
 -- ---- what is answered
 

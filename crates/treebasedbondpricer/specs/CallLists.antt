@@ -9,7 +9,7 @@ use Rattle.terms.specs.CallLists.{MadeFrom, Reordered, StrikeAbove}
 use Rattle.bondevents.specs.Grid.{gridAnswer}
 use Rattle.treebasedbondpricer.specs.declared.TreeValue.{TreeValue}
 use Rattle.treebasedbondpricer.specs.declared.TreeValue.the-variants.{Value, Refused}
-use Rattle.treebasedbondpricer.specs.Layers.{Room}
+use Rattle.lattice.specs.Layers.{Room}
 use Rattle.treebasedbondpricer.specs.Tree.{treeValue, Lent, lentAfter, numberOf}
 
 -- Accepted with a value no lower than x, as numbers, both zeros equal; or refused with 27.

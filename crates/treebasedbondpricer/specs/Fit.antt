@@ -13,9 +13,9 @@ use Rattle.terms.specs.Numbers.{float}
 use Rattle.terms.specs.Terms.{Pillars}
 use Rattle.terms.specs.Outcomes.{Outcome, given, follow, valued, finiteThen}
 use Rattle.terms.specs.Curve.{curveAt, curveOver}
-use Rattle.treebasedbondpricer.specs.declared.Transition.{Transition}
-use Rattle.treebasedbondpricer.specs.Layers.{below, At, nodeFloat}
-use Rattle.treebasedbondpricer.specs.Lattice.{Layer}
+use Rattle.lattice.specs.declared.Transition.{Transition}
+use Rattle.lattice.specs.Layers.{below, At, nodeFloat}
+use Rattle.lattice.specs.Lattice.{Layer}
 
 -- Weighted sum of state prices: each price × exp(spacing × (−node × time_step)), added from 0, nodes rising.
 unfoldable pub weighted : Float → Float → ℕ → List At → Float → Answer

@@ -1,6 +1,3 @@
-pub mod Layers
-pub mod Transitions
-pub mod Lattice
 pub mod Fit
 pub mod Walk
 pub mod Tree

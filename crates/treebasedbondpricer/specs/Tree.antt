@@ -17,8 +17,8 @@ use Rattle.bondevents.specs.Grid.{eventGrid}
 use Rattle.hullwhite.specs.Variance.{transitionVariances, variancesFrom}
 use Rattle.treebasedbondpricer.specs.declared.TreeValue.{TreeValue}
 use Rattle.treebasedbondpricer.specs.declared.TreeValue.the-variants.{Value, Refused}
-use Rattle.treebasedbondpricer.specs.Layers.{At, valueAt, Room}
-use Rattle.treebasedbondpricer.specs.Lattice.{Layer, Lattice, lattice}
+use Rattle.lattice.specs.Layers.{At, valueAt, Room}
+use Rattle.lattice.specs.Lattice.{Lattice, lattice, countOf, nodeCount}
 use Rattle.treebasedbondpricer.specs.Fit.{fitted, shiftsFrom}
 use Rattle.treebasedbondpricer.specs.Walk.{walkFrom}
 
@@ -37,14 +37,6 @@ fittedTree m room maturity steps =
     follow (lattice room (m .model .alpha) dt variances) λ tree.
     follow (fitted (m .settlement) (m .pillars) dt (tree .layers)) λ shifts.
     given (record { dt = dt; tree = tree; shifts = shifts })
-
--- The answer's node count is the nodes of layers 0 to steps.
-unfoldable pub countOf : List Layer → ℕ
-countOf [] = 0
-countOf (l ∷ layers) = length (l .nodes) + countOf layers
-
-abbrev pub nodeCount : Lattice → ℕ
-nodeCount t = countOf (t .layers) + length (t .final)
 
 abbrev pub valueWith : Float → BondEventGrid → Fitted → Outcome TreeValue
 valueWith spread grid f =

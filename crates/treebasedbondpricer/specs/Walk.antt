@@ -12,9 +12,9 @@ use Rattle.elementary.specs.Exponential.{expAt}
 use Rattle.terms.specs.Outcomes.{Outcome, given, follow, valued}
 use Rattle.bondevents.specs.declared.CallStep.{CallStep}
 use Rattle.bondevents.specs.Calls.{newStep}
-use Rattle.treebasedbondpricer.specs.declared.Transition.{Transition}
-use Rattle.treebasedbondpricer.specs.Layers.{At, valueAt, nodeFloat}
-use Rattle.treebasedbondpricer.specs.Lattice.{Layer}
+use Rattle.lattice.specs.declared.Transition.{Transition}
+use Rattle.lattice.specs.Layers.{At, valueAt, nodeFloat}
+use Rattle.lattice.specs.Lattice.{Layer}
 
 -- What a step of the walk reads beside the next row: spacing, time_step, shift, spread, the call step and the cashflow.
 pub record Reads : Type 0 where

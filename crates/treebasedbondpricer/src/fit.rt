@@ -1,24 +1,24 @@
 // Fitting the tree to the curve, one layer: the weighted sum of state prices, the shift, and the state prices of the next layer.
 
-use crate::reach::nothing_below;
-use crate::reach::reached;
-use crate::refusals::overflow;
-use crate::refusals::row_overflow;
-use crate::refusals::row_refused;
 use elementary::Answer;
 use elementary::Refusal;
 use elementary::exp::exp_at;
 use elementary::finite::not_finite;
 use elementary::ln::ln_at;
+use lattice::reach::nothing_below;
+use lattice::reach::reached;
+use lattice::refusals::overflow;
+use lattice::refusals::row_overflow;
+use lattice::refusals::row_refused;
 use terms::Check;
 ghost use mathlib.Core.Path.{_≡_};
 ghost use Prim.Native.Nat.{_*_, _+_, _^_, _<_, _≤_};
 ghost use lib.ListN.{length};
 ghost use Rattle.elementary.specs.Answers.{plusZero};
 ghost use Rattle.treebasedbondpricer.specs.Fit.{weighted};
-ghost use Rattle.treebasedbondpricer.specs.laws.Stored.{numbersIn, rowOf};
-ghost use Rattle.treebasedbondpricer.specs.laws.Positions.{spotAt, past, startOf, Layered};
-ghost use Rattle.treebasedbondpricer.specs.laws.Rows.{outcomeOf};
+ghost use Rattle.lattice.specs.laws.Stored.{numbersIn, rowOf};
+ghost use Rattle.lattice.specs.laws.Positions.{spotAt, past, startOf, Layered};
+ghost use Rattle.lattice.specs.laws.Rows.{outcomeOf};
 ghost use Rattle.treebasedbondpricer.specs.laws.FitSteps.{weighOne, shiftFrom, discountedOf, addAt, shareAt, addThree, onwardAt};
 
 // One more price in the sum: price × exp(spacing × (−node × time_step)), added.

@@ -1,11 +1,11 @@
 // The tree before the walk: time_step, layers and shifts. Nothing of it reads the calls, the cashflows or the spread.
 
 use crate::fitting::fit_tree;
-use crate::flat::all_flat;
-use crate::lattice::lattice_transitions;
 use elementary::Refusal;
 use elementary::finite::not_finite;
 use hullwhite::variance::transition_variances;
+use lattice::flat::all_flat;
+use lattice::lattice::lattice_transitions;
 use terms::Check;
 ghost use mathlib.Core.Path.{_≡_};
 ghost use Prim.Native.Nat.{_+_, _<_, _≤_};
@@ -14,7 +14,7 @@ ghost use lib.Ieee.{binary64, div};
 ghost use Rattle.terms.specs.Numbers.{float};
 ghost use Rattle.terms.specs.Outcomes.{finiteThen};
 ghost use Rattle.hullwhite.specs.laws.Filled.{modelOf};
-ghost use Rattle.treebasedbondpricer.specs.laws.Growing.{roomLeft};
+ghost use Rattle.lattice.specs.laws.Growing.{roomLeft};
 ghost use Rattle.treebasedbondpricer.specs.laws.FittedIn.{FitsTree, fittedWith, fittedOver, unfittedOf};
 
 // Fitted: time_step, and whether the tree is flat. Its layers stand in the lent slices, counts, spacings and shifts beside them.

@@ -2,19 +2,19 @@
 
 use crate::layer::advance;
 use crate::layer::layer_shift;
-use crate::refusals::row_refused;
 use crate::rows::current;
 use elementary::Answer;
+use lattice::refusals::row_refused;
 use terms::Check;
 ghost use mathlib.Core.Path.{_≡_};
 ghost use Prim.Native.Nat.{_+_, _^_, _<_, _≤_};
 ghost use lib.ListN.{length, getD};
 ghost use Rattle.treebasedbondpricer.specs.Fit.{shiftsFrom, fitted};
-ghost use Rattle.treebasedbondpricer.specs.Lattice.{rootLayer};
-ghost use Rattle.treebasedbondpricer.specs.laws.Stored.{numbersIn};
-ghost use Rattle.treebasedbondpricer.specs.laws.Positions.{Layered};
+ghost use Rattle.lattice.specs.Lattice.{rootLayer};
+ghost use Rattle.lattice.specs.laws.Stored.{numbersIn};
+ghost use Rattle.lattice.specs.laws.Positions.{Layered};
 ghost use Rattle.treebasedbondpricer.specs.laws.Advances.{stepAt};
-ghost use Rattle.treebasedbondpricer.specs.laws.Laid.{frontNodes, layersIn, Laid};
+ghost use Rattle.lattice.specs.laws.Laid.{frontNodes, layersIn, Laid};
 ghost use Rattle.treebasedbondpricer.specs.laws.Found.{Found};
 ghost use Rattle.treebasedbondpricer.specs.laws.Fitting.{movedOf};
 ghost use Rattle.treebasedbondpricer.specs.laws.WalkMore.{rowIn};

@@ -3,18 +3,18 @@
 use crate::fit::onward;
 use crate::fit::shift_from;
 use crate::fit::weighted_sum;
-use crate::refusals::overflow;
 use elementary::Answer;
 use elementary::finite::not_finite;
+use lattice::refusals::overflow;
 use terms::Check;
 use terms::curve::curve_at;
 ghost use mathlib.Core.Path.{_≡_};
 ghost use Prim.Native.Nat.{_*_, _+_, _^_, _<_, _≤_};
 ghost use lib.ListN.{length};
 ghost use Rattle.treebasedbondpricer.specs.Fit.{shiftOf};
-ghost use Rattle.treebasedbondpricer.specs.laws.Stored.{numbersIn, rowOf};
-ghost use Rattle.treebasedbondpricer.specs.laws.Positions.{startOf, Layered};
-ghost use Rattle.treebasedbondpricer.specs.laws.Rows.{outcomeOf, Both};
+ghost use Rattle.lattice.specs.laws.Stored.{numbersIn, rowOf};
+ghost use Rattle.lattice.specs.laws.Positions.{startOf, Layered};
+ghost use Rattle.lattice.specs.laws.Rows.{outcomeOf, Both};
 ghost use Rattle.treebasedbondpricer.specs.laws.Advances.{layerShift, advancedAt};
 
 // The shift of a step: the curve is read at time_step × (step + 1).

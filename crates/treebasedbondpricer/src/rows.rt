@@ -3,7 +3,7 @@
 ghost use mathlib.Core.Path.{_≡_};
 ghost use Prim.Native.Nat.{_≤_};
 ghost use lib.ListN.{length};
-ghost use Rattle.treebasedbondpricer.specs.laws.Rows.{currentPart};
+ghost use Rattle.lattice.specs.laws.Rows.{currentPart};
 
 pub fn current<'a>(first: &'a [f64], second: &'a [f64], step: u32, count: usize) -> &'a [f64]
     requires { ⌜ (count ≤ length (now first)) × (count ≤ length (now second)) ⌝ }

@@ -11,7 +11,7 @@ ghost use mathlib.Core.Path.{_≡_};
 ghost use Prim.Native.Nat.{_≤_};
 ghost use lib.ListN.{length};
 ghost use Rattle.treebasedbondpricer.specs.Entry.{marketOf, callsIn, Entered};
-ghost use Rattle.treebasedbondpricer.specs.laws.Growing.{roomLeft};
+ghost use Rattle.lattice.specs.laws.Growing.{roomLeft};
 ghost use Rattle.treebasedbondpricer.specs.laws.Entered.{uncheckedOf, valueOn};
 
 // A refusal met on the way is handed up unchanged.

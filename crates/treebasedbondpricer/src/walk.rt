@@ -1,22 +1,22 @@
 // Walking back, one layer: continuation, the lower of it and the call price, then the step's cashflow.
 
 use crate::fit::spot;
-use crate::reach::nothing_below;
-use crate::reach::reached;
-use crate::refusals::overflow;
-use crate::refusals::row_refused;
 use bondevents::CallStep;
 use elementary::Answer;
 use elementary::exp::exp_at;
 use elementary::finite::not_finite;
 use elementary::min::lesser;
+use lattice::reach::nothing_below;
+use lattice::reach::reached;
+use lattice::refusals::overflow;
+use lattice::refusals::row_refused;
 use terms::Check;
 ghost use mathlib.Core.Path.{_≡_};
 ghost use Prim.Native.Nat.{_≤_, _<_};
 ghost use lib.ListN.{length};
 ghost use Rattle.treebasedbondpricer.specs.Walk as Walk;
-ghost use Rattle.treebasedbondpricer.specs.laws.Positions.{spotAt, startOf, Layered};
-ghost use Rattle.treebasedbondpricer.specs.laws.Rows.{outcomeOf};
+ghost use Rattle.lattice.specs.laws.Positions.{spotAt, startOf, Layered};
+ghost use Rattle.lattice.specs.laws.Rows.{outcomeOf};
 ghost use Rattle.treebasedbondpricer.specs.laws.WalkSteps.{sumOf, discountWith, worthOf, valueWith, rolledAt};
 
 // What the short rate of a step is made of, and time_step.

@@ -9,11 +9,11 @@ use Rattle.elementary.specs.declared.Answer.{Answer}
 use Rattle.elementary.specs.Answers.{plusZero, andThen}
 use Rattle.terms.specs.Terms.{Pillars}
 use Rattle.terms.specs.Outcomes.{Outcome, given, follow, valued}
-use Rattle.treebasedbondpricer.specs.Layers.{At}
+use Rattle.lattice.specs.Layers.{At}
 use Rattle.treebasedbondpricer.specs.Fit.{weighted, shiftOf}
-use Rattle.treebasedbondpricer.specs.laws.Stored.{numbersIn, rowOf}
-use Rattle.treebasedbondpricer.specs.laws.Positions.{startOf}
-use Rattle.treebasedbondpricer.specs.laws.Rows.{even, currentPart, Both}
+use Rattle.lattice.specs.laws.Stored.{numbersIn, rowOf}
+use Rattle.lattice.specs.laws.Positions.{startOf}
+use Rattle.lattice.specs.laws.Rows.{even, currentPart, Both}
 use Rattle.treebasedbondpricer.specs.laws.FitSteps.{onwardAt}
 
 -- The weighted sum, then the shift.

@@ -23,7 +23,7 @@ use Rattle.bondevents.specs.laws.NoLower.{NoLowerGrid}
 use Rattle.bondevents.specs.laws.GridAnswers.{accepted, checked-no-lower, reordered-accepted, answer-reordered}
 use Rattle.treebasedbondpricer.specs.declared.TreeValue.{TreeValue}
 use Rattle.treebasedbondpricer.specs.declared.TreeValue.the-variants.{Value, Refused}
-use Rattle.treebasedbondpricer.specs.Layers.{Room}
+use Rattle.lattice.specs.Layers.{Room}
 use Rattle.treebasedbondpricer.specs.Tree.{latticeValue, treeValue, lentAfter, numberOf}
 use Rattle.treebasedbondpricer.specs.CallLists as rule
 use Rattle.treebasedbondpricer.specs.CallLists.{NoLowerOr27, Thinned, CallListRule, ReorderingRule}

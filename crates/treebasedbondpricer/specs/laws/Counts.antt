@@ -16,8 +16,8 @@ use Rattle.terms.specs.Terms.{Pillars, HullWhite, Market}
 use Rattle.terms.specs.Outcomes.{given}
 use Rattle.terms.specs.laws.Outcomes.{Gives, gives, given-of, gives-follow, gives-valued, gives-finite, gives-known}
 use Rattle.hullwhite.specs.Variance.{stepVariance, variancesFrom}
-use Rattle.treebasedbondpricer.specs.Layers.{At, Room}
-use Rattle.treebasedbondpricer.specs.Lattice.{Layer, lattice}
+use Rattle.lattice.specs.Layers.{At, Room}
+use Rattle.lattice.specs.Lattice.{Layer, lattice}
 use Rattle.treebasedbondpricer.specs.Fit.{weighted, shiftOf, onward, shiftsFrom}
 use Rattle.treebasedbondpricer.specs.Tree.{Fitted, fittedTree}
 use Rattle.treebasedbondpricer.specs.laws.Proper.{Proper, proper-of-lattice, layers-of-lattice}

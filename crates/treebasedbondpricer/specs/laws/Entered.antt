@@ -25,7 +25,7 @@ use Rattle.bondevents.proofs.Grids.{bounded}
 use Rattle.bondevents.specs.Parts.{gridOutcome}
 use Rattle.treebasedbondpricer.specs.declared.TreeValue.{TreeValue}
 use Rattle.treebasedbondpricer.specs.declared.TreeValue.the-variants.{Value, Refused}
-use Rattle.treebasedbondpricer.specs.Layers.{Room}
+use Rattle.lattice.specs.Layers.{Room}
 use Rattle.treebasedbondpricer.specs.Tree.{Fitted, latticeValue, fittedTree, treeValue, Lent, roomOf, zeroed, lentAfter}
 use Rattle.treebasedbondpricer.specs.Entry.{Entered}
 use Rattle.treebasedbondpricer.specs.laws.FittedIn.{fittedWith, fittedOver}

@@ -3,7 +3,7 @@ use mathlib.Core.Path.{_≡_, refl, sym, ap, subst, _∙_}
 use Rattle.terms.specs.Terms.{CallSchedule, Market}
 use Rattle.bondevents.specs.declared.GridAnswer.{GridAnswer}
 use Rattle.treebasedbondpricer.specs.declared.TreeValue.{TreeValue}
-use Rattle.treebasedbondpricer.specs.Layers.{Room}
+use Rattle.lattice.specs.Layers.{Room}
 use Rattle.treebasedbondpricer.specs.Tree.{treeValue, Lent, roomOf, lentAfter}
 use Rattle.treebasedbondpricer.specs.CallLists.{Thinned}
 use Rattle.treebasedbondpricer.specs.Entry.{Entered, EntryCallListRule, EntryReorderingRule}

@@ -1,5 +1,5 @@
--- The fit over all layers of a laid tree, on parts of the slices: the layer in front, and what each way of one turn leaves of the whole. Assumes nothing.
-use Prim.Native.Nat.{ℕ, _+_, _*_, _≤_, _<_}
+-- The fit over all layers of a laid tree, on parts of the slices: what each way of one turn leaves of the whole. Assumes nothing.
+use Prim.Native.Nat.{ℕ, _+_, _*_, _<_}
 use mathlib.Core.Path.{_≡_, refl, sym, ap, _∙_}
 use mathlib.Core.Bool.{Bool}
 use mathlib.Core.List.{List, [], _∷_}
@@ -18,46 +18,20 @@ use Rattle.terms.specs.Terms.{Pillars}
 use Rattle.terms.specs.Outcomes.{Outcome, given, refused, onOutcome, follow}
 use Rattle.terms.specs.laws.Outcomes.{same-given, given-or-refused, follow-given, follow-refused}
 use Rattle.hullwhite.specs.laws.Filled.{checkOf}
-use Rattle.treebasedbondpricer.specs.Layers.{At}
-use Rattle.treebasedbondpricer.specs.Lattice.{rootLayer}
+use Rattle.lattice.specs.Layers.{At}
+use Rattle.lattice.specs.Lattice.{rootLayer}
 use Rattle.treebasedbondpricer.specs.Fit.{shiftsFrom}
-use Rattle.treebasedbondpricer.specs.laws.Stored.{numbersIn, rowOf}
-use Rattle.treebasedbondpricer.specs.laws.Rows.{Both}
-use Rattle.treebasedbondpricer.specs.laws.Rows as rows
+use Rattle.lattice.specs.laws.Stored.{numbersIn, rowOf}
+use Rattle.lattice.specs.laws.Rows.{Both}
+use Rattle.lattice.specs.laws.Rows as rows
 use Rattle.treebasedbondpricer.specs.laws.Advances.{Moved, stepAt}
-use Rattle.treebasedbondpricer.specs.laws.LentParts.{part, part-is, writtenFirst, written-first}
-use Rattle.treebasedbondpricer.specs.laws.Laid.{frontNodes, frontLayer, layersIn, Stepped, Laid, last-laid, more-laid}
+use Rattle.lattice.specs.laws.Parts.{partFrom, part-from, withPart, with-rest}
+use Rattle.lattice.specs.laws.Laid.{frontNodes, layersIn, Laid, last-laid, more-laid}
+use Rattle.treebasedbondpricer.specs.laws.LaidFront.{frontCount, Behind}
 use Rattle.treebasedbondpricer.specs.laws.Found.{Found}
 use Rattle.treebasedbondpricer.specs.laws.FitMore.{fit-more}
 use Rattle.treebasedbondpricer.specs.laws.Fitting.{movedOf}
 use Rattle.treebasedbondpricer.specs.laws.WalkMore.{rowIn}
-
--- ---- the layer in front
-
--- One layer before others: it steps to the next one, which stands in front of what is left.
-pub record Ahead (flat : Bool) (one two : ℕ) (counts : List ℕ) (spacings : List Float) (nodes : List ℤ) (probabilities : List Float) : Type 0 where
-  pub some-count : 0 < length counts
-  pub stepped : Stepped flat one two (getD counts 0 0) (getD (part 1 counts) 0 0) nodes probabilities
-  pub behind : Laid flat one two (part 1 counts) (part 1 spacings) (part (getD counts 0 0 * 2) nodes) (part (getD counts 0 0 * 3) probabilities)
-  pub layers : layersIn flat counts spacings nodes probabilities
-      ≡ frontLayer flat (getD counts 0 0) (getD spacings 0 nan) nodes probabilities ∷ layersIn flat (part 1 counts) (part 1 spacings) (part (getD counts 0 0 * 2) nodes) (part (getD counts 0 0 * 3) probabilities)
-
-pub ahead : {flat : Bool} {one two : ℕ} {counts : List ℕ} {spacings : List Float} {nodes : List ℤ} {probabilities : List Float} → Laid flat one two counts spacings nodes probabilities → 0 < length spacings → Ahead flat one two counts spacings nodes probabilities
-unfolding layersIn
-ahead (last-laid p q r) h = absurd (omega arith)
-ahead (more-laid {c = c} {n = n} {counts = counts} {s = s} {spacings = spacings} {nodes = nodes} {probabilities = probabilities} st l) h =
-    let a : part 1 (c ∷ n ∷ counts) ≡ n ∷ counts = part-is 1 (c ∷ n ∷ counts) in
-    let b : part 1 (s ∷ spacings) ≡ spacings = part-is 1 (s ∷ spacings) in
-    record {
-      some-count = omega arith;
-      stepped = rw a st;
-      behind = rw (a, b, part-is (c * 2) nodes, part-is (c * 3) probabilities) l;
-      layers = rw (a, b, part-is (c * 2) nodes, part-is (c * 3) probabilities);
-    }
-
--- the same layers, over rows as long as those
-pub laid-over : {flat : Bool} {one two long wide : ℕ} {counts : List ℕ} {spacings : List Float} {nodes : List ℤ} {probabilities : List Float} → long ≡ one → wide ≡ two → Laid flat one two counts spacings nodes probabilities → Laid flat long wide counts spacings nodes probabilities
-laid-over e f l = rw (e, f) l
 
 -- ---- what a turn leaves
 
@@ -76,21 +50,21 @@ module _ (settlement : ℕ) (pillars : Pillars) (dt : Float) where
   found-none step row (x ∷ shifts) (last-laid p q r) e h = absurd (omega arith)
   found-none step row shifts (more-laid st l) e h = absurd (omega arith)
 
-  module _ (step : ℕ) (flat : Bool) (counts : List ℕ) (spacings : List Float) (nodes : List ℤ) (probabilities : List Float) (lent left : Both) (a : Ahead flat (length (lent .first)) (length (lent .second)) counts spacings nodes probabilities) where
+  module _ (step : ℕ) (flat : Bool) (counts : List ℕ) (spacings : List Float) (nodes : List ℤ) (probabilities : List Float) (lent left : Both) (a : Behind flat (length (lent .first)) (length (lent .second)) counts spacings nodes probabilities) where
     abbrev pub whole : Outcome (List Float)
-    whole = shiftsFrom settlement pillars dt step (layersIn flat counts spacings nodes probabilities) (rowIn step (getD counts 0 0) nodes lent)
+    whole = shiftsFrom settlement pillars dt step (layersIn flat counts spacings nodes probabilities) (rowIn step (frontCount counts) nodes lent)
 
     -- the layers behind, from the rows that the step left
     abbrev pub others : Both → Outcome (List Float)
-    others rows = shiftsFrom settlement pillars dt (step + 1) (layersIn flat (part 1 counts) (part 1 spacings) (part (getD counts 0 0 * 2) nodes) (part (getD counts 0 0 * 3) probabilities)) (rowIn (step + 1) (getD (part 1 counts) 0 0) (part (getD counts 0 0 * 2) nodes) rows)
+    others rows = shiftsFrom settlement pillars dt (step + 1) (layersIn flat (partFrom 1 counts) (partFrom 1 spacings) (partFrom (frontCount counts * 2) nodes) (partFrom (frontCount counts * 3) probabilities)) (rowIn (step + 1) (frontCount (partFrom 1 counts)) (partFrom (frontCount counts * 2) nodes) rows)
 
     abbrev one-step : Outcome Moved
-    one-step = stepAt settlement pillars dt step flat (getD counts 0 0) (getD spacings 0 nan) (frontNodes (getD counts 0 0) nodes) (take (getD counts 0 0 * 3) probabilities) lent
+    one-step = stepAt settlement pillars dt step flat (frontCount counts) (getD spacings 0 nan) (frontNodes (frontCount counts) nodes) (take (frontCount counts * 3) probabilities) lent
 
     turn : whole ≡ follow one-step λ m. follow (others (m .rows)) λ shifts. given (m .shift ∷ shifts)
     turn =
-        rw (a .layers, part-is (getD counts 0 0 * 2) nodes)
-        (rw (← add-one step) at (fit-more (a .stepped) settlement pillars dt (getD spacings 0 nan) step lent (layersIn flat (part 1 counts) (part 1 spacings) (drop (getD counts 0 0 * 2) nodes) (part (getD counts 0 0 * 3) probabilities)) (a .stepped .first-room) (a .stepped .second-room) (a .stepped .next-first) (a .stepped .next-second)))
+        rw (a .layers, part-from 1 counts, part-from 1 spacings, part-from (frontCount counts * 2) nodes, part-from (frontCount counts * 3) probabilities, a .next)
+        (rw (← add-one step) at (fit-more (a .stepped) settlement pillars dt (getD spacings 0 nan) step lent (layersIn flat (drop 1 counts) (drop 1 spacings) (drop (frontCount counts * 2) nodes) (drop (frontCount counts * 3) probabilities)) (a .stepped .first-room) (a .stepped .second-room) (a .stepped .next-first) (a .stepped .next-second)))
 
     module _ {s : Answer} (e : movedOf s left ≡ one-step) where
       -- the step refused
@@ -101,21 +75,17 @@ module _ (settlement : ℕ) (pillars : Pillars) (dt : Float) where
           record { outcome = f ∙ rw (v, w); slice = λ xs g. absurd (given-or-refused g w) }
 
       -- the step gave a shift
-      pub found-more : {shift : Float} (r : Check) (shifts rest : List Float) → 0 < length shifts → s ≡ answer.Value shift → Found (others left) r rest → Found whole r (writtenFirst shifts shift rest)
+      pub found-more : {shift : Float} (r : Check) (shifts rest : List Float) → 0 < length shifts → s ≡ answer.Value shift → Found (others left) r rest → Found whole r (withPart 1 (set shifts 0 shift) rest)
       unfolding onAnswer
       found-more {shift} r shifts rest h v f =
           let w : whole ≡ follow (others left) λ shifts. given (shift ∷ shifts) = turn ∙ follow-given one-step _ (sym e ∙ rw v) in
-          rw (written-first shifts rest shift h, w) (one-more shift (others left) r rest f)
+          rw (with-rest shifts shift rest h, w) (one-more shift (others left) r rest f)
 
 -- ---- from the root
 
-pub front-room : {flat : Bool} {one two : ℕ} {counts : List ℕ} {spacings : List Float} {nodes : List ℤ} {probabilities : List Float} → Laid flat one two counts spacings nodes probabilities → getD counts 0 0 ≤ one
-front-room (last-laid p q r) = q
-front-room (more-laid st l) = st .first-room
-
 -- the row of the root, its state price written
-pub root-row : (counts : List ℕ) (nodes : List ℤ) (first second : List Float) → getD counts 0 0 ≡ 1 → numbersIn (frontNodes 1 nodes) ≡ rootLayer → 0 < length first
-    → rowIn 0 (getD counts 0 0) nodes (record { first = set first 0 one; second = second }) ≡ record { node = pos 0; value = one } ∷ []
+pub root-row : (counts : List ℕ) (nodes : List ℤ) (first second : List Float) → frontCount counts ≡ 1 → numbersIn (frontNodes 1 nodes) ≡ rootLayer → 0 < length first
+    → rowIn 0 (frontCount counts) nodes (record { first = set first 0 one; second = second }) ≡ record { node = pos 0; value = one } ∷ []
 unfolding rowOf
 root-row counts nodes [] second e f h = absurd (omega arith)
 root-row counts nodes (x ∷ first) second e f h = rw (e, f)

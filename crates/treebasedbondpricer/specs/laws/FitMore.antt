@@ -13,18 +13,18 @@ use lib.Ieee.{Float}
 use Rattle.elementary.specs.Answers.{plusZero}
 use Rattle.terms.specs.Terms.{Pillars}
 use Rattle.terms.specs.Outcomes.{Outcome, given, follow, valued}
-use Rattle.treebasedbondpricer.specs.Layers.{At}
-use Rattle.treebasedbondpricer.specs.Lattice.{Layer}
+use Rattle.lattice.specs.Layers.{At}
+use Rattle.lattice.specs.Lattice.{Layer}
 use Rattle.treebasedbondpricer.specs.Fit.{weighted, shiftOf, onward, shiftsFrom}
-use Rattle.treebasedbondpricer.specs.laws.Binds.{valued-then, valued-same, follow-valued, follow-follow, follow-given}
-use Rattle.treebasedbondpricer.specs.laws.Stored.{numbersIn, middlesIn, transitionsIn, rowOf}
-use Rattle.treebasedbondpricer.specs.laws.Positions.{startOf, Layered}
-use Rattle.treebasedbondpricer.specs.laws.Replayed.{roomy-of}
-use Rattle.treebasedbondpricer.specs.laws.Rows.{even, currentPart, Both}
+use Rattle.lattice.specs.laws.Binds.{valued-then, valued-same, follow-valued, follow-follow, follow-given}
+use Rattle.lattice.specs.laws.Stored.{numbersIn, middlesIn, transitionsIn, rowOf}
+use Rattle.lattice.specs.laws.Positions.{startOf, Layered}
+use Rattle.lattice.specs.laws.Replayed.{roomy-of}
+use Rattle.lattice.specs.laws.Rows.{even, currentPart, Both}
 use Rattle.treebasedbondpricer.specs.laws.FitSteps.{onwardAt}
 use Rattle.treebasedbondpricer.specs.laws.FitPlaces.{onward-at}
 use Rattle.treebasedbondpricer.specs.laws.Advances.{layerShift, advancedAt, Moved, stepAt}
-use Rattle.treebasedbondpricer.specs.laws.Laid.{frontNodes, frontLayer, Stepped}
+use Rattle.lattice.specs.laws.Laid.{frontNodes, frontLayer, Stepped}
 
 -- A row's part that is as long as the numbers says all that the row says.
 row-take : (ns : List ℤ) (o : List Float) → rowOf ns (take (length ns) o) ≡ rowOf ns o

@@ -11,17 +11,18 @@ use lib.IntN.{ℤ, pos, predℤ, sucℤ}
 use lib.Ieee.{Float, binary64, nan, add, mul}
 use Rattle.elementary.specs.Answers.{notFinite}
 use Rattle.terms.specs.Outcomes.{Outcome, given, follow, valued, finiteThen, refuse}
-use Rattle.treebasedbondpricer.specs.declared.Transition.{Transition}
-use Rattle.treebasedbondpricer.specs.declared.reach.Reach.{Reach}
-use Rattle.treebasedbondpricer.specs.Layers.{At, nodeFloat}
+use Rattle.lattice.specs.declared.Transition.{Transition}
+use Rattle.lattice.specs.declared.reach.Reach.{Reach}
+use Rattle.lattice.specs.Layers.{At, nodeFloat}
 use Rattle.treebasedbondpricer.specs.Fit.{contribute, contributeThree, onward}
 use Rattle.terms.specs.laws.Outcomes.{Gives, gives, nothing, gives-follow, gives-finite, gives-cond}
-use Rattle.treebasedbondpricer.specs.laws.Binds.{binds, follow-cond, follow-valued, follow-follow, follow-given, valued-same, follow-where}
-use Rattle.treebasedbondpricer.specs.laws.Stored.{numbersIn, middlesIn, madeOf, transitionsIn, rowOf}
-use Rattle.treebasedbondpricer.specs.laws.Reaching.{reach}
-use Rattle.treebasedbondpricer.specs.laws.RisingMiddles.{Climbs}
-use Rattle.treebasedbondpricer.specs.laws.Positions.{spotAt, past}
-use Rattle.treebasedbondpricer.specs.laws.Placing.{Spot, Spots, afterThree, Placed, all-placed, next-placed, contribute-at, made-down, made-middle, made-up, made-first, made-second, made-third}
+use Rattle.lattice.specs.laws.Binds.{binds, follow-cond, follow-valued, follow-follow, follow-given, valued-same, follow-where}
+use Rattle.lattice.specs.laws.Stored.{numbersIn, middlesIn, madeOf, transitionsIn, rowOf}
+use Rattle.lattice.specs.laws.Reaching.{reach}
+use Rattle.lattice.specs.laws.RisingMiddles.{Climbs}
+use Rattle.lattice.specs.laws.Positions.{spotAt, past}
+use Rattle.lattice.specs.laws.Spots.{Spot, Spots, afterThree, Placed, all-placed, next-placed}
+use Rattle.treebasedbondpricer.specs.laws.Placing.{contribute-at, made-down, made-middle, made-up, made-first, made-second, made-third}
 use Rattle.treebasedbondpricer.specs.laws.FitSteps.{discountedOf, addAt, shareAt, addThree, onwardAt}
 
 -- ---- lengths are kept

@@ -13,12 +13,12 @@ use Rattle.elementary.specs.Answers.{plusZero, onAnswer, andThen, refusal, test
 use Rattle.elementary.specs.Exponential.{expAt}
 use Rattle.elementary.specs.Logarithm.{lnAt}
 use Rattle.terms.specs.Outcomes.{Outcome, given, onOutcome, follow, valued, finiteThen}
-use Rattle.treebasedbondpricer.specs.declared.reach.Reach.{Reach}
-use Rattle.treebasedbondpricer.specs.Layers.{At, nodeFloat}
+use Rattle.lattice.specs.declared.reach.Reach.{Reach}
+use Rattle.lattice.specs.Layers.{At, nodeFloat}
 use Rattle.treebasedbondpricer.specs.Fit.{weighted}
-use Rattle.treebasedbondpricer.specs.laws.Reaching.{reach}
-use Rattle.treebasedbondpricer.specs.laws.Positions.{spotAt, past}
-use Rattle.treebasedbondpricer.specs.laws.Binds.{binds}
+use Rattle.lattice.specs.laws.Reaching.{reach}
+use Rattle.lattice.specs.laws.Positions.{spotAt, past}
+use Rattle.lattice.specs.laws.Binds.{binds}
 
 -- ---- the weighted sum
 

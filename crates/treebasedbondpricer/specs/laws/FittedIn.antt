@@ -18,13 +18,13 @@ use Rattle.hullwhite.specs.Variance.{transitionVariances, variancesFrom, stepVa
 use Rattle.hullwhite.specs.laws.Filled.{checkOf, Filled}
 use Rattle.treebasedbondpricer.specs.declared.fitted.FittedTree.{FittedTree}
 use Rattle.treebasedbondpricer.specs.declared.fitted.FittedTree.the-variants as tree
-use Rattle.treebasedbondpricer.specs.Layers.{Room}
-use Rattle.treebasedbondpricer.specs.Lattice.{Layer, Lattice, lattice, rootLayer, allFlat}
+use Rattle.lattice.specs.Layers.{Room}
+use Rattle.lattice.specs.Lattice.{Layer, Lattice, lattice, rootLayer, allFlat}
 use Rattle.treebasedbondpricer.specs.Fit.{fitted, shiftsFrom}
 use Rattle.treebasedbondpricer.specs.Tree.{Fitted}
 use Rattle.treebasedbondpricer.specs.laws.Found.{Found}
-use Rattle.treebasedbondpricer.specs.laws.Laid.{layersIn}
-use Rattle.treebasedbondpricer.specs.laws.LaidTree.{LaidTree, LaysTree}
+use Rattle.lattice.specs.laws.Laid.{layersIn}
+use Rattle.lattice.specs.laws.LaidTree.{LaidTree, LaysTree}
 
 -- Transitions, then the fit.
 unfoldable pub fittedWith : ℕ → Pillars → Room → Float → Float → List Float → Outcome Fitted

@@ -16,9 +16,9 @@ use Rattle.terms.specs.declared.Check.the-variants as check
 use Rattle.terms.specs.Terms.{Pillars}
 use Rattle.terms.specs.Outcomes.{Outcome, given, valued}
 use Rattle.terms.specs.laws.Outcomes.{follow-given, follow-refused}
-use Rattle.treebasedbondpricer.specs.laws.Stored.{numbersIn, rowOf}
-use Rattle.treebasedbondpricer.specs.laws.Binds.{went-on, stopped-at}
-use Rattle.treebasedbondpricer.specs.laws.Rows.{even, outcomeOf, currentPart, Both}
+use Rattle.lattice.specs.laws.Stored.{numbersIn, rowOf}
+use Rattle.lattice.specs.laws.Binds.{went-on, stopped-at}
+use Rattle.lattice.specs.laws.Rows.{even, outcomeOf, currentPart, Both}
 use Rattle.treebasedbondpricer.specs.laws.Advances.{layerShift, advancedAt, Moved, stepAt}
 
 -- A step's shift with the rows that are left, or its refusal.

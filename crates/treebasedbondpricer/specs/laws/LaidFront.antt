@@ -1,22 +1,15 @@
 -- A laid tree taken apart: the layer in front, and the tree behind it. Assumes nothing.
-use Prim.Native.Nat.{ℕ, _-_, _*_, _≤_, _<_}
+use Prim.Native.Nat.{ℕ, _*_, _≤_, _<_}
 use mathlib.Core.Path.{_≡_, refl}
 use mathlib.Core.Bool.{Bool}
 use mathlib.Core.List.{List, [], _∷_}
 use native.Mathlib.Omega.{arith}
-use lib.ListN.{length, getD, take, drop, length-drop}
-use lib.Seq.{take-all}
+use lib.ListN.{length, getD, drop}
 use lib.IntN.{ℤ}
 use lib.Ieee.{Float, nan}
-use Rattle.treebasedbondpricer.specs.laws.Stored.{numbersIn}
-use Rattle.treebasedbondpricer.specs.laws.Laid.{frontNodes, frontLayer, layersIn, finalIn, Stepped, Laid, last-laid, more-laid}
-
--- A part of a slice from a start on.
-abbrev pub partFrom : {A : Type 0} → ℕ → List A → List A
-partFrom a l = take (length l - a) (drop a l)
-
-pub part-from : {A : Type 0} (a : ℕ) (l : List A) → partFrom a l ≡ drop a l
-part-from a l = take-all (length l - a) (drop a l) (omega (arith, length-drop a l))
+use Rattle.lattice.specs.laws.Stored.{numbersIn}
+use Rattle.lattice.specs.laws.Parts.{partFrom, part-from}
+use Rattle.lattice.specs.laws.Laid.{frontNodes, frontLayer, layersIn, finalIn, Stepped, Laid, last-laid, more-laid}
 
 -- The count of the layer in front.
 abbrev pub frontCount : List ℕ → ℕ
@@ -64,3 +57,7 @@ module _ {flat : Bool} {one two : ℕ} where
   pub laid-parts : {counts : List ℕ} {spacings : List Float} {nodes : List ℤ} {probabilities : List Float} → Behind flat one two counts spacings nodes probabilities → Laid flat one two (partFrom 1 counts) (partFrom 1 spacings) (partFrom (frontCount counts * 2) nodes) (partFrom (frontCount counts * 3) probabilities)
   laid-parts {counts} {spacings} {nodes} {probabilities} b =
       rw (part-from 1 counts, part-from 1 spacings, part-from (frontCount counts * 2) nodes, part-from (frontCount counts * 3) probabilities) (b .laid)
+
+  -- the same tree, over rows as long as those
+  pub laid-over : {long wide : ℕ} {counts : List ℕ} {spacings : List Float} {nodes : List ℤ} {probabilities : List Float} → long ≡ one → wide ≡ two → Laid flat one two counts spacings nodes probabilities → Laid flat long wide counts spacings nodes probabilities
+  laid-over e f l = rw (e, f) l

@@ -10,7 +10,7 @@ use lib.Seq.{length-take-le, take-at}
 use lib.Ieee.{Float}
 use Rattle.terms.specs.declared.Check.{Check}
 use Rattle.terms.specs.Outcomes.{Outcome}
-use Rattle.treebasedbondpricer.specs.laws.Rows.{even, currentPart, outcomeOf}
+use Rattle.lattice.specs.laws.Rows.{even, currentPart, outcomeOf}
 
 module _ (step : ℕ) (h : step % 2 ≡ 0) where
   pub even-now : even step ≡ true

@@ -13,15 +13,15 @@ use lib.Ieee.{Float, binary64, nan, add}
 use lib.Ieee.Scale.{finite}
 use Rattle.elementary.specs.Answers.{notFinite}
 use Rattle.terms.specs.Outcomes.{Outcome, given, onOutcome, follow, refuse}
-use Rattle.treebasedbondpricer.specs.declared.reach.Reach.{Reach}
-use Rattle.treebasedbondpricer.specs.Layers.{below, At, valueAt}
+use Rattle.lattice.specs.declared.reach.Reach.{Reach}
+use Rattle.lattice.specs.Layers.{below, At, valueAt}
 use Rattle.treebasedbondpricer.specs.Fit.{contribute}
-use Rattle.treebasedbondpricer.specs.laws.IntegerOrder.{below-self, below-asym}
-use Rattle.treebasedbondpricer.specs.laws.Reaching.{reach}
-use Rattle.treebasedbondpricer.specs.laws.RisingMiddles.{Climbs, none, above}
-use Rattle.treebasedbondpricer.specs.laws.Stored.{rowOf, madeOf}
-use Rattle.treebasedbondpricer.specs.laws.Binds.{follow-cond, follow-follow, follow-given}
-use Rattle.treebasedbondpricer.specs.laws.Positions.{spotAt, past}
+use Rattle.lattice.specs.laws.IntegerOrder.{below-self, below-asym}
+use Rattle.lattice.specs.laws.Reaching.{reach}
+use Rattle.lattice.specs.laws.RisingMiddles.{Climbs, none, above}
+use Rattle.lattice.specs.laws.Stored.{rowOf, madeOf}
+use Rattle.lattice.specs.laws.Binds.{follow-cond, follow-follow, follow-given}
+use Rattle.lattice.specs.laws.Positions.{spotAt, past}
 use Rattle.treebasedbondpricer.specs.laws.FitSteps.{addAt}
 
 -- ---- the order of numbers
@@ -133,28 +133,3 @@ module _ (flat : Bool) (m : ℤ) (d p u : Float) where
   pub made-third : madeOf flat m d p u .«probability_up» ≡ u
   unfolding madeOf
   made-third = made (λ (f : Bool). madeOf f m d p u .«probability_up» ≡ u) refl refl flat
-
--- ---- the places of a layer's destinations
-
--- A destination's position among the numbers, c of which are reached.
-pub record Spot (ns : List ℤ) (c p : ℕ) (n : ℤ) : Type 0 where
-  pub reached : p ≤ c
-  pub inside : p < length ns
-  pub number : getD ns p (pos 0) ≡ n
-
--- How many are reached once all three positions were written.
-abbrev pub afterThree : Bool → ℕ → ℕ → ℕ
-afterThree flat c count = past (past (past c (spotAt flat count 3)) (spotAt flat count 2)) (spotAt flat count 1)
-
--- The three destinations of a node.
-pub record Spots (ns : List ℤ) (flat : Bool) (c count : ℕ) (m : ℤ) : Type 0 where
-  pub three : 3 ≤ count
-  pub counted : c ≤ length ns
-  pub low : Spot ns c (spotAt flat count 3) (cond flat m (predℤ m))
-  pub mid : Spot ns (past c (spotAt flat count 3)) (spotAt flat count 2) m
-  pub high : Spot ns (past (past c (spotAt flat count 3)) (spotAt flat count 2)) (spotAt flat count 1) (cond flat m (sucℤ m))
-
--- Replaying a layer's middles from r, with c reached, each node's destinations are where they are looked for; in the end all numbers are reached.
-pub data Placed (ns : List ℤ) (flat : Bool) : Reach → ℕ → List ℤ → Type 0 where
-  all-placed : {r : Reach} {c : ℕ} → c ≡ length ns → Placed ns flat r c []
-  next-placed : {r : Reach} {c : ℕ} {m : ℤ} {ms : List ℤ} → r .count ≡ c → Spots ns flat (r .count) (reach r m .count) m → Placed ns flat (reach r m) (afterThree flat (r .count) (reach r m .count)) ms → Placed ns flat r c (m ∷ ms)

@@ -18,10 +18,10 @@ use Rattle.elementary.specs.laws.Finite.{positive-of-div}
 use Rattle.elementary.specs.laws.Values.{Above}
 use Rattle.terms.specs.Outcomes.{given}
 use Rattle.terms.specs.laws.Outcomes.{Gives, gives, nothing, given-of, gives-follow, gives-valued, gives-finite, gives-cond, gives-known}
-use Rattle.treebasedbondpricer.specs.declared.Transition.{Transition}
-use Rattle.treebasedbondpricer.specs.Layers.{Room, fits, nodeFloat}
-use Rattle.treebasedbondpricer.specs.Transitions.{Step, sixth, twoThirds, tooLow, tooFar, clamped, probabilities, transitionOf}
-use Rattle.treebasedbondpricer.specs.Lattice.{Layer, Lattice, transitionsOf, destinations, spacingOf, stepOf, grown, rootLayer, allFlat, flatLayer, flat, decayOf, curved, lattice}
+use Rattle.lattice.specs.declared.Transition.{Transition}
+use Rattle.lattice.specs.Layers.{Room, fits, nodeFloat}
+use Rattle.lattice.specs.Transitions.{Step, sixth, twoThirds, tooLow, tooFar, clamped, probabilities, transitionOf}
+use Rattle.lattice.specs.Lattice.{Layer, Lattice, transitionsOf, destinations, spacingOf, stepOf, grown, rootLayer, allFlat, flatLayer, flat, decayOf, curved, lattice}
 
 -- The three probabilities of a transition, each finite and not below 0.
 pub record Weighted (t : Transition) : Type 0 where

@@ -15,7 +15,7 @@ use Rattle.elementary.specs.laws.Finite.{finite-of-add, finite-of-mul}
 use Rattle.elementary.specs.laws.Values.{Above}
 use Rattle.bondevents.specs.declared.CallStep.{CallStep}
 use Rattle.bondevents.specs.laws.NoLower.{NoLower}
-use Rattle.treebasedbondpricer.specs.Layers.{At, below, valueAt}
+use Rattle.lattice.specs.Layers.{At, below, valueAt}
 use Rattle.treebasedbondpricer.specs.Walk.{called}
 
 -- Both finite, and the second no lower than the first.

@@ -15,8 +15,8 @@ use Rattle.bondevents.specs.declared.BondEventGrid.{BondEventGrid}
 use Rattle.bondevents.specs.laws.NoLower.{NoLowerCalls, NoLowerGrid}
 use Rattle.treebasedbondpricer.specs.declared.TreeValue.{TreeValue}
 use Rattle.treebasedbondpricer.specs.declared.TreeValue.the-variants.{Value}
-use Rattle.treebasedbondpricer.specs.Layers.{Room}
-use Rattle.treebasedbondpricer.specs.Lattice.{Layer}
+use Rattle.lattice.specs.Layers.{Room}
+use Rattle.lattice.specs.Lattice.{Layer}
 use Rattle.treebasedbondpricer.specs.Walk.{walkFrom}
 use Rattle.treebasedbondpricer.specs.Tree.{fittedTree, latticeValue}
 use Rattle.treebasedbondpricer.specs.laws.Proper.{Proper}

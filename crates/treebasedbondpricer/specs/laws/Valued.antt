@@ -18,12 +18,13 @@ use Rattle.treebasedbondpricer.specs.declared.TreeValue.{TreeValue}
 use Rattle.treebasedbondpricer.specs.declared.TreeValue.the-variants.{Value, Refused}
 use Rattle.treebasedbondpricer.specs.declared.fitted.FittedTree.{FittedTree}
 use Rattle.treebasedbondpricer.specs.declared.fitted.FittedTree.the-variants as tree
-use Rattle.treebasedbondpricer.specs.Layers.{At, valueAt}
-use Rattle.treebasedbondpricer.specs.Lattice.{Layer, Lattice}
+use Rattle.lattice.specs.Layers.{At, valueAt}
+use Rattle.lattice.specs.Lattice.{Layer, Lattice}
 use Rattle.treebasedbondpricer.specs.Walk.{walkFrom}
-use Rattle.treebasedbondpricer.specs.Tree.{Fitted, countOf, nodeCount}
-use Rattle.treebasedbondpricer.specs.laws.Laid.{layersIn, finalIn, Laid}
-use Rattle.treebasedbondpricer.specs.laws.Totals.{totalOf, laid-nodes}
+use Rattle.treebasedbondpricer.specs.Tree.{Fitted}
+use Rattle.lattice.specs.Lattice.{countOf, nodeCount}
+use Rattle.lattice.specs.laws.Laid.{layersIn, finalIn, Laid}
+use Rattle.lattice.specs.laws.Totals.{totalOf, laid-nodes}
 use Rattle.treebasedbondpricer.specs.laws.WalkMore.{callsOf}
 use Rattle.treebasedbondpricer.specs.laws.Marks.{calls-back}
 use Rattle.treebasedbondpricer.specs.laws.FittedIn.{FittedIn, FitsTree, fits, refuses}

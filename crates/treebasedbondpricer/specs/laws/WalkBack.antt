@@ -1,7 +1,7 @@
 -- The walk over the lent rows is the walk: the last row, and one step with the rows behind it done. Assumes nothing.
-use Prim.Native.Nat.{ℕ, _+_, _*_, _≤_, _<_}
+use Prim.Native.Nat.{ℕ, _+_, _*_, _<_}
 use mathlib.Core.Path.{_≡_, refl, sym, ap, _∙_}
-use mathlib.Core.Bool.{Bool, true, false, cond}
+use mathlib.Core.Bool.{Bool}
 use mathlib.Core.List.{List}
 use native.Mathlib.Omega.{arith}
 use native.Mathlib.Numerals.{add-one}
@@ -17,28 +17,23 @@ use Rattle.terms.specs.Outcomes.{Outcome, given, onOutcome, follow}
 use Rattle.bondevents.specs.declared.CallStep.{CallStep}
 use Rattle.bondevents.specs.Calls.{newStep}
 use Rattle.treebasedbondpricer.specs.declared.walk.Rates.{Rates}
-use Rattle.treebasedbondpricer.specs.Layers.{At}
+use Rattle.lattice.specs.Layers.{At}
 use Rattle.treebasedbondpricer.specs.Walk.{rolled, walkFrom}
-use Rattle.treebasedbondpricer.specs.laws.Stored.{numbersIn, transitionsIn, rowOf}
-use Rattle.treebasedbondpricer.specs.laws.StoredAt.{drop-one}
-use Rattle.treebasedbondpricer.specs.laws.Positions.{startOf}
-use Rattle.treebasedbondpricer.specs.laws.Rows.{even, currentPart, outcomeOf, Both}
+use Rattle.lattice.specs.laws.Stored.{numbersIn, transitionsIn, rowOf}
+use Rattle.lattice.specs.laws.StoredAt.{drop-one, getD-inside}
+use Rattle.lattice.specs.laws.Positions.{startOf}
+use Rattle.lattice.specs.laws.Rows.{currentPart, outcomeOf, Both}
 use Rattle.treebasedbondpricer.specs.laws.WalkSteps.{rolledAt}
 use Rattle.treebasedbondpricer.specs.laws.WalkPlaces.{readsOf, rolled-at}
-use Rattle.treebasedbondpricer.specs.laws.Laid.{frontNodes, layersIn, finalIn, Laid}
-use Rattle.treebasedbondpricer.specs.laws.LaidFront.{partFrom, part-from, frontCount, last-of, Behind, behind-of}
-use Rattle.treebasedbondpricer.specs.laws.WalkMore.{rowIn, getD-inside, numbers-front, final-row}
+use Rattle.lattice.specs.laws.Laid.{frontNodes, layersIn, finalIn, Laid}
+use Rattle.lattice.specs.laws.Parts.{partFrom, part-from}
+use Rattle.treebasedbondpricer.specs.laws.LaidFront.{frontCount, fronted, last-of, Behind, behind-of}
+use Rattle.treebasedbondpricer.specs.laws.Fitting.{current-length}
+use Rattle.lattice.specs.laws.Totals.{numbers-length}
+use Rattle.treebasedbondpricer.specs.laws.WalkMore.{rowIn, final-row}
 
 pos-of : (n : ℕ) → (n ≡ 0 → ⊥) → 0 < n
 pos-of n h = omega arith
-
--- a step's part of its row is as long as its layer
-part-long : (step c : ℕ) (rows : Both) → c ≤ length (rows .first) → c ≤ length (rows .second) → length (currentPart step c (rows .first) (rows .second)) ≡ c
-part-long step c rows a b = go (even step)
-  where
-    go : (b : Bool) → length (cond b (take c (rows .first)) (take c (rows .second))) ≡ c
-    go true = length-take-le c (rows .first) a
-    go false = length-take-le c (rows .second) b
 
 module _ (dt spread : Float) (cashflows : List Float) (calls : List CallStep) (step : ℕ) (inside : step < length cashflows)
     {flat : Bool} {one two : ℕ} {counts : List ℕ} {spacings : List Float} {nodes : List ℤ} {probabilities : List Float}
@@ -60,7 +55,7 @@ module _ (dt spread : Float) (cashflows : List Float) (calls : List CallStep) (s
   walk-last none rows e =
       let l = last-of laid none in
       rw (l .layers, l .final, e, getD-inside cashflows step nan plusZero inside)
-      (ap given (sym (final-row (getD cashflows step plusZero) (numbersIn (frontNodes count nodes)) count (numbers-front count nodes))))
+      (ap given (sym (final-row (getD cashflows step plusZero) (numbersIn (frontNodes count nodes)) count (omega (arith, numbers-length count nodes (fronted laid .pairs))))))
 
   module _ (some : length spacings ≡ 0 → ⊥) (same : length shifts ≡ length spacings) where
     b : Behind flat one two counts spacings nodes probabilities
@@ -121,8 +116,8 @@ module _ (dt spread : Float) (cashflows : List Float) (calls : List CallStep) (s
         let s = b .stepped in
         let vs : List Float = currentPart (step + 1) next (behind .first) (behind .second) in
         let out : List Float = currentPart step count (behind .first) (behind .second) in
-        let long : length vs ≡ next = part-long (step + 1) next behind (omega (arith, s .next-first)) (omega (arith, s .next-second)) in
-        let wide : length out ≡ count = part-long step count behind (omega (arith, s .first-room)) (omega (arith, s .second-room)) in
+        let long : length vs ≡ next = current-length (step + 1) next (behind .first) (behind .second) (omega (arith, s .next-first)) (omega (arith, s .next-second)) in
+        let wide : length out ≡ count = current-length step count (behind .first) (behind .second) (omega (arith, s .first-room)) (omega (arith, s .second-room)) in
         rw (part-from 1 counts, part-from (count * 2) nodes, b .next, ← s .are-next)
         (rolled-at rates (getD calls step newStep) (getD cashflows step nan) step flat vs (s .climbs) (omega (arith, s .counted)) count 0 (frontNodes count nodes) (take (count * 3) probabilities) out (s .placed) (length-take-le (count * 2) nodes (s .pairs)) (length-take-le (count * 3) probabilities (s .threes)) (omega arith))
 

@@ -10,18 +10,19 @@ use lib.IntN.{ℤ, pos, predℤ, sucℤ}
 use lib.Ieee.{Float, nan}
 use Rattle.terms.specs.Outcomes.{Outcome, given, follow, valued}
 use Rattle.bondevents.specs.declared.CallStep.{CallStep}
-use Rattle.treebasedbondpricer.specs.declared.reach.Reach.{Reach}
+use Rattle.lattice.specs.declared.reach.Reach.{Reach}
 use Rattle.treebasedbondpricer.specs.declared.walk.Rates.{Rates}
-use Rattle.treebasedbondpricer.specs.Layers.{At, valueAt, nodeFloat}
+use Rattle.lattice.specs.Layers.{At, valueAt, nodeFloat}
 use Rattle.treebasedbondpricer.specs.Walk.{Reads, nodeValue, rolled}
 use Rattle.terms.specs.laws.Outcomes.{Gives, gives, nothing, gives-valued}
-use Rattle.treebasedbondpricer.specs.laws.Binds.{follow-valued, follow-follow, follow-given, valued-same, follow-where}
-use Rattle.treebasedbondpricer.specs.laws.Stored.{numbersIn, middlesIn, madeOf, transitionsIn, rowOf}
-use Rattle.treebasedbondpricer.specs.laws.StoredAt.{drop-one}
-use Rattle.treebasedbondpricer.specs.laws.Reaching.{reach}
-use Rattle.treebasedbondpricer.specs.laws.RisingMiddles.{Climbs}
-use Rattle.treebasedbondpricer.specs.laws.Positions.{spotAt, past}
-use Rattle.treebasedbondpricer.specs.laws.Placing.{Spot, Spots, Placed, all-placed, next-placed, value-at, made-down, made-middle, made-up, made-first, made-second, made-third}
+use Rattle.lattice.specs.laws.Binds.{follow-valued, follow-follow, follow-given, valued-same, follow-where}
+use Rattle.lattice.specs.laws.Stored.{numbersIn, middlesIn, madeOf, transitionsIn, rowOf}
+use Rattle.lattice.specs.laws.StoredAt.{drop-one}
+use Rattle.lattice.specs.laws.Reaching.{reach}
+use Rattle.lattice.specs.laws.RisingMiddles.{Climbs}
+use Rattle.lattice.specs.laws.Positions.{spotAt, past}
+use Rattle.lattice.specs.laws.Spots.{Spot, Spots, Placed, all-placed, next-placed}
+use Rattle.treebasedbondpricer.specs.laws.Placing.{value-at, made-down, made-middle, made-up, made-first, made-second, made-third}
 use Rattle.treebasedbondpricer.specs.laws.WalkSteps.{sumOf, discountWith, worthOf, valueWith, rolledAt}
 
 -- What a step reads, from the code's rates.

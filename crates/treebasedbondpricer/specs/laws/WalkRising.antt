@@ -18,9 +18,9 @@ use Rattle.terms.specs.laws.Lockstep.{Meets, valued-both, refused-first, meets-
 use Rattle.bondevents.specs.declared.CallStep.{CallStep}
 use Rattle.bondevents.specs.Calls.{newStep}
 use Rattle.bondevents.specs.laws.NoLower.{NoLower, NoLowerCalls}
-use Rattle.treebasedbondpricer.specs.declared.Transition.{Transition}
-use Rattle.treebasedbondpricer.specs.Layers.{At, valueAt, nodeFloat}
-use Rattle.treebasedbondpricer.specs.Lattice.{Layer}
+use Rattle.lattice.specs.declared.Transition.{Transition}
+use Rattle.lattice.specs.Layers.{At, valueAt, nodeFloat}
+use Rattle.lattice.specs.Lattice.{Layer}
 use Rattle.treebasedbondpricer.specs.Walk.{Reads, expected, discountOf, called, nodeValue, rolled, finalRow, walkFrom}
 use Rattle.treebasedbondpricer.specs.laws.Proper.{Weighted, Each, more, Proper}
 use Rattle.treebasedbondpricer.specs.laws.Rising.{Higher, Rises, rises-refl, rises-of-higher, times, plus, called-no-lower, Rows, ends, beside, at-node, rises-of-rows}

@@ -12,11 +12,11 @@ use Rattle.elementary.specs.declared.Answer.the-variants as answer
 use Rattle.terms.specs.declared.Check.{Check}
 use Rattle.terms.specs.declared.Check.the-variants as check
 use Rattle.terms.specs.Outcomes.{Outcome, given, onOutcome, follow}
-use Rattle.treebasedbondpricer.specs.Layers.{At, valueAt}
-use Rattle.treebasedbondpricer.specs.Lattice.{rootLayer}
-use Rattle.treebasedbondpricer.specs.laws.Stored.{numbersIn, rowOf}
-use Rattle.treebasedbondpricer.specs.laws.Rows.{outcomeOf, Both}
-use Rattle.treebasedbondpricer.specs.laws.Laid.{frontNodes}
+use Rattle.lattice.specs.Layers.{At, valueAt}
+use Rattle.lattice.specs.Lattice.{rootLayer}
+use Rattle.lattice.specs.laws.Stored.{numbersIn, rowOf}
+use Rattle.lattice.specs.laws.Rows.{outcomeOf, Both}
+use Rattle.lattice.specs.laws.Laid.{frontNodes}
 use Rattle.treebasedbondpricer.specs.laws.WalkMore.{rowIn}
 
 root-entry : (row : List Float) → 0 < length row → valueAt (pos 0) (rowOf rootLayer (take 1 row)) ≡ getD row 0 nan

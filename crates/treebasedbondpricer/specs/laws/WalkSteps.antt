@@ -11,12 +11,12 @@ use Rattle.elementary.specs.Extremes.{minOf}
 use Rattle.elementary.specs.Exponential.{expAt}
 use Rattle.terms.specs.Outcomes.{Outcome, given, valued}
 use Rattle.bondevents.specs.declared.CallStep.{CallStep}
-use Rattle.treebasedbondpricer.specs.declared.reach.Reach.{Reach}
+use Rattle.lattice.specs.declared.reach.Reach.{Reach}
 use Rattle.treebasedbondpricer.specs.declared.walk.Rates.{Rates}
-use Rattle.treebasedbondpricer.specs.Layers.{nodeFloat}
+use Rattle.lattice.specs.Layers.{nodeFloat}
 use Rattle.treebasedbondpricer.specs.Walk.{called}
-use Rattle.treebasedbondpricer.specs.laws.Reaching.{reach}
-use Rattle.treebasedbondpricer.specs.laws.Positions.{spotAt}
+use Rattle.lattice.specs.laws.Reaching.{reach}
+use Rattle.lattice.specs.laws.Positions.{spotAt}
 
 -- From 0: three values, each × its probability.
 unfoldable pub sumOf : Float → Float → Float → Float → Float → Float → ℕ → Answer

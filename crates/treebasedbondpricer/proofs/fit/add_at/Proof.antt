@@ -12,10 +12,10 @@ slice-read-sum : tie.Need-slice-read-sum
 slice-read-sum c = search answers
 
 not-finite-requires : tie.Need-not-finite-requires
-not-finite-requires c κs = search answers
+not-finite-requires c κs = tt
 
 row-overflow-requires : tie.Need-row-overflow-requires
-row-overflow-requires c κs = search answers
+row-overflow-requires c κs = tt
 
 returns : tie.Need-returns
 unfolding addAt

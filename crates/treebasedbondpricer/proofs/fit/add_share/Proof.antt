@@ -6,10 +6,10 @@ use Rattle.treebasedbondpricer.proofs.fit.add_share.Statement.{statemen
 use Rattle.treebasedbondpricer.proofs.fit.add_share.Tie as tie
 
 not-finite-requires : tie.Need-not-finite-requires
-not-finite-requires c κs = search answers
+not-finite-requires c κs = tt
 
 row-overflow-requires : tie.Need-row-overflow-requires
-row-overflow-requires c κs = search answers
+row-overflow-requires c κs = tt
 
 returns : tie.Need-returns
 unfolding shareAt
@@ -19,7 +19,7 @@ add-at-requires : tie.Need-add-at-requires
 add-at-requires c κs = search answers
 
 same-length : tie.Need-same-length
-same-length c = search answers
+same-length c = c .before .before .add-at .kept .0
 
 returns-2 : tie.Need-returns-2
 unfolding shareAt

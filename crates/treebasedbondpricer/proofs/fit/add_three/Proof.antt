@@ -1,6 +1,6 @@
 -- `fit::add_three` meets its contract. Assumes nothing.
 use native.Mathlib.Omega.{arith}
-use Rattle.treebasedbondpricer.specs.laws.Positions.{spot-below}
+use Rattle.lattice.specs.laws.Positions.{spot-below}
 use Rattle.treebasedbondpricer.specs.laws.FitSteps.{addThree}
 use Rattle.treebasedbondpricer.proofs.Outcomes.{outcomes}
 use Rattle.elementary.proofs.Laws.{answers}
@@ -26,13 +26,13 @@ add-share-requires : tie.Need-add-share-requires
 add-share-requires c κs = spot-below (c .before .before .before .before .before .before .before .args .flat) (c .before .before .before .before .before .before .before .args .after) 3 _ (c .before .before .before .before .before .spot .ensures) (omega arith) (c .before .before .before .before .before .before .before .pre .1)
 
 enum-told : tie.Need-enum-told
-enum-told c = search answers
+enum-told c = c .match .keys1
 
 enum-told-2 : tie.Need-enum-told-2
-enum-told-2 c = search answers
+enum-told-2 c = c .match .keys2
 
 same-length : tie.Need-same-length
-same-length c = search answers
+same-length c = c .before .before .before .before .add-share .kept .0
 
 returns : tie.Need-returns
 unfolding addThree
@@ -42,10 +42,10 @@ add-share-requires-2 : tie.Need-add-share-requires-2
 add-share-requires-2 c κs = let h = spot-below (c .before .before .before .before .before .before .before .before .before .before .before .before .before .args .flat) (c .before .before .before .before .before .before .before .before .before .before .before .before .before .args .after) 2 _ (c .before .before .before .before .before .before .before .before .before .before .spot2 .ensures) (omega arith) (c .before .before .before .before .before .before .before .before .before .before .before .before .before .pre .1) in omega (arith, c .before .before .before .before .before .add-share .kept .0)
 
 enum-told-3 : tie.Need-enum-told-3
-enum-told-3 c = search answers
+enum-told-3 c = c .match2 .keys1
 
 enum-told-4 : tie.Need-enum-told-4
-enum-told-4 c = search answers
+enum-told-4 c = c .match2 .keys2
 
 same-length-2 : tie.Need-same-length-2
 same-length-2 c = search answers

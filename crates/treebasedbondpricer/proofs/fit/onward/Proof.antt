@@ -15,17 +15,17 @@ use Rattle.elementary.specs.Answers.{onAnswer}
 use Rattle.terms.specs.declared.Check.{Check}
 use Rattle.terms.specs.declared.Check.the-variants.{Passed, Refused}
 use Rattle.terms.specs.Outcomes.{Outcome, refused, follow, valued}
-use Rattle.treebasedbondpricer.specs.declared.reach.Reach.{Reach}
-use Rattle.treebasedbondpricer.specs.Layers.{nodeFloat}
-use Rattle.treebasedbondpricer.specs.laws.Stored.{middlesIn}
-use Rattle.treebasedbondpricer.specs.laws.StoredAt.{drop-one, drop-two, drop-three, middles-from}
-use Rattle.treebasedbondpricer.specs.laws.Bounds.{Within}
-use Rattle.treebasedbondpricer.specs.laws.Reaching.{reach, nothingBelow}
-use Rattle.treebasedbondpricer.specs.laws.Positions.{startOf, Layered, Roomy, Held, roomy-next}
-use Rattle.treebasedbondpricer.specs.laws.Rows.{outcomeOf, checkOf}
-use Rattle.treebasedbondpricer.specs.laws.Binds.{went-on, stopped-at}
+use Rattle.lattice.specs.declared.reach.Reach.{Reach}
+use Rattle.lattice.specs.Layers.{nodeFloat}
+use Rattle.lattice.specs.laws.Stored.{middlesIn}
+use Rattle.lattice.specs.laws.StoredAt.{drop-one, drop-two, drop-three, middles-from}
+use Rattle.lattice.specs.laws.Bounds.{Within}
+use Rattle.lattice.specs.laws.Reaching.{reach, nothingBelow}
+use Rattle.lattice.specs.laws.Positions.{startOf, Layered, Roomy, Held, roomy-next}
+use Rattle.lattice.specs.laws.Rows.{outcomeOf, checkOf}
+use Rattle.lattice.specs.laws.Binds.{went-on, stopped-at}
 use Rattle.treebasedbondpricer.specs.laws.FitSteps.{discountedOf, addThree, onwardAt}
-use Rattle.treebasedbondpricer.proofs.Outcomes.{outcomes, passes, refuses-call, followed, halted}
+use Rattle.treebasedbondpricer.proofs.Outcomes.{passes, refuses-call, followed, halted}
 use Rattle.elementary.proofs.Laws.{answers}
 use Rattle.treebasedbondpricer.proofs.fit.onward.Statement.{statement}
 use Rattle.treebasedbondpricer.proofs.fit.onward.Tie as tie
@@ -140,7 +140,7 @@ shared-slice-copy-out-middle : tie.Need-shared-slice-copy-out-middle Inv-loop μ
 shared-slice-copy-out-middle c = search answers
 
 int-to-float-discounted : tie.Need-int-to-float-discounted Inv-loop μ-loop
-int-to-float-discounted c = search answers
+int-to-float-discounted c = tt
 
 mul-discounted : tie.Need-mul-discounted Inv-loop μ-loop
 mul-discounted c = search answers
@@ -149,16 +149,16 @@ shared-slice-read-discounted : tie.Need-shared-slice-read-discounted Inv-loop μ
 shared-slice-read-discounted c = search answers
 
 discounted-requires : tie.Need-discounted-requires Inv-loop μ-loop
-discounted-requires c κs = search answers
+discounted-requires c κs = tt
 
 enum-known-d : tie.Need-enum-known-d Inv-loop μ-loop
-enum-known-d c = search answers
+enum-known-d c = c .match .keys1
 
 enum-told : tie.Need-enum-told Inv-loop μ-loop
-enum-told c = search answers
+enum-told c = c .match .keys2
 
 row-refused-requires : tie.Need-row-refused-requires Inv-loop μ-loop
-row-refused-requires c κs = search answers
+row-refused-requires c κs = tt
 
 same-length : tie.Need-same-length Inv-loop μ-loop
 same-length c = search answers
@@ -206,10 +206,10 @@ add-three-requires : tie.Need-add-three-requires Inv-loop μ-loop
 add-three-requires c κs = let h = held (c .before .before .before .before .before .before .before .before .before .before .before .before .before .before .before .before .before .before .before .before .args .nodes .now) (c .before .before .before .before .before .before .before .before .before .before .before .before .before .before .before .before .before .before .before .before .args .probabilities .now) (c .before .before .before .before .before .before .before .before .before .before .before .before .before .before .before .before .before .before .before .before .args .row .now) (c .before .before .before .before .before .before .before .before .before .before .before .before .before .before .before .before .before .before .before .before .args .next .now) (c .before .before .before .before .before .before .before .before .before .before .before .before .before .before .before .before .before .before .before .before .args .flat) (c .before .before .before .before .before .before .before .before .before .before .before .before .before .before .before .before .before .before .before .before .args .spacing) (c .before .before .before .before .before .before .before .before .before .before .before .before .before .before .before .before .before .before .before .before .args .dt) (c .before .before .before .before .before .before .before .before .before .before .before .before .before .before .before .before .before .before .before .before .args .shift) (c .before .before .before .before .before .before .before .before .before .before .before .before .before .before .before .before .before .before .before .before .args .place) (c .before .before .before .before .before .before .before .before .before .before .before .before .before .before .before .before .before .before .before .before .pre) (c .before .before .before .before .before .before .before .before .before .before .before .before .before .before .loop .next) (c .before .before .before .before .before .before .before .before .before .before .before .before .before .before .loop .r) (c .before .before .before .before .before .before .before .before .before .before .before .before .before .before .loop .i) (c .before .before .before .before .before .before .before .before .before .before .before .before .before .before .loop .inv) (c .before .before .before .before .before .before .before .before .before .before .before .before .before .loop-test .taken) (toZ-ofZ (record { sfits = c .before .before .before .before .before .before .before .before .before .before .before .middle .given })) in rw (c .before .before .before .before .reached .ensures) (h .three, rw (c .before .before .before .before .before .before .before .before .before .before .before .before .before .before .loop .inv .same) (h .spot))
 
 enum-told-2 : tie.Need-enum-told-2 Inv-loop μ-loop
-enum-told-2 c = search answers
+enum-told-2 c = c .match2 .keys1
 
 enum-told-3 : tie.Need-enum-told-3 Inv-loop μ-loop
-enum-told-3 c = search answers
+enum-told-3 c = c .match2 .keys2
 
 same-length-2 : tie.Need-same-length-2 Inv-loop μ-loop
 same-length-2 c = search answers

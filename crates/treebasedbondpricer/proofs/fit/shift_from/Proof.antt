@@ -9,33 +9,33 @@ unfolding shiftFrom
 returns c = search answers depth 20 fits 4000
 
 not-finite-requires : tie.Need-not-finite-requires
-not-finite-requires c κs = search answers
+not-finite-requires c κs = tt
 
 overflow-requires : tie.Need-overflow-requires
-overflow-requires c κs = search answers
+overflow-requires c κs = tt
 
 returns-2 : tie.Need-returns-2
 unfolding shiftFrom
 returns-2 c = search answers depth 20 fits 4000
 
 ln-at-requires : tie.Need-ln-at-requires
-ln-at-requires c κs = search answers
+ln-at-requires c κs = tt
 
 enum-known-l : tie.Need-enum-known-l
-enum-known-l c = search answers
+enum-known-l c = c .match .keys1
 
 enum-told : tie.Need-enum-told
-enum-told c = search answers
+enum-told c = c .match .keys2
 
 returns-3 : tie.Need-returns-3
 unfolding shiftFrom
 returns-3 c = search answers depth 20 fits 4000
 
 not-finite-requires-2 : tie.Need-not-finite-requires-2
-not-finite-requires-2 c κs = search answers
+not-finite-requires-2 c κs = tt
 
 overflow-requires-2 : tie.Need-overflow-requires-2
-overflow-requires-2 c κs = search answers
+overflow-requires-2 c κs = tt
 
 returns-4 : tie.Need-returns-4
 unfolding shiftFrom

@@ -12,11 +12,11 @@ use Rattle.elementary.specs.declared.Refusal.{Refusal}
 use Rattle.elementary.specs.declared.Answer.{Answer}
 use Rattle.elementary.specs.declared.Answer.the-variants.{Value, Refused}
 use Rattle.elementary.specs.Answers.{plusZero, andThen}
-use Rattle.treebasedbondpricer.specs.Layers.{nodeFloat}
+use Rattle.lattice.specs.Layers.{nodeFloat}
 use Rattle.treebasedbondpricer.specs.Fit.{weighted}
-use Rattle.treebasedbondpricer.specs.laws.Stored.{numbersIn, rowOf}
-use Rattle.treebasedbondpricer.specs.laws.StoredAt.{rowFrom, row-from, row-done}
-use Rattle.treebasedbondpricer.specs.laws.Binds.{went-on, stopped-at}
+use Rattle.lattice.specs.laws.Stored.{numbersIn, rowOf}
+use Rattle.lattice.specs.laws.StoredAt.{rowFrom, row-from, row-done}
+use Rattle.lattice.specs.laws.Binds.{went-on, stopped-at}
 use Rattle.treebasedbondpricer.specs.laws.FitSteps.{weighOne, weighted-more}
 use Rattle.elementary.proofs.Laws.{answers}
 use Rattle.treebasedbondpricer.proofs.fit.weighted_sum.Statement.{statement}
@@ -64,7 +64,7 @@ shared-slice-copy-out-node : tie.Need-shared-slice-copy-out-node Inv-loop μ-loo
 shared-slice-copy-out-node c = search answers
 
 int-to-float-weigh : tie.Need-int-to-float-weigh Inv-loop μ-loop
-int-to-float-weigh c = search answers
+int-to-float-weigh c = tt
 
 mul-weigh : tie.Need-mul-weigh Inv-loop μ-loop
 mul-weigh c = search answers
@@ -73,13 +73,13 @@ shared-slice-read-weigh : tie.Need-shared-slice-read-weigh Inv-loop μ-loop
 shared-slice-read-weigh c = search answers
 
 weigh-requires : tie.Need-weigh-requires Inv-loop μ-loop
-weigh-requires c κs = search answers
+weigh-requires c κs = tt
 
 enum-known-sum : tie.Need-enum-known-sum Inv-loop μ-loop
-enum-known-sum c = search answers
+enum-known-sum c = c .match .keys1
 
 enum-told : tie.Need-enum-told Inv-loop μ-loop
-enum-told c = search answers
+enum-told c = c .match .keys2
 
 returns : tie.Need-returns Inv-loop μ-loop
 returns c =

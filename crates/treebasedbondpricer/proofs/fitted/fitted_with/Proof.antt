@@ -5,130 +5,96 @@ use Rattle.treebasedbondpricer.specs.laws.FittedIn.{refuses-at, tree-ref
 use borrow.Author.Needs.{needs}
 use Rattle.treebasedbondpricer.proofs.fitted.fitted_with.Statement.{statement}
 use Rattle.treebasedbondpricer.proofs.fitted.fitted_with.Tie as tie
-use Rattle.treebasedbondpricer.proofs.fitted.fitted_with.Reads as reads
-use Rattle.treebasedbondpricer.proofs.fitted.fitted_with.Lts as lts
-use Rattle.treebasedbondpricer.proofs.fitted.unfitted.Reads as unfitted-reads
-use Rattle.treebasedbondpricer.proofs.fitting.fit_tree.Reads as fit-tree-reads
-use Rattle.treebasedbondpricer.proofs.flat.all_flat.Reads as all-flat-reads
-use Rattle.treebasedbondpricer.proofs.lattice.lattice_transitions.Reads as lattice-transitions-reads
 
--- src/fitted.rt:58:9
 lattice-transitions-requires : tie.Need-lattice-transitions-requires
 lattice-transitions-requires c κs = search needs
 
 enum-told : tie.Need-enum-told
-enum-told c = search needs
+enum-told c = c .match .keys1
 
--- src/fitted.rt:70:9
 enum-told-2 : tie.Need-enum-told-2
-enum-told-2 c = search needs
+enum-told-2 c = c .match .keys2
 
--- src/fitted.rt:70:9
 unfitted-requires : tie.Need-unfitted-requires
-unfitted-requires c κs = search needs
+unfitted-requires c κs = tt
 
--- src/fitted.rt:70:9
 same-length : tie.Need-same-length
-same-length c = search needs
+same-length c = c .before .before .before .before .before .before .before .before .before .before .lattice-transitions .kept .1 .1 .1 .0
 
--- src/fitted.rt:70:9
 same-length-2 : tie.Need-same-length-2
-same-length-2 c = search needs
+same-length-2 c = c .before .before .before .before .before .before .before .before .before .before .lattice-transitions .kept .1 .1 .1 .1 .0
 
--- src/fitted.rt:70:9
 same-length-3 : tie.Need-same-length-3
-same-length-3 c = search needs
+same-length-3 c = c .before .before .before .before .before .before .before .before .before .before .lattice-transitions .kept .1 .1 .1 .1 .1 .0
 
--- src/fitted.rt:70:9
 same-length-4 : tie.Need-same-length-4
-same-length-4 c = search needs
+same-length-4 c = c .before .before .before .before .before .before .before .before .before .before .lattice-transitions .kept .1 .1 .1 .1 .1 .1 .0
 
--- src/fitted.rt:70:9
 returns : tie.Need-returns
 returns c = refuses-at (c .unfitted .ensures) (c .before .enum-told2 .given .1) (tree-refused _ _ _ _ _ _ (c .before .before .before .before .before .before .before .before .before .before .lattice-transitions .ensures) (c .before .enum-told2 .given .1))
 
--- src/fitted.rt:72:9
 all-flat-requires : tie.Need-all-flat-requires
-all-flat-requires c κs = search needs
+all-flat-requires c κs = tt
 
--- src/fitted.rt:73:9
 fit-tree-requires : tie.Need-fit-tree-requires
 fit-tree-requires c κs =
     let l = laid-tree 0 (record { days = []; factors = [] }) _ _ _ _ (c .before .before .before .before .before .before .before .before .before .before .before .before .before .before .before .before .before .lattice-transitions .ensures) (c .before .before .before .before .before .before .before .before .enum-told .given .1) (c .before .before .before .before .before .before .before .all-flat .ensures) in
     (l .laid, ((omega arith, omega arith), (root-count l, l .first-layer)))
 
 enum-told-3 : tie.Need-enum-told-3
-enum-told-3 c = search needs
+enum-told-3 c = c .match2 .keys1
 
--- src/fitted.rt:88:9
 enum-told-4 : tie.Need-enum-told-4
-enum-told-4 c = search needs
+enum-told-4 c = c .match2 .keys2
 
--- src/fitted.rt:88:9
 unfitted-requires-2 : tie.Need-unfitted-requires-2
-unfitted-requires-2 c κs = search needs
+unfitted-requires-2 c κs = tt
 
--- src/fitted.rt:88:9
 same-length-5 : tie.Need-same-length-5
-same-length-5 c = search needs
+same-length-5 c = c .before .before .before .before .before .before .before .before .before .before .before .before .before .before .before .before .before .before .before .before .before .before .before .before .before .before .before .lattice-transitions .kept .1 .1 .1 .0
 
--- src/fitted.rt:88:9
 same-length-6 : tie.Need-same-length-6
-same-length-6 c = search needs
+same-length-6 c = c .before .before .before .before .before .before .before .before .before .before .before .before .before .before .before .before .before .before .before .before .before .before .before .before .before .before .before .lattice-transitions .kept .1 .1 .1 .1 .0
 
--- src/fitted.rt:88:9
 same-length-7 : tie.Need-same-length-7
-same-length-7 c = search needs
+same-length-7 c = c .before .before .before .before .before .before .before .before .before .fit-tree .kept .1 .1 .1 .1 .1 .1 .1 .1 .1 .1 .1 .0
 
--- src/fitted.rt:88:9
 same-length-8 : tie.Need-same-length-8
-same-length-8 c = search needs
+same-length-8 c = c .before .before .before .before .before .before .before .before .before .before .before .before .before .before .before .before .before .before .before .before .before .before .before .before .before .before .before .lattice-transitions .kept .1 .1 .1 .1 .1 .0
 
--- src/fitted.rt:88:9
 same-length-9 : tie.Need-same-length-9
-same-length-9 c = search needs
+same-length-9 c = c .before .before .before .before .before .before .before .before .before .before .before .before .before .before .before .before .before .before .before .before .before .before .before .before .before .before .before .lattice-transitions .kept .1 .1 .1 .1 .1 .1 .0
 
--- src/fitted.rt:88:9
 same-length-10 : tie.Need-same-length-10
-same-length-10 c = search needs
+same-length-10 c = c .before .before .before .before .before .before .before .before .before .fit-tree .kept .1 .1 .1 .1 .1 .1 .1 .1 .1 .0
 
--- src/fitted.rt:88:9
 same-length-11 : tie.Need-same-length-11
-same-length-11 c = search needs
+same-length-11 c = c .before .before .before .before .before .before .before .before .before .fit-tree .kept .1 .1 .1 .1 .1 .1 .1 .1 .1 .1 .0
 
--- src/fitted.rt:88:9
 returns-2 : tie.Need-returns-2
 returns-2 c = refuses-at (c .unfitted2 .ensures) (c .before .enum-told4 .given .1) (fit-refused _ _ _ _ _ _ (c .before .before .before .before .before .before .before .before .before .before .before .before .before .before .before .before .before .before .before .before .before .before .before .before .before .before .before .lattice-transitions .ensures) (c .before .before .before .before .before .before .before .before .before .before .before .before .before .before .before .before .before .before .enum-told .given .1) (c .before .before .before .before .before .before .before .before .before .before .before .before .before .before .before .before .before .all-flat .ensures) (c .before .before .before .before .before .before .before .before .before .fit-tree .ensures) (c .before .enum-told4 .given .1))
 
--- src/fitted.rt:37:1
 same-length-12 : tie.Need-same-length-12
-same-length-12 c = search needs
+same-length-12 c = c .before .before .before .before .before .before .before .before .before .before .before .before .before .before .before .before .before .before .before .before .before .before .before .before .before .before .lattice-transitions .kept .1 .1 .1 .0
 
--- src/fitted.rt:37:1
 same-length-13 : tie.Need-same-length-13
-same-length-13 c = search needs
+same-length-13 c = c .before .before .before .before .before .before .before .before .before .before .before .before .before .before .before .before .before .before .before .before .before .before .before .before .before .before .lattice-transitions .kept .1 .1 .1 .1 .0
 
--- src/fitted.rt:37:1
 same-length-14 : tie.Need-same-length-14
-same-length-14 c = search needs
+same-length-14 c = c .before .before .before .before .before .before .before .before .fit-tree .kept .1 .1 .1 .1 .1 .1 .1 .1 .1 .1 .1 .0
 
--- src/fitted.rt:37:1
 same-length-15 : tie.Need-same-length-15
-same-length-15 c = search needs
+same-length-15 c = c .before .before .before .before .before .before .before .before .before .before .before .before .before .before .before .before .before .before .before .before .before .before .before .before .before .before .lattice-transitions .kept .1 .1 .1 .1 .1 .0
 
--- src/fitted.rt:37:1
 same-length-16 : tie.Need-same-length-16
-same-length-16 c = search needs
+same-length-16 c = c .before .before .before .before .before .before .before .before .before .before .before .before .before .before .before .before .before .before .before .before .before .before .before .before .before .before .lattice-transitions .kept .1 .1 .1 .1 .1 .1 .0
 
--- src/fitted.rt:37:1
 same-length-17 : tie.Need-same-length-17
-same-length-17 c = search needs
+same-length-17 c = c .before .before .before .before .before .before .before .before .fit-tree .kept .1 .1 .1 .1 .1 .1 .1 .1 .1 .0
 
--- src/fitted.rt:37:1
 same-length-18 : tie.Need-same-length-18
-same-length-18 c = search needs
+same-length-18 c = c .before .before .before .before .before .before .before .before .fit-tree .kept .1 .1 .1 .1 .1 .1 .1 .1 .1 .1 .0
 
--- src/fitted.rt:37:1
 returns-3 : tie.Need-returns-3
 returns-3 c = fit-fits _ _ _ _ _ _ (c .before .before .before .before .before .before .before .before .before .before .before .before .before .before .before .before .before .before .before .before .before .before .before .before .before .before .lattice-transitions .ensures) (c .before .before .before .before .before .before .before .before .before .before .before .before .before .before .before .before .before .enum-told .given .1) (c .before .before .before .before .before .before .before .before .before .before .before .before .before .before .before .before .all-flat .ensures) (c .before .before .before .before .before .before .before .before .fit-tree .ensures) (c .enum-told3 .given .1)
 

@@ -1,20 +1,21 @@
 -- `fitting::fit` meets its contract. The measure is the number of layers that are left. Assumes nothing.
+use native.Mathlib.Nat.{le-refl}
 use Prim.Native.Nat.{ℕ, _<_}
 use mathlib.Core.Path.{sym, _∙_}
 use native.Mathlib.Omega.{arith}
-use borrow.Author.Needs.{needs}
 use borrow.Fn.Kinds.{In}
 use borrow.Fn.PlainCycle.{Measures, is, falls, and}
 use lib.ListN.{length, length-set}
 use lib.Seq.{length-take-le}
 use Rattle.treebasedbondpricer.specs.laws.FitMore.{layered-of}
-use Rattle.treebasedbondpricer.specs.laws.LentParts.{part-length, parts-same, written-length}
-use Rattle.treebasedbondpricer.specs.laws.FitLaid.{Ahead, ahead, laid-over, found-none, found-refused, found-more}
+use Rattle.lattice.specs.laws.Parts.{part-length, rest-length, with-rest-length}
+use Rattle.treebasedbondpricer.specs.laws.LaidFront.{Behind, behind-of, laid-parts, laid-over}
+use Rattle.treebasedbondpricer.specs.laws.FitLaid.{found-none, found-refused, found-more}
 use Rattle.treebasedbondpricer.proofs.fitting.fit.Reads as fit
 use Rattle.treebasedbondpricer.proofs.fitting.fit.Kinds as fit-kinds
 use Rattle.treebasedbondpricer.proofs.fitting.+fit.Lts-fit as fit-lts
 use Rattle.treebasedbondpricer.proofs.fitting.fit_step.Reads as fit-step-reads
-use Rattle.treebasedbondpricer.proofs.refusals.row_refused.Reads as row-refused-reads
+use Rattle.lattice.proofs.refusals.row_refused.Reads as row-refused-reads
 use Rattle.treebasedbondpricer.proofs.fitting.+fit.{statement}
 use Rattle.treebasedbondpricer.proofs.fitting.+fit.Tie.{close}
 
@@ -32,14 +33,14 @@ claims t = (fit-step-reads.Asked, fit-step-reads.Learnt, row-refused-reads.Asked
 
 -- past the test there is a layer in front
 front : (t : ℕ) (c : fit-lts.Else1 (claims t) (fit-at t) fit.Post)
-    → Ahead (c .before .before .before .before .before .before .before .before .before .args .flat) (length (c .before .before .before .before .before .before .before .before .before .args .first .now)) (length (c .before .before .before .before .before .before .before .before .before .args .second .now)) (c .before .before .before .before .before .before .before .before .before .args .counts .now) (c .before .before .before .before .before .before .before .before .before .args .spacings .now) (c .before .before .before .before .before .before .before .before .before .args .nodes .now) (c .before .before .before .before .before .before .before .before .before .args .probabilities .now)
-front t c = ahead (c .before .before .before .before .before .before .before .before .before .pre .1 .0) (omega (arith, c .if1 .left))
+    → Behind (c .before .before .before .before .before .before .before .before .before .args .flat) (length (c .before .before .before .before .before .before .before .before .before .args .first .now)) (length (c .before .before .before .before .before .before .before .before .before .args .second .now)) (c .before .before .before .before .before .before .before .before .before .args .counts .now) (c .before .before .before .before .before .before .before .before .before .args .spacings .now) (c .before .before .before .before .before .before .before .before .before .args .nodes .now) (c .before .before .before .before .before .before .before .before .before .args .probabilities .now)
+front t c = behind-of (c .before .before .before .before .before .before .before .before .before .pre .1 .0) (c .if1 .left)
 
 fit-returns : (t : ℕ) → fit-lts.Need-returns (claims t) (fit-at t) fit.Post
 fit-returns t c = found-none _ _ _ _ _ _ (c .before .before .before .before .before .before .before .before .before .pre .1 .0) (c .before .before .before .before .before .before .before .before .before .pre .1 .1 .0) (c .if1 .taken)
 
 fit-shared-slice-read-count : (t : ℕ) → fit-lts.Need-shared-slice-read-count (claims t) (fit-at t) fit.Post
-fit-shared-slice-read-count t c = front t (c .before) .some-count
+fit-shared-slice-read-count t c = omega (arith, front t (c .before) .two-counts)
 
 fit-mul-pairs : (t : ℕ) → fit-lts.Need-mul-pairs (claims t) (fit-at t) fit.Post
 fit-mul-pairs t c = omega (arith, front t (c .before) .stepped .pairs, c .before .before .before .before .before .before .before .before .before .before .good)
@@ -60,19 +61,19 @@ fit-fit-step-requires : (t : ℕ) → fit-lts.Need-fit-step-requires (claims t) 
 fit-fit-step-requires t c κs = let a = front t (c .before .before .before .before .before .before) in ((a .stepped .first-room, a .stepped .second-room), ((layered-of (a .stepped) _ (a .stepped .next-first), layered-of (a .stepped) _ (a .stepped .next-second)), omega (arith, c .before .before .before .before .before .before .before .before .before .before .before .before .before .before .before .pre .1 .1 .1, c .before .before .before .before .before .before .if1)))
 
 fit-enum-known-s : (t : ℕ) → fit-lts.Need-enum-known-s (claims t) (fit-at t) fit.Post
-fit-enum-known-s t c = search needs
+fit-enum-known-s t c = c .match .keys1
 
 fit-enum-told : (t : ℕ) → fit-lts.Need-enum-told (claims t) (fit-at t) fit.Post
-fit-enum-told t c = search needs
+fit-enum-told t c = c .match .keys2
 
 fit-row-refused-requires : (t : ℕ) → fit-lts.Need-row-refused-requires (claims t) (fit-at t) fit.Post
-fit-row-refused-requires t c κs = search needs
+fit-row-refused-requires t c κs = tt
 
 fit-same-length : (t : ℕ) → fit-lts.Need-same-length (claims t) (fit-at t) fit.Post
-fit-same-length t c = search needs
+fit-same-length t c = c .before .before .before .before .before .before .before .fit-step .kept .1 .1 .1 .1 .1 .1 .1 .1 .1 .1 .0
 
 fit-same-length-2 : (t : ℕ) → fit-lts.Need-same-length-2 (claims t) (fit-at t) fit.Post
-fit-same-length-2 t c = search needs
+fit-same-length-2 t c = c .before .before .before .before .before .before .before .fit-step .kept .1 .1 .1 .1 .1 .1 .1 .1 .1 .1 .1 .0
 
 fit-returns-2 : (t : ℕ) → fit-lts.Need-returns-2 (claims t) (fit-at t) fit.Post
 fit-returns-2 t c = found-refused _ _ _ _ _ _ _ _ _ _ _ (front t (c .before .before .before .before .before .before .before .before .before .before .before .before .before .before)) (c .before .before .before .before .before .before .before .fit-step .ensures) _ _ (c .before .enum-told .given .1) (c .row-refused .ensures)
@@ -90,7 +91,7 @@ fit-part-fit-start : (t : ℕ) → fit-lts.Need-part-fit-start (claims t) (fit-a
 fit-part-fit-start t c = front t (c .before .before .before .before .before .before .before .before .before .before .before .before .before .before) .stepped .pairs
 
 fit-part-fit-end : (t : ℕ) → fit-lts.Need-part-fit-end (claims t) (fit-at t) fit.Post
-fit-part-fit-end t c = search needs
+fit-part-fit-end t c = le-refl _
 
 fit-mul-fit-2 : (t : ℕ) → fit-lts.Need-mul-fit-2 (claims t) (fit-at t) fit.Post
 fit-mul-fit-2 t c = omega (arith, front t (c .before .before .before .before .before .before .before .before .before .before .before .before .before .before .before) .stepped .threes, c .before .before .before .before .before .before .before .before .before .before .before .before .before .before .before .before .before .before .before .before .before .before .before .before .good)
@@ -102,16 +103,16 @@ fit-part-fit-start-2 : (t : ℕ) → fit-lts.Need-part-fit-start-2 (claims t) (f
 fit-part-fit-start-2 t c = front t (c .before .before .before .before .before .before .before .before .before .before .before .before .before .before .before) .stepped .threes
 
 fit-part-fit-end-2 : (t : ℕ) → fit-lts.Need-part-fit-end-2 (claims t) (fit-at t) fit.Post
-fit-part-fit-end-2 t c = search needs
+fit-part-fit-end-2 t c = le-refl _
 
 fit-sub-fit-3 : (t : ℕ) → fit-lts.Need-sub-fit-3 (claims t) (fit-at t) fit.Post
-fit-sub-fit-3 t c = omega (arith, front t (c .before .before .before .before .before .before .before .before .before .before .before .before .before .before .before .before) .some-count)
+fit-sub-fit-3 t c = omega (arith, front t (c .before .before .before .before .before .before .before .before .before .before .before .before .before .before .before .before) .two-counts)
 
 fit-part-fit-start-3 : (t : ℕ) → fit-lts.Need-part-fit-start-3 (claims t) (fit-at t) fit.Post
-fit-part-fit-start-3 t c = omega (arith, front t (c .before .before .before .before .before .before .before .before .before .before .before .before .before .before .before .before) .some-count)
+fit-part-fit-start-3 t c = omega (arith, front t (c .before .before .before .before .before .before .before .before .before .before .before .before .before .before .before .before) .two-counts)
 
 fit-part-fit-end-3 : (t : ℕ) → fit-lts.Need-part-fit-end-3 (claims t) (fit-at t) fit.Post
-fit-part-fit-end-3 t c = search needs
+fit-part-fit-end-3 t c = le-refl _
 
 fit-sub-fit-4 : (t : ℕ) → fit-lts.Need-sub-fit-4 (claims t) (fit-at t) fit.Post
 fit-sub-fit-4 t c = omega (arith, c .before .before .before .before .before .before .before .before .before .before .before .before .before .before .before .before .before .if1)
@@ -120,7 +121,7 @@ fit-part-fit-start-4 : (t : ℕ) → fit-lts.Need-part-fit-start-4 (claims t) (f
 fit-part-fit-start-4 t c = omega (arith, c .before .before .before .before .before .before .before .before .before .before .before .before .before .before .before .before .before .if1)
 
 fit-part-fit-end-4 : (t : ℕ) → fit-lts.Need-part-fit-end-4 (claims t) (fit-at t) fit.Post
-fit-part-fit-end-4 t c = search needs
+fit-part-fit-end-4 t c = le-refl _
 
 fit-add-fit : (t : ℕ) → fit-lts.Need-add-fit (claims t) (fit-at t) fit.Post
 fit-add-fit t c = omega (arith, c .before .before .before .before .before .before .before .before .before .before .before .before .before .before .before .before .before .before .before .before .before .before .before .before .before .before .before .pre .1 .1 .1, c .before .before .before .before .before .before .before .before .before .before .before .before .before .before .before .before .before .before .if1)
@@ -132,7 +133,7 @@ fit-part-fit-start-5 : (t : ℕ) → fit-lts.Need-part-fit-start-5 (claims t) (f
 fit-part-fit-start-5 t c = rw (length-set (c .before .before .before .before .before .before .before .before .before .before .before .before .before .before .before .before .before .before .before .before .before .before .before .before .before .before .before .before .before .args .shifts .now) 0 (c .before .before .before .before .before .before .before .s .given .0 .0)) (omega (arith, c .before .before .before .before .before .before .before .before .before .before .before .before .before .before .before .before .before .before .before .before .before .before .before .before .before .before .before .before .before .pre .1 .1 .0, c .before .before .before .before .before .before .before .before .before .before .before .before .before .before .before .before .before .before .before .before .if1))
 
 fit-part-fit-end-5 : (t : ℕ) → fit-lts.Need-part-fit-end-5 (claims t) (fit-at t) fit.Post
-fit-part-fit-end-5 t c = search needs
+fit-part-fit-end-5 t c = le-refl _
 
 fit-fit-requires : (t : ℕ) → fit-lts.Need-fit-requires (claims t) (fit-at t) fit.Post
 fit-fit-requires t c κs =
@@ -141,8 +142,8 @@ fit-fit-requires t c κs =
     let one = c .before .before .before .before .before .before .before .before .before .before .before .before .before .before .before .before .before .before .before .before .before .before .before .before .before .before .before .before .before .before .args .first .now in
     let two = c .before .before .before .before .before .before .before .before .before .before .before .before .before .before .before .before .before .before .before .before .before .before .before .before .before .before .before .before .before .before .args .second .now in
     let kept = c .before .before .before .before .before .before .before .before .before .before .before .before .before .before .fit-step .kept in
-    let n = part-length s in
-    (omega (arith, n, p .0, c .before .before .before .before .before .before .before .before .before .before .before .before .before .before .before .before .before .before .before .before .before .if1), (laid-over {one = length one} {two = length two} (kept .1 .1 .1 .1 .1 .1 .1 .1 .1 .1 .0) (kept .1 .1 .1 .1 .1 .1 .1 .1 .1 .1 .1 .0) (front t (c .before .before .before .before .before .before .before .before .before .before .before .before .before .before .before .before .before .before .before .before .before) .behind), (parts-same (c .before .before .before .before .before .before .before .before .before .before .before .before .before .before .before .before .before .before .before .before .before .before .before .before .before .before .before .before .before .before .args .shifts .now) s (c .before .before .before .before .before .before .before .before .s .given .0 .0) (p .1 .1 .0), omega (arith, n, p .1 .1 .1, c .before .before .before .before .before .before .before .before .before .before .before .before .before .before .before .before .before .before .before .before .before .if1))))
+    let n = part-length 1 s in
+    (omega (arith, n, p .0, c .before .before .before .before .before .before .before .before .before .before .before .before .before .before .before .before .before .before .before .before .before .if1), (laid-over {one = length one} {two = length two} (kept .1 .1 .1 .1 .1 .1 .1 .1 .1 .1 .0) (kept .1 .1 .1 .1 .1 .1 .1 .1 .1 .1 .1 .0) (laid-parts (front t (c .before .before .before .before .before .before .before .before .before .before .before .before .before .before .before .before .before .before .before .before .before))), (omega (arith, n, rest-length (c .before .before .before .before .before .before .before .before .before .before .before .before .before .before .before .before .before .before .before .before .before .before .before .before .before .before .before .before .before .before .args .shifts .now) (c .before .before .before .before .before .before .before .before .s .given .0 .0), p .1 .1 .0), omega (arith, n, p .1 .1 .1, c .before .before .before .before .before .before .before .before .before .before .before .before .before .before .before .before .before .before .before .before .before .if1))))
 
 fit-same-length-3 : (t : ℕ) → fit-lts.Need-same-length-3 (claims t) (fit-at t) fit.Post
 fit-same-length-3 t c = c .before .before .before .before .before .before .fit .kept .1 .1 .1 .1 .1 .1 .1 .1 .1 .1 .0 ∙ c .before .before .before .before .before .before .before .before .before .before .before .before .before .before .before .before .before .before .before .before .before .fit-step .kept .1 .1 .1 .1 .1 .1 .1 .1 .1 .1 .0
@@ -151,7 +152,7 @@ fit-same-length-4 : (t : ℕ) → fit-lts.Need-same-length-4 (claims t) (fit-at 
 fit-same-length-4 t c = c .before .before .before .before .before .before .fit .kept .1 .1 .1 .1 .1 .1 .1 .1 .1 .1 .1 .0 ∙ c .before .before .before .before .before .before .before .before .before .before .before .before .before .before .before .before .before .before .before .before .before .fit-step .kept .1 .1 .1 .1 .1 .1 .1 .1 .1 .1 .1 .0
 
 fit-same-length-5 : (t : ℕ) → fit-lts.Need-same-length-5 (claims t) (fit-at t) fit.Post
-fit-same-length-5 t c = written-length (c .before .before .before .before .before .before .before .before .before .before .before .before .before .before .before .before .before .before .before .before .before .before .before .before .before .before .before .before .before .before .before .before .before .before .before .before .before .args .shifts .now) (c .before .before .before .before .before .before .fit .last .1 .1 .1 .1 .1 .1 .1 .1 .1 .1 .1 .1 .0) (c .before .before .before .before .before .before .before .before .before .before .before .before .before .before .before .s .given .0 .0) (omega (arith, c .before .before .before .before .before .before .before .before .before .before .before .before .before .before .before .before .before .before .before .before .before .before .before .before .before .before .before .before .before .before .before .before .before .before .before .before .before .pre .1 .1 .0, c .before .before .before .before .before .before .before .before .before .before .before .before .before .before .before .before .before .before .before .before .before .before .before .before .before .before .before .before .if1)) (c .before .before .before .before .before .before .fit .kept .1 .1 .1 .1 .1 .1 .1 .1 .1 .1 .1 .1 .0)
+fit-same-length-5 t c = with-rest-length (c .before .before .before .before .before .before .before .before .before .before .before .before .before .before .before .before .before .before .before .before .before .before .before .before .before .before .before .before .before .before .before .before .before .before .before .before .before .args .shifts .now) (c .before .before .before .before .before .before .before .before .before .before .before .before .before .before .before .s .given .0 .0) (c .before .before .before .before .before .before .fit .last .1 .1 .1 .1 .1 .1 .1 .1 .1 .1 .1 .1 .0) (omega (arith, c .before .before .before .before .before .before .before .before .before .before .before .before .before .before .before .before .before .before .before .before .before .before .before .before .before .before .before .before .before .before .before .before .before .before .before .before .before .pre .1 .1 .0, c .before .before .before .before .before .before .before .before .before .before .before .before .before .before .before .before .before .before .before .before .before .before .before .before .before .before .before .before .if1)) (c .before .before .before .before .before .before .fit .kept .1 .1 .1 .1 .1 .1 .1 .1 .1 .1 .1 .1 .0)
 
 fit-returns-3 : (t : ℕ) → fit-lts.Need-returns-3 (claims t) (fit-at t) fit.Post
 fit-returns-3 t c = found-more _ _ _ _ _ _ _ _ _ _ _ (front t (c .before .before .before .before .before .before .before .before .before .before .before .before .before .before .before .before .before .before .before .before .before .before .before .before .before .before .before .before)) (c .before .before .before .before .before .before .before .before .before .before .before .before .before .before .before .before .before .before .before .before .before .fit-step .ensures) _ (c .before .before .before .before .before .before .before .before .before .before .before .before .before .before .before .before .before .before .before .before .before .before .before .before .before .before .before .before .before .before .before .before .before .before .before .before .before .args .shifts .now) (c .before .before .before .before .before .before .fit .last .1 .1 .1 .1 .1 .1 .1 .1 .1 .1 .1 .1 .0) (omega (arith, c .before .before .before .before .before .before .before .before .before .before .before .before .before .before .before .before .before .before .before .before .before .before .before .before .before .before .before .before .before .before .before .before .before .before .before .before .before .pre .1 .1 .0, c .before .before .before .before .before .before .before .before .before .before .before .before .before .before .before .before .before .before .before .before .before .before .before .before .before .before .before .before .if1)) (c .before .before .before .before .before .before .before .before .before .before .before .before .before .before .before .s .given .1) (c .before .before .before .before .before .before .fit .ensures)

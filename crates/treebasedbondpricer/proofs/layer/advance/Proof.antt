@@ -1,10 +1,9 @@
 -- `layer::advance` meets its contract. Assumes nothing.
-use mathlib.Core.Path.{sym}
+use mathlib.Core.Path.{sym, refl}
 use mathlib.Core.List.{List}
 use lib.Seq.{length-take-le}
 use lib.Ieee.{Float}
 use Rattle.elementary.proofs.Laws.{taken-eq, left-eq}
-use Rattle.treebasedbondpricer.specs.laws.Rows.{Both}
 use Rattle.treebasedbondpricer.specs.laws.Advances.{advancedAt}
 use Rattle.treebasedbondpricer.proofs.Outcomes.{beside}
 use Rattle.elementary.proofs.Laws.{answers}
@@ -21,10 +20,10 @@ onward-requires : tie.Need-onward-requires
 onward-requires c κs = rw (length-take-le (c .before .before .before .before .before .before .args .count) (c .before .before .before .before .before .before .args .first .now) (c .before .before .before .before .before .before .pre .0 .0)) (c .before .before .before .before .before .before .pre .1 .1)
 
 same-length : tie.Need-same-length
-same-length c = search answers
+same-length c = refl
 
 same-length-2 : tie.Need-same-length-2
-same-length-2 c = search answers
+same-length-2 c = c .before .before .onward .kept .1 .1 .1 .0
 
 returns : tie.Need-returns
 unfolding advancedAt
@@ -40,10 +39,10 @@ onward-requires-2 : tie.Need-onward-requires-2
 onward-requires-2 c κs = rw (length-take-le (c .before .before .before .before .before .before .args .count) (c .before .before .before .before .before .before .args .second .now) (c .before .before .before .before .before .before .pre .0 .1)) (c .before .before .before .before .before .before .pre .1 .0)
 
 same-length-3 : tie.Need-same-length-3
-same-length-3 c = search answers
+same-length-3 c = c .before .before .onward2 .kept .1 .1 .1 .0
 
 same-length-4 : tie.Need-same-length-4
-same-length-4 c = search answers
+same-length-4 c = refl
 
 returns-2 : tie.Need-returns-2
 unfolding advancedAt

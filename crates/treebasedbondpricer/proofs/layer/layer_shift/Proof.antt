@@ -7,10 +7,10 @@ weighted-sum-requires : tie.Need-weighted-sum-requires
 weighted-sum-requires c κs = search answers
 
 enum-known-s : tie.Need-enum-known-s
-enum-known-s c = search answers
+enum-known-s c = c .match .keys1
 
 enum-told : tie.Need-enum-told
-enum-told c = search answers
+enum-told c = c .match .keys2
 
 returns : tie.Need-returns
 returns c = search answers

@@ -9,33 +9,33 @@ add-next : tie.Need-add-next
 add-next c = search answers
 
 int-to-float-time : tie.Need-int-to-float-time
-int-to-float-time c = search answers
+int-to-float-time c = tt
 
 not-finite-requires : tie.Need-not-finite-requires
-not-finite-requires c κs = search answers
+not-finite-requires c κs = tt
 
 overflow-requires : tie.Need-overflow-requires
-overflow-requires c κs = search answers
+overflow-requires c κs = tt
 
 returns : tie.Need-returns
 unfolding shiftOf shiftFrom
 returns c = search answers depth 20 fits 4000
 
 curve-at-requires : tie.Need-curve-at-requires
-curve-at-requires c κs = search answers
+curve-at-requires c κs = tt
 
 enum-known-f : tie.Need-enum-known-f
-enum-known-f c = search answers
+enum-known-f c = c .match .keys1
 
 enum-told : tie.Need-enum-told
-enum-told c = search answers
+enum-told c = c .match .keys2
 
 returns-2 : tie.Need-returns-2
 unfolding shiftOf shiftFrom
 returns-2 c = search answers depth 20 fits 4000
 
 shift-from-requires : tie.Need-shift-from-requires
-shift-from-requires c κs = search answers
+shift-from-requires c κs = tt
 
 returns-3 : tie.Need-returns-3
 unfolding shiftOf shiftFrom

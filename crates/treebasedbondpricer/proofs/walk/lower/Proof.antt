@@ -4,7 +4,7 @@ use Rattle.treebasedbondpricer.proofs.walk.lower.Statement.{statement}
 use Rattle.treebasedbondpricer.proofs.walk.lower.Tie as tie
 
 lesser-requires : tie.Need-lesser-requires
-lesser-requires c κs = search answers
+lesser-requires c κs = tt
 
 returns : tie.Need-returns
 returns c = search answers

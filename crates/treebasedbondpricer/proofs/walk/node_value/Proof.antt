@@ -1,6 +1,6 @@
 -- `walk::node_value` meets its contract. Assumes nothing.
 use native.Mathlib.Omega.{arith}
-use Rattle.treebasedbondpricer.specs.laws.Positions.{spot-below}
+use Rattle.lattice.specs.laws.Positions.{spot-below}
 use Rattle.treebasedbondpricer.specs.laws.WalkSteps.{valueWith}
 use Rattle.elementary.proofs.Laws.{answers}
 use Rattle.treebasedbondpricer.proofs.walk.node_value.Statement.{statement}
@@ -34,33 +34,33 @@ shared-slice-read-summed-3 : tie.Need-shared-slice-read-summed-3
 shared-slice-read-summed-3 c = spot-below (c .before .before .before .before .before .before .before .args .flat) (c .before .before .before .before .before .before .before .args .count) 1 _ (c .before .before .before .spot3 .ensures) (omega arith) (c .before .before .before .before .before .before .before .pre .1)
 
 summed-requires : tie.Need-summed-requires
-summed-requires c κs = search answers
+summed-requires c κs = tt
 
 enum-known-e : tie.Need-enum-known-e
-enum-known-e c = search answers
+enum-known-e c = c .match .keys1
 
 enum-told : tie.Need-enum-told
-enum-told c = search answers
+enum-told c = c .match .keys2
 
 returns : tie.Need-returns
 unfolding valueWith
 returns c = rw (← c .before .before .before .before .before .before .before .before .spot .ensures, ← c .before .before .before .before .before .before .before .spot2 .ensures, ← c .before .before .before .before .before .before .spot3 .ensures) (search answers depth 20 fits 4000)
 
 discount-requires : tie.Need-discount-requires
-discount-requires c κs = search answers
+discount-requires c κs = tt
 
 enum-known-d : tie.Need-enum-known-d
-enum-known-d c = search answers
+enum-known-d c = c .match2 .keys1
 
 enum-told-2 : tie.Need-enum-told-2
-enum-told-2 c = search answers
+enum-told-2 c = c .match2 .keys2
 
 returns-2 : tie.Need-returns-2
 unfolding valueWith
 returns-2 c = rw (← c .before .before .before .before .before .before .before .before .before .before .before .before .spot .ensures, ← c .before .before .before .before .before .before .before .before .before .before .before .spot2 .ensures, ← c .before .before .before .before .before .before .before .before .before .before .spot3 .ensures) (search answers depth 20 fits 4000)
 
 worth-requires : tie.Need-worth-requires
-worth-requires c κs = search answers
+worth-requires c κs = tt
 
 returns-3 : tie.Need-returns-3
 unfolding valueWith

@@ -16,18 +16,18 @@ use Rattle.terms.specs.declared.Check.{Check}
 use Rattle.terms.specs.declared.Check.the-variants.{Passed}
 use Rattle.terms.specs.Outcomes.{Outcome, valued}
 use Rattle.bondevents.specs.declared.CallStep.{CallStep}
-use Rattle.treebasedbondpricer.specs.declared.reach.Reach.{Reach}
+use Rattle.lattice.specs.declared.reach.Reach.{Reach}
 use Rattle.treebasedbondpricer.specs.declared.walk.Rates.{Rates}
-use Rattle.treebasedbondpricer.specs.Layers.{nodeFloat}
-use Rattle.treebasedbondpricer.specs.laws.Stored.{middlesIn}
-use Rattle.treebasedbondpricer.specs.laws.StoredAt.{drop-two, drop-three, middles-from}
-use Rattle.treebasedbondpricer.specs.laws.Bounds.{Within}
-use Rattle.treebasedbondpricer.specs.laws.Reaching.{reach, nothingBelow}
-use Rattle.treebasedbondpricer.specs.laws.Positions.{startOf, Layered, Roomy, Held, roomy-next}
-use Rattle.treebasedbondpricer.specs.laws.Rows.{outcomeOf, checkOf}
-use Rattle.treebasedbondpricer.specs.laws.Binds.{went-on, stopped-at}
+use Rattle.lattice.specs.Layers.{nodeFloat}
+use Rattle.lattice.specs.laws.Stored.{middlesIn}
+use Rattle.lattice.specs.laws.StoredAt.{drop-two, drop-three, middles-from}
+use Rattle.lattice.specs.laws.Bounds.{Within}
+use Rattle.lattice.specs.laws.Reaching.{reach, nothingBelow}
+use Rattle.lattice.specs.laws.Positions.{startOf, Layered, Roomy, Held, roomy-next}
+use Rattle.lattice.specs.laws.Rows.{outcomeOf, checkOf}
+use Rattle.lattice.specs.laws.Binds.{went-on, stopped-at}
 use Rattle.treebasedbondpricer.specs.laws.WalkSteps.{valueWith, rolledAt}
-use Rattle.treebasedbondpricer.proofs.Outcomes.{outcomes, passes}
+use Rattle.treebasedbondpricer.proofs.Outcomes.{passes}
 use Rattle.elementary.proofs.Laws.{answers}
 use Rattle.treebasedbondpricer.proofs.walk.roll.Statement.{statement}
 use Rattle.treebasedbondpricer.proofs.walk.roll.Tie as tie
@@ -136,7 +136,7 @@ reached-requires : tie.Need-reached-requires Inv-loop μ-loop
 reached-requires c κs = let h = held (c .before .before .before .before .before .before .before .before .before .args .nodes .now) (c .before .before .before .before .before .before .before .before .before .args .probabilities .now) (c .before .before .before .before .before .before .before .before .before .args .next .now) (c .before .before .before .before .before .before .before .before .before .args .row .now) (c .before .before .before .before .before .before .before .before .before .args .flat) (c .before .before .before .before .before .before .before .before .before .args .rates) (c .before .before .before .before .before .before .before .before .before .args .call) (c .before .before .before .before .before .before .before .before .before .args .cashflow) (c .before .before .before .before .before .before .before .before .before .args .place) (c .before .before .before .before .before .before .before .before .before .pre) (c .before .before .before .loop .row) (c .before .before .before .loop .r) (c .before .before .before .loop .i) (c .before .before .before .loop .inv) (c .before .before .loop-test .taken) (toZ-ofZ (record { sfits = c .middle .given })) in (omega (arith, h .counted, c .before .before .before .before .before .before .before .before .before .good), h .within)
 
 int-to-float-node-value : tie.Need-int-to-float-node-value Inv-loop μ-loop
-int-to-float-node-value c = search answers
+int-to-float-node-value c = tt
 
 mul-node-value : tie.Need-mul-node-value Inv-loop μ-loop
 mul-node-value c = omega (arith, c .before .before .before .before .before .before .before .before .before .before .before .pre .pairs, c .before .before .before .before .before .before .before .before .before .before .before .pre .threes, c .before .before .before .before .before .loop .inv .same, c .before .before .before .before .loop-test .taken, c .before .before .before .before .before .before .before .before .before .before .before .good)
@@ -175,13 +175,13 @@ node-value-requires : tie.Need-node-value-requires Inv-loop μ-loop
 node-value-requires c κs = let h = held (c .before .before .before .before .before .before .before .before .before .before .before .before .before .before .args .nodes .now) (c .before .before .before .before .before .before .before .before .before .before .before .before .before .before .args .probabilities .now) (c .before .before .before .before .before .before .before .before .before .before .before .before .before .before .args .next .now) (c .before .before .before .before .before .before .before .before .before .before .before .before .before .before .args .row .now) (c .before .before .before .before .before .before .before .before .before .before .before .before .before .before .args .flat) (c .before .before .before .before .before .before .before .before .before .before .before .before .before .before .args .rates) (c .before .before .before .before .before .before .before .before .before .before .before .before .before .before .args .call) (c .before .before .before .before .before .before .before .before .before .before .before .before .before .before .args .cashflow) (c .before .before .before .before .before .before .before .before .before .before .before .before .before .before .args .place) (c .before .before .before .before .before .before .before .before .before .before .before .before .before .before .pre) (c .before .before .before .before .before .before .before .before .loop .row) (c .before .before .before .before .before .before .before .before .loop .r) (c .before .before .before .before .before .before .before .before .loop .i) (c .before .before .before .before .before .before .before .before .loop .inv) (c .before .before .before .before .before .before .before .loop-test .taken) (toZ-ofZ (record { sfits = c .before .before .before .before .before .middle .given })) in rw (c .before .before .before .before .reached .ensures) (h .three, h .spot)
 
 enum-known-v : tie.Need-enum-known-v Inv-loop μ-loop
-enum-known-v c = search answers
+enum-known-v c = c .match .keys1
 
 enum-told : tie.Need-enum-told Inv-loop μ-loop
-enum-told c = search answers
+enum-told c = c .match .keys2
 
 row-refused-requires : tie.Need-row-refused-requires Inv-loop μ-loop
-row-refused-requires c κs = search answers
+row-refused-requires c κs = tt
 
 same-length : tie.Need-same-length Inv-loop μ-loop
 same-length c = c .before .before .before .before .before .before .before .before .before .before .before .before .loop .inv .same

@@ -6,23 +6,23 @@ use Rattle.treebasedbondpricer.proofs.walk.worth.Statement.{statement}
 use Rattle.treebasedbondpricer.proofs.walk.worth.Tie as tie
 
 not-finite-requires : tie.Need-not-finite-requires
-not-finite-requires c κs = search answers
+not-finite-requires c κs = tt
 
 overflow-requires : tie.Need-overflow-requires
-overflow-requires c κs = search answers
+overflow-requires c κs = tt
 
 returns : tie.Need-returns
 unfolding worthOf
 returns c = search answers depth 20 fits 4000
 
 lower-requires : tie.Need-lower-requires
-lower-requires c κs = search answers
+lower-requires c κs = tt
 
 not-finite-requires-2 : tie.Need-not-finite-requires-2
-not-finite-requires-2 c κs = search answers
+not-finite-requires-2 c κs = tt
 
 overflow-requires-2 : tie.Need-overflow-requires-2
-overflow-requires-2 c κs = search answers
+overflow-requires-2 c κs = tt
 
 returns-2 : tie.Need-returns-2
 unfolding worthOf

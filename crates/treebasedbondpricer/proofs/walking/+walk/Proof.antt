@@ -3,13 +3,14 @@ use Prim.Native.Nat.{ℕ, _+_, _*_, _^_, _<_, _≤_}
 use mathlib.Core.Path.{_≡_, sym, _∙_}
 use native.Mathlib.Nat.{le-refl}
 use native.Mathlib.Omega.{arith}
-use lib.ListN.{length, getD, take, length-drop}
+use lib.ListN.{length, getD, take}
 use lib.Seq.{length-take-le}
 use borrow.Fn.Kinds.{In}
 use borrow.Fn.PlainCycle.{Measures, is, falls, and}
-use Rattle.treebasedbondpricer.specs.laws.Positions.{Layered}
-use Rattle.treebasedbondpricer.specs.laws.Laid.{frontNodes, Laid}
-use Rattle.treebasedbondpricer.specs.laws.LaidFront.{partFrom, part-from, Fronted, fronted, Behind, behind-of, laid-parts}
+use Rattle.lattice.specs.laws.Positions.{Layered}
+use Rattle.lattice.specs.laws.Laid.{frontNodes, Laid}
+use Rattle.lattice.specs.laws.Parts.{partFrom, part-length}
+use Rattle.treebasedbondpricer.specs.laws.LaidFront.{Fronted, fronted, Behind, behind-of, laid-parts}
 use Rattle.treebasedbondpricer.specs.laws.FitMore.{layered-of}
 use Rattle.treebasedbondpricer.specs.laws.WalkMore.{callsOf}
 use Rattle.treebasedbondpricer.specs.laws.WalkBack.{walk-last, walk-stopped, walk-step}
@@ -71,8 +72,8 @@ module _ (t : ℕ) (c : walk-lts.Start (calls t) (walk-at t) walk.Post) where
 
     asked : (length (partFrom 1 (c .args .spacings .now)) < t) × (Laid (c .args .flat) (length (c .args .first .now)) (length (c .args .second .now)) (partFrom 1 (c .args .counts .now)) (partFrom 1 (c .args .spacings .now)) (partFrom (getD (c .args .counts .now) 0 0 * 2) (c .args .nodes .now)) (partFrom (getD (c .args .counts .now) 0 0 * 3) (c .args .probabilities .now)) × (((length (partFrom 1 (c .args .shifts .now)) ≡ length (partFrom 1 (c .args .spacings .now))) × (c .args .step + 1 + length (partFrom 1 (c .args .spacings .now)) < length (c .args .cashflows .now)) × (length (c .args .cashflows .now) < 2 ^ 32)) × ((length (c .args .marks .now) ≡ length (c .args .cashflows .now)) × (length (c .args .prices .now) ≡ length (c .args .cashflows .now)))))
     asked =
-        let e : length (partFrom 1 (c .args .spacings .now)) + 1 ≡ length (c .args .spacings .now) = rw (part-from 1 (c .args .spacings .now)) (omega (arith, length-drop 1 (c .args .spacings .now), some-spacing)) in
-        let f : length (partFrom 1 (c .args .shifts .now)) + 1 ≡ length (c .args .shifts .now) = rw (part-from 1 (c .args .shifts .now)) (omega (arith, length-drop 1 (c .args .shifts .now), some-shift)) in
+        let e : length (partFrom 1 (c .args .spacings .now)) + 1 ≡ length (c .args .spacings .now) = omega (arith, part-length 1 (c .args .spacings .now), some-spacing) in
+        let f : length (partFrom 1 (c .args .shifts .now)) + 1 ≡ length (c .args .shifts .now) = omega (arith, part-length 1 (c .args .shifts .now), some-shift) in
         (omega (arith, c .pre .0), (laid-parts behind, ((omega (arith, c .pre .1 .1 .0 .0), omega (arith, c .pre .1 .1 .0 .1), short), c .pre .1 .1 .1)))
 
     module _ {one two : ℕ} (e : one ≡ length (c .args .first .now)) (f : two ≡ length (c .args .second .now)) where

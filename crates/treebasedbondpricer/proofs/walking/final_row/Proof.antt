@@ -13,7 +13,7 @@ slice-aggregate-fill-row : tie.Need-slice-aggregate-fill-row
 slice-aggregate-fill-row c = sym (length-take-le _ _ (c .before .before .before .before .pre .0))
 
 fill-row-requires : tie.Need-fill-row-requires
-fill-row-requires c κs = search needs
+fill-row-requires c κs = tt
 
 same-length : tie.Need-same-length
 same-length c = search needs
@@ -28,7 +28,7 @@ slice-aggregate-fill-row-2 : tie.Need-slice-aggregate-fill-row-2
 slice-aggregate-fill-row-2 c = sym (length-take-le _ _ (c .before .before .before .before .pre .1))
 
 fill-row-requires-2 : tie.Need-fill-row-requires-2
-fill-row-requires-2 c κs = search needs
+fill-row-requires-2 c κs = tt
 
 same-length-2 : tie.Need-same-length-2
 same-length-2 c = search needs

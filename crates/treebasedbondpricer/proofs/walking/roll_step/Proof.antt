@@ -1,7 +1,7 @@
 -- `walking::roll_step` meets its contract. Assumes nothing.
-use mathlib.Core.Path.{sym}
+use mathlib.Core.Path.{sym, refl}
 use lib.Seq.{length-take-le}
-use Rattle.treebasedbondpricer.specs.laws.Positions.{startOf}
+use Rattle.lattice.specs.laws.Positions.{startOf}
 use Rattle.treebasedbondpricer.specs.laws.WalkSteps.{rolledAt}
 use Rattle.treebasedbondpricer.specs.laws.Parity.{even-made, odd-made}
 use borrow.Author.Needs.{needs}
@@ -27,7 +27,7 @@ same-length : tie.Need-same-length
 same-length c = search needs
 
 same-length-2 : tie.Need-same-length-2
-same-length-2 c = search needs
+same-length-2 c = refl
 
 returns : tie.Need-returns
 returns c = even-made (c .before .before .before .before .before .before .before .before .before .args .count) (c .before .before .before .before .before .before .before .before .before .args .next) (c .before .before .roll .result) (c .before .before .roll .last .1 .1 .1 .0) (λ next out. rolledAt (c .before .before .before .before .before .before .before .before .before .args .rates) (c .before .before .before .before .before .before .before .before .before .args .call) (c .before .before .before .before .before .before .before .before .before .args .cashflow) (c .before .before .before .before .before .before .before .before .before .args .step) (c .before .before .before .before .before .before .before .before .before .args .flat) next (startOf (c .before .before .before .before .before .before .before .before .before .args .nodes .now)) 0 (c .before .before .before .before .before .before .before .before .before .args .nodes .now) (c .before .before .before .before .before .before .before .before .before .args .probabilities .now) out) (c .before .before .before .before .before .before .before .before .before .args .step) (c .before .before .before .before .before .before .before .before .before .args .first .now) (c .before .before .before .before .before .before .before .before .before .args .second .now) (c .before .before .before .before .before .if1 .taken) (c .before .before .before .before .before .before .before .before .before .pre .0 .0) (c .before .before .roll .kept .1 .1 .1 .0) (c .before .before .roll .ensures)
@@ -48,7 +48,7 @@ roll-requires-2 : tie.Need-roll-requires-2
 roll-requires-2 c κs = rw (length-take-le (c .before .before .before .before .before .before .args .next) (c .before .before .before .before .before .before .args .first .now) (c .before .before .before .before .before .before .pre .0 .2), length-take-le (c .before .before .before .before .before .before .args .count) (c .before .before .before .before .before .before .args .second .now) (c .before .before .before .before .before .before .pre .0 .1)) (c .before .before .before .before .before .before .pre .1)
 
 same-length-3 : tie.Need-same-length-3
-same-length-3 c = search needs
+same-length-3 c = refl
 
 same-length-4 : tie.Need-same-length-4
 same-length-4 c = search needs

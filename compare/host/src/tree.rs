@@ -1,0 +1,121 @@
+//! The tree value entry, and the slices that it is lent.
+use crate::{answer, c, PATTERN};
+use reading::treebasedbondpricer::{Room, Terms};
+use reading::Outcome;
+
+/// Places before and after each slice that must stay as they are.
+const BESIDE: usize = 4;
+
+/// The four slices, each with a few places beside it, filled with a number and a double.
+pub struct Lent {
+    number: i32,
+    double: f64,
+    nodes: Vec<i32>,
+    floats: [Vec<f64>; 3],
+}
+
+fn inside<T>(all: &[T]) -> &[T] {
+    &all[BESIDE..all.len() - BESIDE]
+}
+
+fn lend<T>(all: &mut [T]) -> (*mut T, usize) {
+    (all[BESIDE..].as_mut_ptr(), all.len() - 2 * BESIDE)
+}
+
+impl Lent {
+    /// Filled with a number and a NaN.
+    pub fn new(room: Room) -> Self {
+        Lent::filled(room, -77, PATTERN)
+    }
+
+    pub fn filled(room: Room, number: i32, double: f64) -> Self {
+        let row = |length: usize| vec![double; length + 2 * BESIDE];
+        Lent {
+            number,
+            double,
+            nodes: vec![number; room.nodes + 2 * BESIDE],
+            floats: [row(room.probabilities), row(room.first), row(room.second)],
+        }
+    }
+
+    fn is_number(&self, n: i32) -> bool {
+        n == self.number
+    }
+
+    fn is_double(&self, x: f64) -> bool {
+        x.to_bits() == self.double.to_bits()
+    }
+
+    /// Whether two hold the same bits.
+    pub fn same(&self, other: &Lent) -> bool {
+        let bits = |lent: &Lent| -> Vec<u64> { lent.floats.iter().flatten().map(|x| x.to_bits()).collect() };
+        self.nodes == other.nodes && bits(self) == bits(other)
+    }
+
+    /// The slices and all beside them hold what they were filled with.
+    pub fn untouched(&self) -> bool {
+        self.nodes.iter().all(|&n| self.is_number(n)) && self.floats.iter().flatten().all(|&x| self.is_double(x))
+    }
+
+    /// The slices are all zero, and what is beside them untouched.
+    pub fn zeroed(&self) -> bool {
+        let ends = |length: usize| (0..BESIDE).chain(length - BESIDE..length);
+        inside(&self.nodes).iter().all(|&n| n == 0)
+            && ends(self.nodes.len()).all(|i| self.is_number(self.nodes[i]))
+            && self.floats.iter().all(|row| {
+                inside(row).iter().all(|x| x.to_bits() == 0) && ends(row.len()).all(|i| self.is_double(row[i]))
+            })
+    }
+}
+
+/// The tree value entry: value and node count.
+pub fn tree_value(terms: &Terms, lent: &mut Lent) -> Outcome<(f64, u64)> {
+    let (mut place, mut value, mut node_count) = (0xdead_beef, PATTERN, 0xdead_beef);
+    let (nodes, nodes_len) = lend(&mut lent.nodes);
+    let [(probabilities, probabilities_len), (first, first_len), (second, second_len)] = lent.floats.each_mut().map(|row| lend(row));
+    let number = unsafe {
+        c::gutirapeo_tree_value(
+            terms.settlement,
+            terms.leg.days.as_ptr(),
+            terms.leg.days.len(),
+            terms.leg.kinds.as_ptr(),
+            terms.leg.kinds.len(),
+            terms.leg.amounts.as_ptr(),
+            terms.leg.amounts.len(),
+            terms.units,
+            terms.calls.starts.as_ptr(),
+            terms.calls.starts.len(),
+            terms.calls.ends.as_ptr(),
+            terms.calls.ends.len(),
+            terms.calls.strikes.as_ptr(),
+            terms.calls.strikes.len(),
+            terms.settings.0,
+            terms.settings.1,
+            terms.alpha,
+            terms.sigma.times.as_ptr(),
+            terms.sigma.times.len(),
+            terms.sigma.sigmas.as_ptr(),
+            terms.sigma.sigmas.len(),
+            terms.spread,
+            terms.pillars.days.as_ptr(),
+            terms.pillars.days.len(),
+            terms.pillars.factors.as_ptr(),
+            terms.pillars.factors.len(),
+            nodes,
+            nodes_len,
+            probabilities,
+            probabilities_len,
+            first,
+            first_len,
+            second,
+            second_len,
+            &mut place,
+            &mut value,
+            &mut node_count,
+        )
+    };
+    if number != 0 {
+        assert_eq!(node_count, 0, "refusal {number} left a node count");
+    }
+    answer(number, place, value).map(|value| (value, node_count))
+}

@@ -1,0 +1,4 @@
+pub mod Layers
+pub mod Transitions
+pub mod Lattice
+pub mod laws

@@ -1,0 +1,209 @@
+// A node's transition: state, expectation and its quotient, the middle, error and probabilities.
+
+use crate::Transition;
+use elementary::Refusal;
+use elementary::finite::not_finite;
+use elementary::max::greater;
+use elementary::round::near;
+ghost use mathlib.Core.Path.{_≡_};
+ghost use Rattle.elementary.specs.laws.Cuts.{IsWhole};
+ghost use Rattle.lattice.specs.Transitions.{clamped, transitionOf};
+ghost use Rattle.lattice.specs.laws.Bounds.{Within};
+ghost use Rattle.lattice.specs.laws.Making.{madeOutcome, stepFrom, shares, chances, centred};
+
+impl Transition {
+    // A middle node lies within ±1,000,000.
+    pub const LIMIT: f64 = 1000000.0;
+    // A middle node beyond that.
+    pub const TOO_FAR: u32 = 23;
+    // A probability below −1e-12.
+    pub const NEGATIVE: u32 = 24;
+}
+
+// A transition, or the refusal that was met.
+pub enum MadeTransition {
+    Made(Transition),
+    Refused(Refusal),
+}
+
+// Three numbers that are not below 0, divided by their total.
+fn shares(middle: i32, d: f64, m: f64, u: f64, place: u32) -> MadeTransition
+    requires { ⌜ Within middle ⌝ }
+    ensures { λ r. ⌜ madeOutcome r ≡ shares middle d m u place ⌝ }
+{
+    let not_finite_here = Refusal {
+        number: Refusal::NOT_FINITE,
+        place,
+    };
+    let part = d + m;
+    if not_finite(part) {
+        return MadeTransition::Refused(not_finite_here);
+    }
+    let total = part + u;
+    if not_finite(total) {
+        return MadeTransition::Refused(not_finite_here);
+    }
+    let probability_down = d / total;
+    if not_finite(probability_down) {
+        return MadeTransition::Refused(not_finite_here);
+    }
+    let probability_middle = m / total;
+    if not_finite(probability_middle) {
+        return MadeTransition::Refused(not_finite_here);
+    }
+    let probability_up = u / total;
+    if not_finite(probability_up) {
+        return MadeTransition::Refused(not_finite_here);
+    }
+    MadeTransition::Made(Transition {
+        down: middle - 1,
+        middle,
+        up: middle + 1,
+        probability_down,
+        probability_middle,
+        probability_up,
+    })
+}
+
+// Clamping at 0 and dividing by the total.
+fn clamped(middle: i32, down: f64, mid: f64, up: f64, place: u32) -> MadeTransition
+    requires { ⌜ Within middle ⌝ }
+    ensures { λ r. ⌜ madeOutcome r ≡ clamped middle down mid up place ⌝ }
+{
+    let d = greater(down, 0.0);
+    let m = greater(mid, 0.0);
+    let u = greater(up, 0.0);
+    shares(middle, d, m, u, place)
+}
+
+// Probabilities with the error from the rounded middle.
+fn probabilities(
+    middle: i32,
+    error: f64,
+    denominator: f64,
+    scale: f64,
+    place: u32,
+) -> MadeTransition
+    requires { ⌜ Within middle ⌝ }
+    ensures { λ r. ⌜ madeOutcome r ≡ chances middle error denominator scale place ⌝ }
+{
+    let not_finite_here = Refusal {
+        number: Refusal::NOT_FINITE,
+        place,
+    };
+    let too_low = Refusal {
+        number: Transition::NEGATIVE,
+        place,
+    };
+    let square = error * error;
+    if not_finite(square) {
+        return MadeTransition::Refused(not_finite_here);
+    }
+    let term = square / denominator;
+    if not_finite(term) {
+        return MadeTransition::Refused(not_finite_here);
+    }
+    let a = 1.0 / 6.0 + term;
+    if not_finite(a) {
+        return MadeTransition::Refused(not_finite_here);
+    }
+    let skew = error / scale;
+    if not_finite(skew) {
+        return MadeTransition::Refused(not_finite_here);
+    }
+    let down = a - skew;
+    if not_finite(down) {
+        return MadeTransition::Refused(not_finite_here);
+    }
+    let twice = term * 2.0;
+    if not_finite(twice) {
+        return MadeTransition::Refused(not_finite_here);
+    }
+    let mid = 2.0 / 3.0 - twice;
+    if not_finite(mid) {
+        return MadeTransition::Refused(not_finite_here);
+    }
+    let up = a + skew;
+    if not_finite(up) {
+        return MadeTransition::Refused(not_finite_here);
+    }
+    if down < -1.0e-12 {
+        return MadeTransition::Refused(too_low);
+    }
+    if mid < -1.0e-12 {
+        return MadeTransition::Refused(too_low);
+    }
+    if up < -1.0e-12 {
+        return MadeTransition::Refused(too_low);
+    }
+    clamped(middle, down, mid, up, place)
+}
+
+// From the rounded middle on: 23, error and probabilities.
+fn centred(
+    expectation: f64,
+    middle: f64,
+    new_spacing: f64,
+    denominator: f64,
+    scale: f64,
+    place: u32,
+) -> MadeTransition
+    requires { ⌜ IsWhole middle ⌝ }
+    ensures { λ r. ⌜ madeOutcome r ≡ centred expectation middle «new_spacing» denominator scale place ⌝ }
+{
+    let not_finite_here = Refusal {
+        number: Refusal::NOT_FINITE,
+        place,
+    };
+    let too_far = Refusal {
+        number: Transition::TOO_FAR,
+        place,
+    };
+    if middle < -Transition::LIMIT {
+        return MadeTransition::Refused(too_far);
+    }
+    if middle > Transition::LIMIT {
+        return MadeTransition::Refused(too_far);
+    }
+    let centre = new_spacing * middle;
+    if not_finite(centre) {
+        return MadeTransition::Refused(not_finite_here);
+    }
+    let error = expectation - centre;
+    if not_finite(error) {
+        return MadeTransition::Refused(not_finite_here);
+    }
+    probabilities(middle as i32, error, denominator, scale, place)
+}
+
+// A node's transition to the next layer.
+pub fn transition_of(
+    spacing: f64,
+    decay: f64,
+    new_spacing: f64,
+    denominator: f64,
+    scale: f64,
+    place: u32,
+    node: i32,
+) -> MadeTransition
+    ensures { λ r. ⌜ madeOutcome r ≡ transitionOf (stepFrom spacing decay «new_spacing» denominator scale place) node ⌝ }
+{
+    let not_finite_here = Refusal {
+        number: Refusal::NOT_FINITE,
+        place,
+    };
+    let state = spacing * (node as f64);
+    if not_finite(state) {
+        return MadeTransition::Refused(not_finite_here);
+    }
+    let expectation = state * decay;
+    if not_finite(expectation) {
+        return MadeTransition::Refused(not_finite_here);
+    }
+    let quotient = expectation / new_spacing;
+    if not_finite(quotient) {
+        return MadeTransition::Refused(not_finite_here);
+    }
+    let middle = near(quotient);
+    centred(expectation, middle, new_spacing, denominator, scale, place)
+}

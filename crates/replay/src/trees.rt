@@ -1,0 +1,172 @@
+// The tree value, kind 13: at most 8 cashflows, 4 call entries, 4 sigma entries and 8 pillars, and slices of the lengths that a
+// record holds, up to 2,000, 3,000, 100 and 100.
+
+use crate::lists::eight_bytes;
+use crate::lists::eight_floats;
+use crate::lists::eight_numbers;
+use crate::record::float;
+use crate::record::number;
+use crate::record::word;
+use treebasedbondpricer::TreeValue;
+
+// Whether an answer is the number, the place, the value and the node count that a record holds.
+fn is_answer(answer: TreeValue, number: u32, place: u32, value: f64, count: u64) -> bool {
+    match answer {
+        TreeValue::Value(x, n) => number == 0 && place == 0 && x == value && n == count,
+        TreeValue::Refused(refusal) => refusal.number == number
+            && refusal.place == place
+            && value == 0.0
+            && count == 0,
+    }
+}
+
+fn all_numbers(xs: &[i32], x: i32) -> bool {
+    let mut i: usize = 0;
+    while i < xs.len() {
+        if xs[i] != x {
+            return false;
+        }
+        i += 1;
+    }
+    true
+}
+
+fn all_floats(xs: &[f64], x: f64) -> bool {
+    let mut i: usize = 0;
+    while i < xs.len() {
+        if xs[i] != x {
+            return false;
+        }
+        i += 1;
+    }
+    true
+}
+
+// Whether the slices, filled with 7, are still so after a refusal of the input, and else all zero.
+fn left_so(
+    refused: u32,
+    nodes: &[i32],
+    probabilities: &[f64],
+    first: &[f64],
+    second: &[f64],
+) -> bool {
+    if refused > 0 && refused < 9 {
+        return all_numbers(nodes, 7)
+            && all_floats(probabilities, 7.0)
+            && all_floats(first, 7.0)
+            && all_floats(second, 7.0);
+    }
+    all_numbers(nodes, 0)
+        && all_floats(probabilities, 0.0)
+        && all_floats(first, 0.0)
+        && all_floats(second, 0.0)
+}
+
+// Whether the inputs that a record holds are answered with what it holds; no list may be longer than its places.
+fn answered(
+    record: &[u8; 1280],
+    nodes: &mut [i32],
+    probabilities: &mut [f64],
+    first: &mut [f64],
+    second: &mut [f64],
+) -> bool {
+    let flows = number(record, 2) as usize;
+    let entries = number(record, 28) as usize;
+    let levels = number(record, 44) as usize;
+    let points = number(record, 54) as usize;
+    if flows > 8 {
+        return false;
+    }
+    if entries > 4 {
+        return false;
+    }
+    if levels > 4 {
+        return false;
+    }
+    if points > 8 {
+        return false;
+    }
+    let days = eight_numbers(record, 3);
+    let kinds = eight_bytes(record, 11);
+    let amounts = eight_floats(record, 19);
+    let starts = eight_numbers(record, 29);
+    let ends = eight_numbers(record, 33);
+    let strikes = eight_floats(record, 37);
+    let times = eight_floats(record, 45);
+    let sigmas = eight_floats(record, 49);
+    let pillars = eight_numbers(record, 55);
+    let factors = eight_floats(record, 63);
+    let answer = treebasedbondpricer::tree::tree_value(
+        number(record, 1),
+        &days[..flows],
+        &kinds[..flows],
+        &amounts[..flows],
+        float(record, 27),
+        &starts[..entries],
+        &ends[..entries],
+        &strikes[..entries],
+        number(record, 41),
+        number(record, 42),
+        float(record, 43),
+        &times[..levels],
+        &sigmas[..levels],
+        float(record, 53),
+        &pillars[..points],
+        &factors[..points],
+        nodes,
+        probabilities,
+        first,
+        second,
+    );
+    is_answer(
+        answer,
+        number(record, 80),
+        number(record, 81),
+        float(record, 82),
+        word(record, 83),
+    )
+}
+
+// Whether the answer is the record's, and the slices are left as they must be.
+fn tried(
+    record: &[u8; 1280],
+    nodes: &mut [i32],
+    probabilities: &mut [f64],
+    first: &mut [f64],
+    second: &mut [f64],
+) -> bool {
+    if !answered(record, nodes, probabilities, first, second) {
+        return false;
+    }
+    left_so(number(record, 80), nodes, probabilities, first, second)
+}
+
+pub(crate) fn same(record: &[u8; 1280]) -> bool {
+    let numbers = number(record, 76) as usize;
+    let shares = number(record, 77) as usize;
+    let one = number(record, 78) as usize;
+    let other = number(record, 79) as usize;
+    if numbers > 2000 {
+        return false;
+    }
+    if shares > 3000 {
+        return false;
+    }
+    if one > 100 {
+        return false;
+    }
+    if other > 100 {
+        return false;
+    }
+    let mut nodes = [7i32; 2000];
+    let mut probabilities = [7.0; 3000];
+    let mut first = [7.0; 100];
+    let mut second = [7.0; 100];
+    tried(
+        record,
+        &mut nodes[..numbers],
+        &mut probabilities[..shares],
+        &mut first[..one],
+        &mut second[..other],
+    )
+}
