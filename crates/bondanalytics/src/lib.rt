@@ -84,18 +84,6 @@ pub enum FoundFrequency {
     Refused(Refusal),
 }
 
-impl YieldPrice {
-    // A yield base or simple factor at or below 0.
-    pub const BASE: u32 = 28;
-}
-
-impl Root {
-    // No bracket.
-    pub const NO_BRACKET: u32 = 29;
-    // Not converged.
-    pub const NOT_CONVERGED: u32 = 30;
-}
-
 // What is priced at a tried argument: the cashflows at a yield.
 pub enum Priced {
     Yield,

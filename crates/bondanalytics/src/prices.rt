@@ -32,7 +32,7 @@ pub fn simple(rate: f64, time: f64) -> YieldPrice
         return YieldPrice::Refused(refusal_of(a));
     };
     if compound <= 0.0 {
-        return refused(YieldPrice::BASE);
+        return refused(Refusal::YIELD_BASE);
     }
     let discount = 1.0 / compound;
     if not_finite(discount) {
@@ -62,7 +62,7 @@ pub fn compounded(rate: f64, time: f64, frequency: f64) -> YieldPrice
         return refused(Refusal::NOT_FINITE);
     }
     if base <= 0.0 {
-        return refused(YieldPrice::BASE);
+        return refused(Refusal::YIELD_BASE);
     }
     let power = -frequency * time;
     if not_finite(power) {

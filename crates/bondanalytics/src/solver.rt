@@ -40,7 +40,7 @@ fn halved_to_root(first: Bracket, sought: Sought, days: &[u32], amounts: &[f64])
     }
     Root::Refused(
         Refusal {
-            number: Root::NOT_CONVERGED,
+            number: Refusal::NOT_CONVERGED,
             place: 0,
         },
         b.evaluations,
@@ -64,7 +64,7 @@ fn settle(b: Bracket, sought: Sought, days: &[u32], amounts: &[f64]) -> Root
     }
     Root::Refused(
         Refusal {
-            number: Root::NO_BRACKET,
+            number: Refusal::NO_BRACKET,
             place: 0,
         },
         b.evaluations,

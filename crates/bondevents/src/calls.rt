@@ -24,7 +24,7 @@ fn call_price(strike: f64, principal: f64, units: f64) -> Answer
 {
     if principal <= 0.0 {
         return Answer::Refused(Refusal {
-            number: CallStep::NO_PRINCIPAL,
+            number: Refusal::NO_PRINCIPAL,
             place: 0,
         });
     }

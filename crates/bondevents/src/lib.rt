@@ -20,9 +20,6 @@ pub struct CallStep {
 }
 
 impl CallStep {
-    // No principal at an eligible step.
-    pub const NO_PRINCIPAL: u32 = 20;
-
     // A step without a call price.
     pub fn new() -> Self
         ensures { λ r. ⌜ r ≡ newStep ⌝ }

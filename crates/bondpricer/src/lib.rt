@@ -14,9 +14,6 @@ ghost use Rattle.elementary.specs.Answers.{plusZero, refusal};
 ghost use Rattle.terms.specs.Terms.{Leg, Pillars};
 ghost use Rattle.bondpricer.specs.Straight.{withFlow, flows, discountedValue, straightValue};
 
-// A discount factor at or below 0.
-pub const FACTOR: u32 = 25;
-
 // A refusal with its number, at place 0.
 fn refused(number: u32) -> Answer
     ensures { λ r. ⌜ r ≡ refusal number 0 ⌝ }
@@ -124,7 +121,7 @@ pub fn discounted_value(
         return a;
     };
     if reference <= 0.0 {
-        return refused(FACTOR);
+        return refused(Refusal::FACTOR);
     }
     all_flows(
         settlement,

@@ -1,6 +1,6 @@
 // A flat tree: one node 0 per layer.
 
-use crate::grow::EPSILON;
+use crate::grow::MadeStep;
 use crate::grow::has_room;
 use elementary::Refusal;
 use terms::Check;
@@ -22,7 +22,7 @@ pub fn all_flat(variances: &[f64]) -> bool
 {
     let mut i = 0;
     while i < variances.len() {
-        if variances[i] <= EPSILON {
+        if variances[i] <= MadeStep::EPSILON {
             i += 1;
         } else {
             return false;

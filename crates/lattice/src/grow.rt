@@ -24,9 +24,6 @@ ghost use Rattle.lattice.specs.laws.MadeSteps.{StepMade, DivisorsMade};
 ghost use Rattle.lattice.specs.laws.NextLaid.{roomOf, LaidNext};
 ghost use Rattle.lattice.specs.laws.Grown.{grownFrom};
 
-// 2^−52: a variance at or below it is none.
-pub const EPSILON: f64 = 2.220446049250313e-16;
-
 // The next layer is laid: its spacing and node count; or a refusal.
 pub enum NextLayer {
     Laid(f64, usize),
@@ -37,6 +34,11 @@ pub enum NextLayer {
 pub enum MadeStep {
     Made(f64, f64, f64),
     Refused(Refusal),
+}
+
+impl MadeStep {
+    // 2^−52: a variance at or below it is none.
+    pub const EPSILON: f64 = 2.220446049250313e-16;
 }
 
 // sqrt(variance × 3).
@@ -76,7 +78,7 @@ fn divisors(variance: f64, new_spacing: f64, place: u32) -> MadeStep
 fn step_of(variance: f64, place: u32) -> MadeStep
     ensures { λ r. ⌜ StepMade variance place r ⌝ }
 {
-    if variance <= EPSILON {
+    if variance <= MadeStep::EPSILON {
         return MadeStep::Refused(Refusal {
             number: Refusal::NO_VARIANCE,
             place,

@@ -14,10 +14,6 @@ ghost use Rattle.lattice.specs.laws.Making.{madeOutcome, stepFrom, share
 impl Transition {
     // A middle node lies within ±1,000,000.
     pub const LIMIT: f64 = 1000000.0;
-    // A middle node beyond that.
-    pub const TOO_FAR: u32 = 23;
-    // A probability below −1e-12.
-    pub const NEGATIVE: u32 = 24;
 }
 
 // A transition, or the refusal that was met.
@@ -92,7 +88,7 @@ fn probabilities(
         place,
     };
     let too_low = Refusal {
-        number: Transition::NEGATIVE,
+        number: Refusal::PROBABILITY,
         place,
     };
     let square = error * error;
@@ -156,7 +152,7 @@ fn centred(
         place,
     };
     let too_far = Refusal {
-        number: Transition::TOO_FAR,
+        number: Refusal::NODE_TOO_FAR,
         place,
     };
     if middle < -Transition::LIMIT {
