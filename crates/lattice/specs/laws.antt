@@ -42,3 +42,4 @@ pub mod LayersMore
 pub mod Layering
 pub mod Rooted
 pub mod Spots
+pub mod Proper

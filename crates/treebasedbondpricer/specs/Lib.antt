@@ -1,5 +1,3 @@
-pub mod Fit
-pub mod Walk
 pub mod Tree
 pub mod CallLists
 pub mod Entry

@@ -1,27 +1,9 @@
 -- The laws of the tree that others may cite.
-pub mod Proper
 pub mod Counts
-pub mod Rising
-pub mod WalkRising
 pub mod ValueRising
 pub mod CallLists
-pub mod FitSteps
-pub mod WalkSteps
-pub mod Advances
-pub mod Placing
-pub mod FitPlaces
-pub mod WalkPlaces
-pub mod FitMore
-pub mod Found
-pub mod WalkMore
 pub mod FittedIn
 pub mod Valued
 pub mod Entered
 pub mod EntryRules
-pub mod Fitting
-pub mod LaidFront
-pub mod FitLaid
-pub mod WalkBack
-pub mod Parity
-pub mod WalkRoot
 pub mod Marks

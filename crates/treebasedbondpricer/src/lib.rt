@@ -1,15 +1,9 @@
 // Trinomial-tree valuation of a callable bond.
 use elementary::Refusal;
 
-mod fit;
 mod fitted;
-mod fitting;
-mod layer;
-mod rows;
 pub mod tree;
 pub mod value;
-mod walk;
-mod walking;
 mod zero;
 
 // The tree value: the root's value and the nodes of all layers, or a refusal.

@@ -18,9 +18,9 @@ use Rattle.terms.specs.laws.Outcomes.{Gives, gives, given-of, gives-follow, giv
 use Rattle.hullwhite.specs.Variance.{stepVariance, variancesFrom}
 use Rattle.lattice.specs.Layers.{At, Room}
 use Rattle.lattice.specs.Lattice.{Layer, lattice}
-use Rattle.treebasedbondpricer.specs.Fit.{weighted, shiftOf, onward, shiftsFrom}
+use Rattle.induction.specs.Fit.{weighted, shiftOf, onward, shiftsFrom}
 use Rattle.treebasedbondpricer.specs.Tree.{Fitted, fittedTree}
-use Rattle.treebasedbondpricer.specs.laws.Proper.{Proper, proper-of-lattice, layers-of-lattice}
+use Rattle.lattice.specs.laws.Proper.{Proper, proper-of-lattice, layers-of-lattice}
 
 variance-count : (model : HullWhite) (dt : Float) (count k : ℕ) → Gives (λ (vs : List Float). length vs ≡ count) (variancesFrom model dt count k)
 unfolding variancesFrom

@@ -2,7 +2,7 @@
 use Prim.Native.Nat.{_-_}
 use lib.ListN.{length}
 use Rattle.elementary.specs.Answers.{plusZero}
-use Rattle.treebasedbondpricer.proofs.Filling.{Filled, filling}
+use Rattle.induction.proofs.Filling.{Filled, filling}
 use Rattle.treebasedbondpricer.proofs.zero.zero_floats.Statement.{statement}
 use Rattle.treebasedbondpricer.proofs.zero.zero_floats.Tie as tie
 
