@@ -125,6 +125,37 @@ uint32_t gutirapeo_tree_value(uint32_t settlement,
                               double *second_row, size_t second_row_length,
                               uint32_t *place, double *value, uint64_t *node_count);
 
+/* The spread that makes the bond worth a target (within 1e15 of 0), and how many spreads were tried (at most 386; 0 where the
+ * input is refused). Everything else is taken as for the tree value, the lent slices too, and they are left as it leaves them.
+ *
+ * The tree value less the target at the spread is within 1e-12 of 0, or the spread is the middle of a bracket at most 1e-14 wide,
+ * with differences at its two ends neither both above 0 nor both below. The search starts from -0.05 and 0.10 and goes no lower
+ * than -1. A spread that is tried is refused as a tree value with that spread would be, with the same place. The others have
+ * place 0:
+ *   29  no bracket
+ *   30  not converged
+ *   36  a spread above 1 would have to be tried; it counts as tried */
+uint32_t gutirapeo_spread_from_price(uint32_t settlement,
+                                     const uint32_t *cashflow_days, size_t cashflow_days_length,
+                                     const uint8_t *cashflow_kinds, size_t cashflow_kinds_length,
+                                     const double *cashflow_amounts, size_t cashflow_amounts_length,
+                                     double units,
+                                     const uint32_t *call_starts, size_t call_starts_length,
+                                     const uint32_t *call_ends, size_t call_ends_length,
+                                     const double *call_strikes, size_t call_strikes_length,
+                                     uint32_t steps_per_year, uint32_t max_steps,
+                                     double alpha,
+                                     const double *sigma_times, size_t sigma_times_length,
+                                     const double *sigmas, size_t sigmas_length,
+                                     double target,
+                                     const uint32_t *pillar_days, size_t pillar_days_length,
+                                     const double *pillar_factors, size_t pillar_factors_length,
+                                     int32_t *nodes, size_t nodes_length,
+                                     double *probabilities, size_t probabilities_length,
+                                     double *first_row, size_t first_row_length,
+                                     double *second_row, size_t second_row_length,
+                                     uint32_t *place, double *spread, uint32_t *tried);
+
 /* What the bond is worth without its calls.
  * 25: settlement's factor at or below 0. 26: exp outside its range. 27: a result that isn't finite. */
 uint32_t gutirapeo_straight_value(uint32_t settlement,

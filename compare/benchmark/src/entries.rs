@@ -47,6 +47,8 @@ pub fn run() {
     measured();
     published::PLATFORM.store(false, std::sync::atomic::Ordering::Relaxed);
     crate::trees::run();
+    crate::spreads::run();
+    crate::trees::stacks();
 }
 
 fn measured() {

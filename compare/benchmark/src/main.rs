@@ -1,5 +1,6 @@
 //! Nanoseconds per call of the proved functions beside Rust code of the same rules, in one run.
 mod entries;
+mod spreads;
 mod trees;
 
 use reading::{elementary as reading01, Answer};
@@ -59,9 +60,9 @@ fn root(x: f64) -> Answer {
 
 fn main() {
     let words: Vec<String> = std::env::args().collect();
-    if let [_, word, bytes] = &words[..] {
+    if let [_, word, entry, bytes] = &words[..] {
         assert_eq!(word, "--stack");
-        return trees::on_stack(bytes.parse().expect("--stack takes a number of bytes"));
+        return trees::on_stack(entry, bytes.parse().expect("--stack takes an entry and a number of bytes"));
     }
     println!("function   Gutirapeo         Rust  ratio");
     let ones: [(&str, One, One, f64, f64); 6] = [

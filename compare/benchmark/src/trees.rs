@@ -44,7 +44,6 @@ pub fn run() {
         before = [Some(ours), Some(theirs)];
     }
     wide();
-    stack();
 }
 
 /// Alpha far below 0 drives the nodes apart: each layer is wider than the one before, by a factor.
@@ -58,18 +57,22 @@ fn wide() {
     println!("one year in 512 steps, alpha -5: {nodes} nodes, {:.1} ms, {:.1} ns a node", time / 1e3, time * 1e3 / nodes as f64);
 }
 
-/// One call with the most steps on a thread with a stack of so many bytes.
-pub fn on_stack(bytes: usize) {
+/// One call of an entry with the most steps on a thread with a stack of so many bytes.
+pub fn on_stack(entry: &str, bytes: usize) {
     let (terms, mut lent) = (ordinary::bond(512), Lent::new(ordinary::room(512)));
-    let called = std::thread::Builder::new().stack_size(bytes).spawn(move || host::tree_value(&terms, &mut lent).is_ok());
+    let spread = entry == "spread";
+    let called = std::thread::Builder::new().stack_size(bytes).spawn(move || match spread {
+        true => host::spread_from_price(&terms, 100.0, &mut lent).0.is_ok(),
+        false => host::tree_value(&terms, &mut lent).is_ok(),
+    });
     assert!(called.expect("a thread starts").join().is_ok_and(|accepted| accepted));
 }
 
 /// The least stack of a thread on which the most steps go through, to 4 KB: each size is tried in a process of its own.
-fn stack() {
+fn stack(entry: &str) -> usize {
     let fits = |bytes: usize| {
         let program = std::env::current_exe().expect("the program knows its path");
-        let run = Command::new(program).args(["--stack", &bytes.to_string()]).stdout(Stdio::null()).stderr(Stdio::null()).status();
+        let run = Command::new(program).args(["--stack", entry, &bytes.to_string()]).stdout(Stdio::null()).stderr(Stdio::null()).status();
         run.is_ok_and(|status| status.success())
     };
     let (mut low, mut high) = (4, 2048);
@@ -82,5 +85,9 @@ fn stack() {
             low = middle;
         }
     }
-    println!("512 steps need a thread with {} KB of stack", high * 4);
+    high * 4
+}
+
+pub fn stacks() {
+    println!("512 steps need a thread with {} KB of stack for the tree value, {} KB for the spread from price", stack("tree"), stack("spread"));
 }

@@ -2,7 +2,7 @@
 mod c;
 mod tree;
 
-pub use tree::{tree_value, Lent};
+pub use tree::{spread_from_price, tree_value, Lent};
 
 use reading::bondevents::Grid;
 use reading::terms::{Calls, Leg, Pillars};

@@ -1,7 +1,7 @@
-//! The tree value entry, and the slices that it is lent.
+//! The tree value and spread from price entries, and the slices that they are lent.
 use crate::{answer, c, PATTERN};
 use reading::treebasedbondpricer::{Room, Terms};
-use reading::Outcome;
+use reading::{Answer, Outcome};
 
 /// Places before and after each slice that must stay as they are.
 const BESIDE: usize = 4;
@@ -118,4 +118,53 @@ pub fn tree_value(terms: &Terms, lent: &mut Lent) -> Outcome<(f64, u64)> {
         assert_eq!(node_count, 0, "refusal {number} left a node count");
     }
     answer(number, place, value).map(|value| (value, node_count))
+}
+
+/// The spread from price entry, with the spreads tried. The spread that the terms hold isn't handed over.
+pub fn spread_from_price(terms: &Terms, target: f64, lent: &mut Lent) -> (Answer, u32) {
+    let (mut place, mut spread, mut tried) = (0xdead_beef, PATTERN, 0xdead_beef);
+    let (nodes, nodes_len) = lend(&mut lent.nodes);
+    let [(probabilities, probabilities_len), (first, first_len), (second, second_len)] = lent.floats.each_mut().map(|row| lend(row));
+    let number = unsafe {
+        c::gutirapeo_spread_from_price(
+            terms.settlement,
+            terms.leg.days.as_ptr(),
+            terms.leg.days.len(),
+            terms.leg.kinds.as_ptr(),
+            terms.leg.kinds.len(),
+            terms.leg.amounts.as_ptr(),
+            terms.leg.amounts.len(),
+            terms.units,
+            terms.calls.starts.as_ptr(),
+            terms.calls.starts.len(),
+            terms.calls.ends.as_ptr(),
+            terms.calls.ends.len(),
+            terms.calls.strikes.as_ptr(),
+            terms.calls.strikes.len(),
+            terms.settings.0,
+            terms.settings.1,
+            terms.alpha,
+            terms.sigma.times.as_ptr(),
+            terms.sigma.times.len(),
+            terms.sigma.sigmas.as_ptr(),
+            terms.sigma.sigmas.len(),
+            target,
+            terms.pillars.days.as_ptr(),
+            terms.pillars.days.len(),
+            terms.pillars.factors.as_ptr(),
+            terms.pillars.factors.len(),
+            nodes,
+            nodes_len,
+            probabilities,
+            probabilities_len,
+            first,
+            first_len,
+            second,
+            second_len,
+            &mut place,
+            &mut spread,
+            &mut tried,
+        )
+    };
+    (answer(number, place, spread), tried)
 }

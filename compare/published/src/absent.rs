@@ -27,7 +27,11 @@ pub fn yield_of(_: u32, _: &Leg, _: u32, _: u32, _: f64) -> Option<f64> {
     None
 }
 
-pub fn yield_with(_: &mut dyn FnMut(f64) -> f64, _: f64, _: f64, _: f64) -> Option<f64> {
+pub fn root_of(_: &mut dyn FnMut(f64) -> f64, _: f64, _: f64, _: f64) -> Option<f64> {
+    None
+}
+
+pub fn spread_of(_: &Terms, _: f64) -> Option<(f64, u32)> {
     None
 }
 

@@ -14,14 +14,14 @@ mod text;
 #[cfg(published)]
 pub use stand_ins::PLATFORM;
 #[cfg(published)]
-pub use text::{grid, node_count, price, straight, tree, yield_of, yield_with};
+pub use text::{grid, node_count, price, root_of, spread_of, straight, tree, yield_of};
 
 #[cfg(not(published))]
 mod absent;
 #[cfg(not(published))]
 pub use absent::PLATFORM;
 #[cfg(not(published))]
-pub use absent::{grid, node_count, price, straight, tree, yield_of, yield_with};
+pub use absent::{grid, node_count, price, root_of, spread_of, straight, tree, yield_of};
 
 /// Whether the published source was there when this was built.
 pub const AVAILABLE: bool = cfg!(published);

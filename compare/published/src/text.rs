@@ -184,6 +184,20 @@ pub fn yield_of(settlement: u32, leg: &Flows, compounding: u32, frequency: u32, 
 }
 
 /// The text's own solver over any objective.
-pub fn yield_with(objective: &mut dyn FnMut(f64) -> f64, lower: f64, upper: f64, lowest: f64) -> Option<f64> {
+pub fn root_of(objective: &mut dyn FnMut(f64) -> f64, lower: f64, upper: f64, lowest: f64) -> Option<f64> {
     bracketed_root(|x| Ok(objective(x)), lower, upper, lowest).ok()
+}
+
+/// The spread by the text's own solver over the text's own tree, and how many were tried; nothing where either refuses.
+pub fn spread_of(terms: &reading::treebasedbondpricer::Terms, target: f64) -> Option<(f64, u32)> {
+    let mut terms = terms.clone();
+    let mut tried = 0;
+    let mut objective = |spread: f64| {
+        tried += 1;
+        terms.spread = spread;
+        let value = if spread > 1.0 { None } else { tree(&terms) };
+        or_unwind(value.ok_or(reading::Refusal { number: 36, place: 0 })) - target
+    };
+    let spread = root_of(&mut objective, -0.05, 0.10, -1.0)?;
+    Some((spread, tried))
 }

@@ -193,7 +193,7 @@ fn walked(grid: &Grid, tree: &Tree, shifts: &[f64], time_step: f64, spread: f64)
     Ok(values[&0])
 }
 
-fn input(terms: &Terms) -> Input<'_> {
+pub(crate) fn input(terms: &Terms) -> Input<'_> {
     Input {
         settlement: terms.settlement,
         leg: Some(&terms.leg),

@@ -3,12 +3,15 @@
 //! rounds [--long] [--seed N] [NAME...]
 //! rounds --sample FILE KIND...
 //!
-//! The quick round takes seconds; the long one has 10^7 cases for each elementary function and 10^6 or more for each entry.
+//! The quick round takes seconds; the long one has 10^7 cases for each elementary function and 10^6 or more for each entry
+//! but spread from price, which has 150,000.
 mod calllists;
 mod elementary;
 mod grid;
 mod random;
 mod sample;
+mod spreads;
+mod spreadterms;
 mod straight;
 mod tally;
 mod terms;
@@ -38,12 +41,13 @@ fn main() {
         return;
     }
     let mut differences = elementary::round(long, seed, &wanted);
-    let entries: [(&str, fn(bool, u64) -> u64); 5] = [
+    let entries: [(&str, fn(bool, u64) -> u64); 6] = [
         ("grid", grid::round),
         ("tree", tree::round),
         ("calllists", calllists::round),
         ("straight", straight::round),
         ("yields", yields::round),
+        ("spreads", spreads::round),
     ];
     for (name, round) in entries {
         if wanted(name) {

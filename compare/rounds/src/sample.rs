@@ -3,6 +3,7 @@
 //! A record is 160 words of 64 bits, little-endian, at the places below; floats as their bits. Accepted answers are the
 //! published text's, refusals the second reading's.
 use crate::random::Random;
+use crate::spreadterms::{spread_terms, target};
 use crate::tally::published;
 use crate::terms;
 use crate::tree::tree_terms;
@@ -162,27 +163,73 @@ fn tree_record(random: &mut Random) -> Record {
     }
 }
 
+/// The refusals of the tree value that can be met.
+const TREE: [u64; 15] = [1, 2, 3, 4, 5, 6, 7, 8, 20, 21, 22, 23, 25, 26, 27];
+/// Accepted of any kind, beside 0 for those with calls.
+const PLAIN: u64 = 100;
+
 /// 200 tree values: 6 of each refusal that can be met, 20 accepted of any kind, the rest accepted with calls and some nodes.
 fn tree_records(random: &mut Random) -> Vec<Record> {
-    const PLAIN: u64 = 100;
-    let mut left: BTreeMap<u64, u32> = [1, 2, 3, 4, 5, 6, 7, 8, 20, 21, 22, 23, 25, 26, 27].into_iter().map(|number| (number, 6)).collect();
+    let mut left: BTreeMap<u64, u32> = TREE.into_iter().map(|number| (number, 6)).collect();
     left.extend([(PLAIN, 20), (0, 90)]);
+    sorted(random, left, tree_record, |r| if r[80] == 0 && (r[28] == 0 || r[83] < 10) { PLAIN } else { r[80] })
+}
+
+/// Spread from price: the target stands where the spread stood.
+fn spread_record(random: &mut Random) -> Record {
+    let mut t = small(random, |random| spread_terms(random, false).0);
+    if random.below(40) == 0 {
+        t.sigma = Default::default();
+    }
+    let mut room = LENT;
+    if random.below(20) == 0 {
+        room.probabilities = random.below(60) as usize;
+    }
+    let target = loop {
+        let x = target(random, &t, room);
+        if !x.is_nan() {
+            break x;
+        }
+    };
+    t.spread = target;
+    let mut r = inputs(14, &t);
+    numbers(&mut r, 76, [room.nodes, room.probabilities, room.first, room.second].into_iter().map(|n| n as u64));
+    let solved = bondanalytics::spread_from_price(&t, target, room, &mut |_, _| ());
+    r[84] = u64::from(solved.search.tried);
+    match solved.spread {
+        Err(refusal) => refused(r, refusal),
+        Ok(_) => {
+            let (spread, tried) = published(|| published::spread_of(&t, target)).expect("the published text accepts");
+            floats(&mut r, 82, &[spread]);
+            r[84] = u64::from(tried);
+            r
+        }
+    }
+}
+
+/// So many records of each kind, as they come.
+fn sorted(random: &mut Random, mut left: BTreeMap<u64, u32>, record: fn(&mut Random) -> Record, kind: fn(&Record) -> u64) -> Vec<Record> {
     let mut records = Vec::new();
-    while records.len() < 200 {
-        let record = tree_record(random);
-        let (number, calls, nodes) = (record[80], record[28], record[83]);
-        let kind = if number == 0 && (calls == 0 || nodes < 10) { PLAIN } else { number };
-        if let Some(count) = left.get_mut(&kind).filter(|count| **count > 0) {
+    while left.values().any(|&count| count > 0) {
+        let next = record(random);
+        if let Some(count) = left.get_mut(&kind(&next)).filter(|count| **count > 0) {
             *count -= 1;
-            records.push(record);
+            records.push(next);
         }
     }
     records
 }
 
+/// 100 spreads from prices: 3 of each refusal of the tree value, 6 each of 29 and 36, 10 accepted of any kind, 33 accepted with calls.
+fn spread_records(random: &mut Random) -> Vec<Record> {
+    let mut left: BTreeMap<u64, u32> = TREE.into_iter().map(|number| (number, 3)).collect();
+    left.extend([(29, 6), (36, 6), (PLAIN, 10), (0, 33)]);
+    sorted(random, left, spread_record, |r| if r[80] == 0 && r[28] == 0 { PLAIN } else { r[80] })
+}
+
 fn straight_record(random: &mut Random) -> Record {
     let t = small(random, terms::terms);
-    let mut r = inputs(14, &t);
+    let mut r = inputs(15, &t);
     match bondpricer::straight_value(t.settlement, &t.leg, t.spread, &t.pillars) {
         Err(refusal) => refused(r, refusal),
         Ok(_) => {
@@ -198,7 +245,7 @@ fn yield_record(random: &mut Random, kind: u64) -> Record {
     let rate = Rate { compounding: random.below(6) as u32, frequency: [1, 2, 4, 12, 365, 7][random.below(6) as usize] };
     let mut r = inputs(kind, &t);
     (r[71], r[72]) = (u64::from(rate.compounding), u64::from(rate.frequency));
-    if kind == 15 {
+    if kind == 16 {
         let y = random.between(-0.3, 0.5);
         floats(&mut r, 73, &[y]);
         return match bondanalytics::price_from_yield(t.settlement, &t.leg, rate, y) {
@@ -235,7 +282,8 @@ pub fn write(path: &str, seed: u64, kinds: &[u64]) {
             1..=11 => (0..8).map(|_| elementary_record(&mut random, kind)).collect(),
             12 => (0..60).map(|_| grid_record(&mut random)).collect(),
             13 => tree_records(&mut random),
-            14 => (0..60).map(|_| straight_record(&mut random)).collect(),
+            14 => spread_records(&mut random),
+            15 => (0..60).map(|_| straight_record(&mut random)).collect(),
             _ => (0..60).map(|_| yield_record(&mut random, kind)).collect(),
         };
         bytes.extend(records.iter().flatten().flat_map(|word| word.to_le_bytes()));

@@ -11,7 +11,7 @@ use reading::Outcome;
 
 /// Enough for nearly all random trees, and for one with the most steps.
 pub const AMPLE: Room = Room { nodes: 24_000, probabilities: 36_000, first: 2_000, second: 2_000 };
-const LARGE: Room = Room { nodes: 2 * 513 * 513, probabilities: 3 * 513 * 513, first: 4_000, second: 4_000 };
+pub const LARGE: Room = Room { nodes: 2 * 513 * 513, probabilities: 3 * 513 * 513, first: 4_000, second: 4_000 };
 
 /// What a run must meet: every refusal of the tree but 24, for which no terms are known, and all of the input's.
 const MET: [u32; 15] = [1, 2, 3, 4, 5, 6, 7, 8, 20, 21, 22, 23, 25, 26, 27];
@@ -61,7 +61,7 @@ pub fn tree_terms(random: &mut Random) -> Terms {
 }
 
 /// What a tree is lent: ample, or just enough with a few places more, or one place short, or a few places only.
-fn room(random: &mut Random, t: &Terms, ample: Room) -> Room {
+pub fn room(random: &mut Random, t: &Terms, ample: Room) -> Room {
     let Some(least) = least_room(t, ample) else { return ample };
     let mut room = match random.below(8) {
         0 => return ample,

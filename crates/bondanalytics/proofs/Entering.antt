@@ -4,8 +4,8 @@ use mathlib.Core.Path.{_≡_, sym, ap, _∙_}
 use mathlib.Core.List.{List, []}
 use lib.Ieee.{Float}
 use lib.ListN.{length}
-use Rattle.elementary.specs.declared.Refusal.{Refusal}
-use Rattle.elementary.specs.Answers.{plusZero}
+use Rattle.floats.specs.declared.Refusal.{Refusal}
+use Rattle.floats.specs.Answers.{plusZero}
 use Rattle.terms.specs.declared.Check.{Check}
 use Rattle.terms.specs.declared.Check.the-variants as check
 use Rattle.terms.specs.Numbers.{million, targetLimit}
@@ -15,20 +15,23 @@ use Rattle.terms.specs.Checks.{onCheck}
 use Rattle.terms.specs.Entries.{yieldChecks, priceChecks, targetChecks}
 use Rattle.terms.specs.laws.TermChecks.{leg-counted}
 use Rattle.terms.specs.laws.EntryChecks.{yield-terms}
-use Rattle.bondanalytics.specs.declared.RateDefinition.{RateDefinition}
-use Rattle.bondanalytics.specs.declared.FoundRate.{FoundRate}
-use Rattle.bondanalytics.specs.declared.FoundRate.the-variants.{Given, Refused}
-use Rattle.bondanalytics.specs.declared.YieldPrice.{YieldPrice}
-use Rattle.bondanalytics.specs.declared.YieldPrice.the-variants as price
-use Rattle.bondanalytics.specs.declared.Root.{Root}
-use Rattle.bondanalytics.specs.declared.Root.the-variants as root
-use Rattle.bondanalytics.specs.Rates.{rateOf, rateCheck, lowestYield}
-use Rattle.bondanalytics.specs.Prices.{flows}
-use Rattle.bondanalytics.specs.Yields.{priceAndDerivative, priceFromYield, objective, firstLower, firstUpper, solveYield, yieldFromPrice}
-use Rattle.bondanalytics.specs.Brackets.{bracketedRoot}
-use Rattle.bondanalytics.specs.declared.Priced.the-variants.{Yield}
-use Rattle.bondanalytics.specs.laws.Seeking.{soughtAt}
-use Rattle.bondanalytics.specs.laws.Found.{foundRate, foundCheck, found-check}
+use Rattle.interestrate.specs.declared.RateDefinition.{RateDefinition}
+use Rattle.interestrate.specs.declared.FoundRate.{FoundRate}
+use Rattle.interestrate.specs.declared.FoundRate.the-variants.{Given, Refused}
+use Rattle.interestrate.specs.declared.YieldPrice.{YieldPrice}
+use Rattle.interestrate.specs.declared.YieldPrice.the-variants as price
+use Rattle.bracketedroot.specs.declared.Root.{Root}
+use Rattle.bracketedroot.specs.declared.Root.the-variants as root
+use Rattle.interestrate.specs.Rates.{rateOf, rateCheck, lowestYield}
+use Rattle.interestrate.specs.Prices.{flows, priceAndDerivative}
+use Rattle.bondanalytics.specs.Yields.{priceFromYield, solveYield, yieldFromPrice}
+use Rattle.sought.specs.Objectives.{objective, firstLower, firstUpper}
+use Rattle.bracketedroot.specs.Brackets.{bracketedRoot}
+use Rattle.sought.specs.declared.Priced.the-variants.{Yield}
+use Rattle.sought.specs.declared.Sought.{Sought}
+use Rattle.sought.specs.laws.Sought.{TreeParts, soughtAt}
+use Rattle.bracketedroot.specs.laws.SoughtRoots.{sought-yield}
+use Rattle.interestrate.specs.laws.Found.{foundRate, foundCheck, found-check}
 
 module _ (limit x : Float) (settlement : ℕ) (leg : Leg) (compounding code : ℕ) (f : FoundRate) {w s : Check} (e : foundRate f ≡ rateOf compounding code) (k : w ≡ foundCheck f) (h : s ≡ yieldChecks limit settlement leg x w) where
   checked : s ≡ yieldChecks limit settlement leg x (rateCheck compounding code)
@@ -88,10 +91,13 @@ module _ (settlement : ℕ) (leg : Leg) (compounding code : ℕ) (x : Float) (f 
     unfolding yieldFromPrice objective
     yield-given v g p = p ∙ given targetLimit x settlement leg compounding code f e k h (λ r. root.Refused r 0) (λ rate. solveYield settlement leg rate x) v g
 
--- The solver's call, with the lowest yield that it is given.
-pub solves : (settlement : ℕ) (days : List ℕ) (amounts : List Float) (rate : RateDefinition) (target : Float) {l : Float} {r : Root}
-    → r ≡ bracketedRoot (soughtAt (record { priced = Yield; rate = rate; settlement = settlement; target = target }) days amounts) firstLower firstUpper l
-    → l ≡ lowestYield (rate .compounding)
-    → r ≡ solveYield settlement (record { days = days; kinds = []; amounts = amounts }) rate target
-solves settlement days amounts rate target p m =
-    p ∙ ap (bracketedRoot (soughtAt (record { priced = Yield; rate = rate; settlement = settlement; target = target }) days amounts) firstLower firstUpper) m
+-- The solver's call, with the lowest yield that it is given. The tree plays no part.
+pub solves : (s : Sought) (days : List ℕ) (amounts : List Float) (t : TreeParts) {l : Float} {r : Root}
+    → s .priced ≡ Yield
+    → r ≡ bracketedRoot (soughtAt s days amounts t) firstLower firstUpper l
+    → l ≡ lowestYield (s .rate .compounding)
+    → r ≡ solveYield (s .settlement) (record { days = days; kinds = []; amounts = amounts }) (s .rate) (s .target)
+solves s days amounts t {l} e p m =
+    p
+    ∙ sought-yield s (record { days = days; kinds = []; amounts = amounts }) t firstLower firstUpper l e
+    ∙ ap (bracketedRoot (objective (s .settlement) (record { days = days; kinds = []; amounts = amounts }) (s .rate) (s .target)) firstLower firstUpper) m

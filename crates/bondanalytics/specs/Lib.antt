@@ -1,5 +1,3 @@
-pub mod Rates
-pub mod Prices
-pub mod Brackets
 pub mod Yields
+pub mod Spreads
 pub mod laws

@@ -1,27 +1,21 @@
 -- Definitions only. Price from yield and yield from price.
 use Prim.Native.Nat.{ℕ}
-use mathlib.Core.Bool.{cond}
-use lib.Ieee.{Float, binary64, ofBits, sub}
-use Rattle.elementary.specs.declared.Refusal.{Refusal}
-use Rattle.elementary.specs.declared.Answer.{Answer}
-use Rattle.elementary.specs.declared.Answer.the-variants as answer
-use Rattle.elementary.specs.Answers.{plusZero, tested}
+use lib.Ieee.{Float}
+use Rattle.floats.specs.declared.Refusal.{Refusal}
+use Rattle.floats.specs.Answers.{plusZero}
 use Rattle.terms.specs.Terms.{Leg}
 use Rattle.terms.specs.Outcomes.{onOutcome}
 use Rattle.terms.specs.Checks.{onCheck}
 use Rattle.terms.specs.Entries.{priceChecks, targetChecks, yieldChecks}
-use Rattle.bondanalytics.specs.declared.RateDefinition.{RateDefinition}
-use Rattle.bondanalytics.specs.declared.YieldPrice.{YieldPrice}
-use Rattle.bondanalytics.specs.declared.YieldPrice.the-variants as price
-use Rattle.bondanalytics.specs.declared.Root.{Root}
-use Rattle.bondanalytics.specs.declared.Root.the-variants as root
-use Rattle.bondanalytics.specs.Rates.{rateOf, rateCheck, lowestYield, withCode}
-use Rattle.bondanalytics.specs.Prices.{flows, onPrice}
-use Rattle.bondanalytics.specs.Brackets.{bracketedRoot}
-
--- yield_price_and_derivative
-abbrev pub priceAndDerivative : ℕ → Leg → RateDefinition → Float → YieldPrice
-priceAndDerivative settlement leg rate y = flows y (rate .compounding) settlement (leg .days) (leg .amounts) plusZero plusZero
+use Rattle.interestrate.specs.declared.RateDefinition.{RateDefinition}
+use Rattle.interestrate.specs.declared.YieldPrice.{YieldPrice}
+use Rattle.interestrate.specs.declared.YieldPrice.the-variants as price
+use Rattle.bracketedroot.specs.declared.Root.{Root}
+use Rattle.bracketedroot.specs.declared.Root.the-variants as root
+use Rattle.interestrate.specs.Rates.{rateOf, rateCheck, lowestYield, withCode}
+use Rattle.interestrate.specs.Prices.{flows, priceAndDerivative}
+use Rattle.bracketedroot.specs.Brackets.{bracketedRoot}
+use Rattle.sought.specs.Objectives.{objective, firstLower, firstUpper}
 
 -- Price from yield: the price and its derivative.
 unfoldable pub priceFromYield : ℕ → Leg → ℕ → ℕ → Float → YieldPrice
@@ -29,19 +23,6 @@ unfolding yieldChecks rateOf flows
 priceFromYield settlement leg compounding frequency y =
     onCheck (priceChecks settlement leg y (rateCheck compounding frequency)) price.Refused
     (onOutcome (rateOf compounding frequency) price.Refused λ rate. priceAndDerivative settlement leg rate y)
-
--- The objective: price less target. Every evaluation works out the derivative too.
-unfoldable pub objective : ℕ → Leg → RateDefinition → Float → Float → Answer
-unfolding flows onPrice sub
-objective settlement leg rate target y =
-    onPrice (priceAndDerivative settlement leg rate y) answer.Refused λ p d. tested (sub binary64 p target) 0
-
--- −0.05 and 0.10
-abbrev pub firstLower : Float
-firstLower = ofBits binary64 0xbfa9_9999_9999_999a
-
-abbrev pub firstUpper : Float
-firstUpper = ofBits binary64 0x3fb9_9999_9999_999a
 
 -- solve_yield
 abbrev pub solveYield : ℕ → Leg → RateDefinition → Float → Root
@@ -72,20 +53,3 @@ priceOf (price.Refused r) = plusZero
 abbrev pub derivativeOf : YieldPrice → Float
 derivativeOf (price.Price p d) = d
 derivativeOf (price.Refused r) = plusZero
-
-abbrev pub rootNumber : Root → ℕ
-rootNumber (root.Found x n) = 0
-rootNumber (root.Refused r n) = r .number
-
-abbrev pub rootPlace : Root → ℕ
-rootPlace (root.Found x n) = 0
-rootPlace (root.Refused r n) = r .place
-
-abbrev pub rootValue : Root → Float
-rootValue (root.Found x n) = x
-rootValue (root.Refused r n) = plusZero
-
--- Evaluations are reported on refusals too.
-abbrev pub evaluationsOf : Root → ℕ
-evaluationsOf (root.Found x n) = n
-evaluationsOf (root.Refused r n) = n

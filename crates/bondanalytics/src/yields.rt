@@ -1,15 +1,15 @@
 // The entries: price from yield, and yield from price.
-use crate::FoundRate;
-use crate::Priced;
-use crate::RateDefinition;
-use crate::Root;
-use crate::Sought;
-use crate::YieldPrice;
-use crate::prices::yield_price_and_derivative;
-use crate::rates::lowest_yield;
-use crate::rates::rate_check;
-use crate::rates::rate_of;
-use crate::solver::bracketed_root;
+use bracketedroot::Root;
+use bracketedroot::solver::bracketed_root;
+use interestrate::FoundRate;
+use interestrate::RateDefinition;
+use interestrate::YieldPrice;
+use interestrate::prices::yield_price_and_derivative;
+use interestrate::rates::lowest_yield;
+use interestrate::rates::rate_check;
+use interestrate::rates::rate_of;
+use sought::Priced;
+use sought::Sought;
 use terms::Check;
 use terms::entries::price_checks;
 use terms::entries::target_checks;
@@ -18,13 +18,6 @@ ghost use mathlib.Core.List.{[]};
 ghost use lib.ListN.{length};
 ghost use Rattle.terms.specs.Terms.{Leg};
 ghost use Rattle.bondanalytics.specs.Yields.{priceFromYield, yieldFromPrice, solveYield};
-
-impl Sought {
-    // The ends of the first bracket of a yield.
-    pub const LOWER: f64 = -0.05;
-
-    pub const UPPER: f64 = 0.1;
-}
 
 // The price of the cashflows at a yield, and its derivative.
 pub fn price_from_yield(
@@ -78,12 +71,24 @@ fn solve_yield(
         rate,
         settlement,
         target,
+        dt: 0.0,
+        flat: false,
     };
     let compounding = rate.compounding;
     bracketed_root(
         sought,
         days,
         amounts,
+        &[],
+        &[],
+        &[],
+        &[],
+        &[],
+        &[],
+        &[],
+        &[],
+        &mut [],
+        &mut [],
         Sought::LOWER,
         Sought::UPPER,
         lowest_yield(compounding),

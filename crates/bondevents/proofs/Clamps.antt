@@ -11,16 +11,16 @@ use lib.Ieee.Scale.{finite}
 use lib.Ieee.Fits.{down-pos, ofInt-fits}
 use lib.Ieee.Exact.{HasValue}
 use lib.Ieee.Back.{unsigned-back, round-whole}
-use Rattle.elementary.specs.Answers.{plusZero, one}
-use Rattle.elementary.specs.declared.Refusal.{Refusal}
-use Rattle.elementary.specs.declared.Answer.{Answer}
-use Rattle.elementary.specs.declared.Answer.the-variants.{Value, Refused}
-use Rattle.elementary.specs.Whole.{rounded, ceiled, roundAt, ceilAt}
-use Rattle.elementary.specs.laws.Fractions.{leq-of-le}
-use Rattle.elementary.specs.laws.Order.{le-of-lt as float-le-of-lt, le-of-not-lt, lt-of-not-le, number-of-finite, number-of-le, T-of, T-of-not, between, le-trans as float-le-trans}
-use Rattle.elementary.specs.laws.Cuts.{IsWhole}
-use Rattle.elementary.specs.laws.Casts.{unsigned-upto}
-use Rattle.elementary.specs.laws.Whole.{rounded-mono, ceiled-mono, rounded-self, ceiled-self, rounded-whole, ceiled-whole, round-answers, ceil-answers}
+use Rattle.floats.specs.Answers.{plusZero, one}
+use Rattle.floats.specs.declared.Refusal.{Refusal}
+use Rattle.floats.specs.declared.Answer.{Answer}
+use Rattle.floats.specs.declared.Answer.the-variants.{Value, Refused}
+use Rattle.floats.specs.Whole.{rounded, ceiled, roundAt, ceilAt}
+use Rattle.floats.specs.laws.Fractions.{leq-of-le}
+use Rattle.floats.specs.laws.Order.{le-of-lt as float-le-of-lt, le-of-not-lt, lt-of-not-le, number-of-finite, number-of-le, T-of, T-of-not, between, le-trans as float-le-trans}
+use Rattle.floats.specs.laws.Cuts.{IsWhole}
+use Rattle.floats.specs.laws.Casts.{unsigned-upto}
+use Rattle.floats.specs.laws.Whole.{rounded-mono, ceiled-mono, rounded-self, ceiled-self, rounded-whole, ceiled-whole, round-answers, ceil-answers}
 use Rattle.terms.specs.Numbers.{float}
 use Rattle.bondevents.specs.Steps.{clamp}
 

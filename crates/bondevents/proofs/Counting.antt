@@ -10,7 +10,7 @@ use lib.ListN.{length, getD, drop, drop-of-length-le}
 use lib.Seq.{drop-cons}
 use lib.Dec.{eqb, ltb}
 use lib.Ieee.{Float, binary64, add}
-use Rattle.elementary.specs.Answers.{plusZero}
+use Rattle.floats.specs.Answers.{plusZero}
 use Rattle.bondevents.specs.Calls.{redemptions}
 
 -- What is left to add from i on, to this total, is the whole sum.

@@ -8,7 +8,7 @@ use mathlib.Core.List.{List}
 use lib.ListN.{length, getD, drop, drop-of-length-le}
 use lib.Seq.{drop-cons}
 use lib.Ieee.{Float, nan}
-use Rattle.elementary.specs.declared.Refusal.{Refusal}
+use Rattle.floats.specs.declared.Refusal.{Refusal}
 use Rattle.terms.specs.declared.Check.the-variants.{Passed, Refused}
 use Rattle.terms.specs.Terms.{Bond}
 use Rattle.terms.specs.Outcomes.{Outcome, given, follow, onOutcome}

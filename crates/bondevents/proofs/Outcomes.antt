@@ -5,10 +5,10 @@ use mathlib.Core.Path.{_≡_, refl, sym, ap, _∙_}
 use mathlib.Core.List.{List}
 use lib.ListN.{length, getD, set}
 use lib.Ieee.{Float}
-use Rattle.elementary.specs.declared.Refusal.{Refusal}
-use Rattle.elementary.specs.declared.Answer.{Answer}
-use Rattle.elementary.specs.declared.Answer.the-variants.{Value, Refused}
-use Rattle.elementary.specs.Answers.{onAnswer}
+use Rattle.floats.specs.declared.Refusal.{Refusal}
+use Rattle.floats.specs.declared.Answer.{Answer}
+use Rattle.floats.specs.declared.Answer.the-variants.{Value, Refused}
+use Rattle.floats.specs.Answers.{onAnswer}
 use Rattle.terms.specs.declared.Check.{Check}
 use Rattle.terms.specs.declared.Check.the-variants.{Passed}
 use Rattle.terms.specs.declared.Check.the-variants as check

@@ -11,7 +11,7 @@ use lib.ListN.{length, getD, drop, set, replicate, length-set, length-replicate,
 use lib.Seq.{drop-cons}
 use lib.Dec.{ltb}
 use lib.Ieee.{Float, nan, binary64, add}
-use Rattle.elementary.specs.Answers.{plusZero}
+use Rattle.floats.specs.Answers.{plusZero}
 use Rattle.terms.proofs.Laws.{same-at}
 use Rattle.bondevents.specs.Steps.{Axis, stepOf, paidInto}
 

@@ -9,10 +9,10 @@ use mathlib.Core.List.{List, [], _∷_, _++_, append-assoc}
 use lib.ListN.{length, getD, take, drop, set, length-set, take-append-drop}
 use lib.Seq.{drop-cons, take-suc-set, drop-set-lt, set-getD}
 use lib.Ieee.{Float}
-use Rattle.elementary.specs.declared.Refusal.{Refusal}
-use Rattle.elementary.specs.declared.Answer.{Answer}
-use Rattle.elementary.specs.declared.Answer.the-variants.{Value, Refused}
-use Rattle.elementary.specs.Answers.{onAnswer}
+use Rattle.floats.specs.declared.Refusal.{Refusal}
+use Rattle.floats.specs.declared.Answer.{Answer}
+use Rattle.floats.specs.declared.Answer.the-variants.{Value, Refused}
+use Rattle.floats.specs.Answers.{onAnswer}
 use Rattle.terms.specs.Outcomes.{Outcome, given, refused, follow, onOutcome, valued}
 use Rattle.bondevents.specs.declared.CallStep.{CallStep}
 use Rattle.terms.specs.declared.Check.{Check}

@@ -5,7 +5,7 @@ use mathlib.Core.Path.{_≡_, refl, ap, _∙_}
 use mathlib.Core.Bool.{Bool, true, false, cond}
 use mathlib.Core.List.{List, [], _∷_}
 use lib.ListN.{length, getD, set}
-use Rattle.elementary.specs.declared.Answer.{Answer}
+use Rattle.floats.specs.declared.Answer.{Answer}
 use Rattle.terms.specs.Terms.{Bond}
 use Rattle.terms.specs.Outcomes.{Outcome, given, follow, onOutcome, valued}
 use Rattle.bondevents.specs.declared.CallStep.{CallStep}

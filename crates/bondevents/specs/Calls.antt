@@ -5,9 +5,9 @@ use mathlib.Core.List.{List, [], _∷_}
 use lib.ListN.{replicate}
 use lib.Dec.{eqb, ltb}
 use lib.Ieee.{Float, binary64, add, mul, div, le}
-use Rattle.elementary.specs.declared.Answer.{Answer}
-use Rattle.elementary.specs.Answers.{plusZero, refusal, tested, whenFinite}
-use Rattle.elementary.specs.Extremes.{minOf}
+use Rattle.floats.specs.declared.Answer.{Answer}
+use Rattle.floats.specs.Answers.{plusZero, refusal, tested, whenFinite}
+use Rattle.floats.specs.Extremes.{minOf}
 use Rattle.terms.specs.Numbers.{float, tolerance}
 use Rattle.terms.specs.Terms.{Leg, CallSchedule, Bond}
 use Rattle.terms.specs.Outcomes.{Outcome, given, follow, valued}

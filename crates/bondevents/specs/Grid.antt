@@ -2,8 +2,8 @@
 use Prim.Native.Nat.{ℕ}
 use lib.ListN.{replicate}
 use lib.Ieee.{Float}
-use Rattle.elementary.specs.declared.Refusal.{Refusal}
-use Rattle.elementary.specs.Answers.{plusZero}
+use Rattle.floats.specs.declared.Refusal.{Refusal}
+use Rattle.floats.specs.Answers.{plusZero}
 use Rattle.terms.specs.Terms.{Leg, CallSchedule, Bond, TimeGrid}
 use Rattle.terms.specs.Checks.{onCheck}
 use Rattle.terms.specs.Entries.{gridChecks}

@@ -6,10 +6,10 @@ use mathlib.Core.List.{List, [], _∷_}
 use lib.ListN.{length, getD, replicate}
 use lib.Dec.{ltb}
 use lib.Ieee.{Float, nan, binary64, add, mul, div, le}
-use Rattle.elementary.specs.declared.Refusal.{Refusal}
-use Rattle.elementary.specs.declared.Answer.{Answer}
+use Rattle.floats.specs.declared.Refusal.{Refusal}
+use Rattle.floats.specs.declared.Answer.{Answer}
 use Rattle.terms.specs.Checks.{onCheck}
-use Rattle.elementary.specs.Answers.{plusZero, refusal, tested, whenFinite, onAnswer}
+use Rattle.floats.specs.Answers.{plusZero, refusal, tested, whenFinite, onAnswer}
 use Rattle.terms.specs.declared.Check.{Check}
 use Rattle.terms.specs.declared.Check.the-variants.{Passed, Refused}
 use Rattle.terms.specs.Numbers.{tolerance}

@@ -4,7 +4,7 @@ use crate::steps::step_of;
 ghost use mathlib.Core.Path.{_≡_};
 ghost use Prim.Native.Nat.{_≤_};
 ghost use lib.ListN.{length, replicate};
-ghost use Rattle.elementary.specs.Answers.{plusZero};
+ghost use Rattle.floats.specs.Answers.{plusZero};
 ghost use Rattle.bondevents.specs.Parts.{axisAt};
 ghost use Rattle.bondevents.specs.Steps.{paidInto};
 

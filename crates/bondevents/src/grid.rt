@@ -7,7 +7,7 @@ use crate::GridAnswer;
 use crate::cashflows::paid_into;
 use crate::schedule::call_steps;
 use crate::steps::steps_of;
-use elementary::Refusal;
+use floats::Refusal;
 use terms::Check;
 use terms::entries::grid_checks;
 use terms::lists::last_day;

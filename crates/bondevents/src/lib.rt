@@ -7,8 +7,8 @@ mod principal;
 mod schedule;
 mod steps;
 
-use elementary::Refusal;
-use elementary::min::lesser;
+use floats::Refusal;
+use floats::min::lesser;
 use terms::Check;
 ghost use mathlib.Core.Path.{_≡_};
 ghost use Rattle.bondevents.specs.Calls.{newStep, keepLowest};

@@ -7,7 +7,7 @@ ghost use Prim.Native.Nat.{ℕ, _≤_};
 ghost use lib.ListN.{length};
 ghost use lib.Dec.{ltb, eqb};
 ghost use lib.Ieee.{binary64, add};
-ghost use Rattle.elementary.specs.Answers.{plusZero};
+ghost use Rattle.floats.specs.Answers.{plusZero};
 ghost use Rattle.bondevents.specs.Steps.{stepOf};
 ghost use Rattle.bondevents.specs.Calls.{redemptions};
 ghost use Rattle.bondevents.specs.Parts.{axisAt, FlowSteps, Principals, principalAfter};

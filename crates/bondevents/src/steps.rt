@@ -1,13 +1,13 @@
 // The steps of the grid, and the step that a day falls in. A number is clamped before it is cast.
 
-use elementary::Answer;
-use elementary::ceil::ceil_at;
-use elementary::round::round_at;
+use floats::Answer;
+use floats::ceil::ceil_at;
+use floats::round::round_at;
 use terms::time::year_fraction;
 ghost use mathlib.Core.Path.{_≡_};
 ghost use Prim.Native.Nat.{_≤_};
 ghost use lib.Ieee.{toUnsigned};
-ghost use Rattle.elementary.specs.Whole.{rounded, ceiled};
+ghost use Rattle.floats.specs.Whole.{rounded, ceiled};
 ghost use Rattle.bondevents.specs.Parts.{axisAt};
 ghost use Rattle.bondevents.specs.Steps.{clamp, stepsOf, stepOf, callStepOf};
 

@@ -10,12 +10,12 @@ use lib.Dec.{ltb}
 use lib.ListN.{length, getD, drop, drop-of-length-le}
 use lib.Seq.{drop-cons}
 use lib.Ieee.{Float, nan, binary64, add, mul, div, neg}
-use Rattle.elementary.specs.declared.Refusal.{Refusal}
-use Rattle.elementary.specs.declared.Answer.{Answer}
-use Rattle.elementary.specs.declared.Answer.the-variants.{Value, Refused}
-use Rattle.elementary.specs.Answers.{plusZero, onAnswer, andThen, tested, whenFinite}
+use Rattle.floats.specs.declared.Refusal.{Refusal}
+use Rattle.floats.specs.declared.Answer.{Answer}
+use Rattle.floats.specs.declared.Answer.the-variants.{Value, Refused}
+use Rattle.floats.specs.Answers.{plusZero, onAnswer, andThen, tested, whenFinite}
 use Rattle.elementary.specs.Exponential.{expAt}
-use Rattle.elementary.proofs.Laws.{valued}
+use Rattle.floats.proofs.Laws.{valued}
 use Rattle.terms.specs.Terms.{Pillars}
 use Rattle.terms.specs.Times.{yearFraction}
 use Rattle.terms.specs.Curve.{factorOf}

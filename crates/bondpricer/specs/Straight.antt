@@ -4,9 +4,9 @@ use mathlib.Core.Bool.{cond}
 use mathlib.Core.List.{List, [], _∷_}
 use lib.Dec.{ltb}
 use lib.Ieee.{Float, binary64, add, mul, div, neg, le}
-use Rattle.elementary.specs.declared.Answer.{Answer}
-use Rattle.elementary.specs.declared.Answer.the-variants.{Value, Refused}
-use Rattle.elementary.specs.Answers.{plusZero, andThen, refusal, tested, whenFinite}
+use Rattle.floats.specs.declared.Answer.{Answer}
+use Rattle.floats.specs.declared.Answer.the-variants.{Value, Refused}
+use Rattle.floats.specs.Answers.{plusZero, andThen, refusal, tested, whenFinite}
 use Rattle.elementary.specs.Exponential.{expAt}
 use Rattle.terms.specs.Terms.{Leg, Pillars}
 use Rattle.terms.specs.Times.{yearFraction}

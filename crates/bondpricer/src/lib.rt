@@ -1,8 +1,8 @@
 // What a bond is worth without its calls.
-use elementary::Answer;
-use elementary::Refusal;
 use elementary::exp::exp_at;
-use elementary::finite::not_finite;
+use floats::Answer;
+use floats::Refusal;
+use floats::finite::not_finite;
 use terms::Check;
 use terms::curve::factor_of;
 use terms::entries::straight_checks;
@@ -10,7 +10,7 @@ use terms::time::year_fraction;
 ghost use mathlib.Core.Path.{_≡_};
 ghost use mathlib.Core.List.{[]};
 ghost use lib.ListN.{length};
-ghost use Rattle.elementary.specs.Answers.{plusZero, refusal};
+ghost use Rattle.floats.specs.Answers.{plusZero, refusal};
 ghost use Rattle.terms.specs.Terms.{Leg, Pillars};
 ghost use Rattle.bondpricer.specs.Straight.{withFlow, flows, discountedValue, straightValue};
 

@@ -3,10 +3,10 @@ use Prim.Native.Nat.{ℕ, zero, suc, _+_}
 use mathlib.Core.Bool.{Bool, cond, false, _&&_}
 use lib.IntN.{pos}
 use lib.Ieee.{Float, fin, binary64, ofBits, ofInt, toSigned, add, sub, mul, div, neg, lt}
-use Rattle.elementary.specs.declared.Answer.{Answer}
-use Rattle.elementary.specs.declared.Answer.the-variants.{Value}
-use Rattle.elementary.specs.Answers.{refusal, andThen, one, plusZero, tested, whenFinite, whenGiven}
-use Rattle.elementary.specs.Whole.{roundAt}
+use Rattle.floats.specs.declared.Answer.{Answer}
+use Rattle.floats.specs.declared.Answer.the-variants.{Value}
+use Rattle.floats.specs.Answers.{refusal, andThen, one, plusZero, tested, whenFinite, whenGiven}
+use Rattle.floats.specs.Whole.{roundAt}
 
 -- 1/ln 2, and ln 2 in two parts, hi and lo.
 abbrev pub inverseLn2 : Float

@@ -1,9 +1,3 @@
-pub mod Answers
-pub mod Whole
-pub mod Fused
-pub mod Middle
-pub mod Root
-pub mod Extremes
 pub mod Exponential
 pub mod Logarithm
 pub mod Power

@@ -4,9 +4,9 @@ use mathlib.Core.Bool.{Bool, cond, false}
 use lib.Dec.{leb}
 use lib.IntN.{ℤ, pos, _+ℤ_}
 use lib.Ieee.{Float, nan, inf, fin, binary64, ofBits, ofInt, size, minus, add, sub, mul, div, lt}
-use Rattle.elementary.specs.declared.Answer.{Answer}
-use Rattle.elementary.specs.declared.Answer.the-variants.{Value}
-use Rattle.elementary.specs.Answers.{refusal, andThen, one, two, tested, whenFinite, whenGiven}
+use Rattle.floats.specs.declared.Answer.{Answer}
+use Rattle.floats.specs.declared.Answer.the-variants.{Value}
+use Rattle.floats.specs.Answers.{refusal, andThen, one, two, tested, whenFinite, whenGiven}
 use Rattle.elementary.specs.Exponential.{ln2High, ln2Low}
 
 -- 2^−1022

@@ -1,8 +1,8 @@
 -- Definitions only. powf(b, y): exp(y × ln(b)).
 use Prim.Native.Nat.{ℕ}
 use lib.Ieee.{Float, binary64, mul}
-use Rattle.elementary.specs.declared.Answer.{Answer}
-use Rattle.elementary.specs.Answers.{andThen, whenFinite, whenGiven}
+use Rattle.floats.specs.declared.Answer.{Answer}
+use Rattle.floats.specs.Answers.{andThen, whenFinite, whenGiven}
 use Rattle.elementary.specs.Exponential.{expAt}
 use Rattle.elementary.specs.Logarithm.{lnAt}
 

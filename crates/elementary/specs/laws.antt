@@ -1,30 +1,5 @@
 -- The laws of the definitions that every crate above may cite, without opening a definition.
-pub mod Fractions
-pub mod Order
-pub mod Rounding
-pub mod Exactly
-pub mod Arithmetic
-pub mod Signs
-pub mod Extremes
-pub mod Bounds
-pub mod Cuts
-pub mod Casts
-pub mod Whole
-pub mod RoundToOdd
-pub mod Packing
-pub mod Parts
-pub mod Sums
-pub mod Root
-pub mod Sized
-pub mod RootValue
-pub mod RootBounds
-pub mod Midpoints
-pub mod MidpointUnits
-pub mod NearestRoot
-pub mod Propagation
-pub mod Integers
 pub mod Exponential
-pub mod Patterns
 pub mod Steps
 pub mod Intervals
 pub mod Reduction
@@ -32,5 +7,3 @@ pub mod Normal
 pub mod Scales
 pub mod Logarithm
 pub mod Values
-pub mod Finite
-pub mod SameNumber

@@ -1,12 +1,12 @@
 // exp, as the tree uses it and called alone.
 
-use crate::Answer;
-use crate::Refusal;
-use crate::finite::not_finite;
-use crate::round::near;
+use floats::Answer;
+use floats::Refusal;
+use floats::finite::not_finite;
+use floats::round::near;
 ghost use mathlib.Core.Path.{_≡_};
 ghost use Prim.Native.Nat.{_-_};
-ghost use Rattle.elementary.specs.Answers.{one};
+ghost use Rattle.floats.specs.Answers.{one};
 ghost use Rattle.elementary.specs.Exponential.{powerOfTwo, expAt, expAlone};
 ghost use Rattle.elementary.specs.laws.Exponential.{plainSeries, plainExp, steps};
 ghost use Rattle.elementary.specs.laws.Steps.{Step, Reducible};

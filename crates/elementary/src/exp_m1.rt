@@ -1,10 +1,10 @@
 // exp_m1, exp less 1, as the tree uses it and called alone.
 
-use crate::Answer;
-use crate::Refusal;
 use crate::exp::exp_at;
 use crate::exp::series;
-use crate::finite::not_finite;
+use floats::Answer;
+use floats::Refusal;
+use floats::finite::not_finite;
 ghost use mathlib.Core.Path.{_≡_};
 ghost use Rattle.elementary.specs.Exponential.{expM1At, expM1Alone};
 ghost use Rattle.elementary.specs.laws.Exponential.{nearZero, lessOne};

@@ -1,10 +1,10 @@
 // ln, as the tree uses it and called alone.
 
-use crate::Answer;
-use crate::Refusal;
 use crate::exp::LN2_HIGH;
 use crate::exp::LN2_LOW;
-use crate::finite::not_finite;
+use floats::Answer;
+use floats::Refusal;
+use floats::finite::not_finite;
 ghost use mathlib.Core.Path.{_≡_};
 ghost use lib.Ieee.{binary64, ofBits};
 ghost use Rattle.elementary.specs.Logarithm.{fraction, exponent, lnAt, lnAlone};

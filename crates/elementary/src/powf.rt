@@ -1,10 +1,10 @@
 // powf: exp(y × ln(b)), as the tree uses it and called alone.
 
-use crate::Answer;
-use crate::Refusal;
 use crate::exp::exp_at;
-use crate::finite::not_finite;
 use crate::ln::ln_at;
+use floats::Answer;
+use floats::Refusal;
+use floats::finite::not_finite;
 ghost use mathlib.Core.Path.{_≡_};
 ghost use Rattle.elementary.specs.Power.{powfAt, powfAlone};
 

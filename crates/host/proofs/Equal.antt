@@ -3,15 +3,16 @@ use Prim.Native.Nat.{ℕ}
 use mathlib.Core.Path.{_≡_}
 use mathlib.Core.List.{List}
 use lib.Ieee.{Float}
-use Rattle.elementary.specs.declared.Answer.{Answer}
+use Rattle.floats.specs.declared.Answer.{Answer}
 use Rattle.bondevents.specs.declared.GridAnswer.{GridAnswer}
 use Rattle.terms.specs.Terms.{CallSchedule, Market}
 use Rattle.treebasedbondpricer.specs.declared.TreeValue.{TreeValue}
 use Rattle.treebasedbondpricer.specs.Tree.{Lent}
 use Rattle.treebasedbondpricer.specs.Entry.{Entered}
-use Rattle.bondanalytics.specs.declared.YieldPrice.{YieldPrice}
-use Rattle.bondanalytics.specs.declared.Root.{Root}
-use Rattle.host.specs.Handed.{Handed, HandedGrid, HandedValue, HandedTree, HandedPrice, HandedRoot}
+use Rattle.interestrate.specs.declared.YieldPrice.{YieldPrice}
+use Rattle.bracketedroot.specs.declared.Root.{Root}
+use Rattle.bondanalytics.specs.Spreads.{Solved}
+use Rattle.host.specs.Handed.{Handed, HandedGrid, HandedValue, HandedTree, HandedPrice, HandedRoot, HandedSpread}
 
 pub handed-as : {a b : Answer} {result place : ℕ} {value : Float} → a ≡ b → Handed a result place value → Handed b result place value
 handed-as e h = rw (← e) h
@@ -27,3 +28,6 @@ price-as e h = rw (← e) h
 
 pub root-as : {a b : Root} {result place evaluations : ℕ} {value : Float} → a ≡ b → HandedRoot a result place value evaluations → HandedRoot b result place value evaluations
 root-as e h = rw (← e) h
+
+pub spread-as : {m : Market} {calls : CallSchedule} {a : Root} {before after : Lent} {result place tried : ℕ} {spread : Float} → Solved m calls a before after → HandedRoot a result place spread tried → HandedSpread m calls before after result place spread tried
+spread-as e h = record { handed = rw (← e .root) h; slices = e .slices }

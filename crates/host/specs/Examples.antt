@@ -7,13 +7,13 @@ use lib.ListN.{length, replicate}
 use lib.IntN.{ℤ, pos, negsuc}
 use lib.Ieee.{Float, fin, binary64, ofBits}
 use lib.Ieee as ieee
-use Rattle.elementary.specs.declared.Answer.{Answer}
-use Rattle.elementary.specs.declared.Answer.the-variants as answer
-use Rattle.elementary.specs.Answers.{plusZero, one, onAnswer}
-use Rattle.elementary.specs.Whole.{roundAlone, rounded}
+use Rattle.floats.specs.declared.Answer.{Answer}
+use Rattle.floats.specs.declared.Answer.the-variants as answer
+use Rattle.floats.specs.Answers.{plusZero, one, onAnswer}
+use Rattle.floats.specs.Whole.{roundAlone, rounded}
 use Rattle.elementary.specs.Exponential.{expAlone, expAt}
 use Rattle.elementary.specs.Logarithm.{lnAlone, lnAt}
-use Rattle.elementary.specs.Fused.{mulAddAlone, mulAdd}
+use Rattle.rounded.specs.Fused.{mulAddAlone, mulAdd}
 use Rattle.terms.specs.Terms.{Leg, CallSchedule, SigmaSchedule, Pillars, Bond, TimeGrid, HullWhite, Market}
 use Rattle.terms.specs.Numbers.{float, epsilon}
 use Rattle.terms.specs.Checks.{lowest, onCheck}

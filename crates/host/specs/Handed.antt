@@ -3,17 +3,20 @@ use Prim.Native.Nat.{ℕ}
 use mathlib.Core.Path.{_≡_}
 use mathlib.Core.List.{List, map}
 use lib.Ieee.{Float}
-use Rattle.elementary.specs.declared.Answer.{Answer}
-use Rattle.elementary.specs.Answers.{numberOf, placeOf, valueOf}
+use Rattle.floats.specs.declared.Answer.{Answer}
+use Rattle.floats.specs.Answers.{numberOf, placeOf, valueOf}
 use Rattle.bondevents.specs.declared.GridAnswer.{GridAnswer}
 use Rattle.bondevents.specs.Parts.{markOf, priceOfStep}
 use Rattle.treebasedbondpricer.specs.declared.TreeValue.{TreeValue}
 use Rattle.terms.specs.Terms.{CallSchedule, Market}
 use Rattle.treebasedbondpricer.specs.Tree.{treeValue, Lent, roomOf, lentAfter}
 use Rattle.treebasedbondpricer.specs.Tree as tree
-use Rattle.bondanalytics.specs.declared.YieldPrice.{YieldPrice}
-use Rattle.bondanalytics.specs.declared.Root.{Root}
-use Rattle.bondanalytics.specs.Yields.{priceNumber, pricePlace, priceOf, derivativeOf, rootNumber, rootPlace, rootValue, evaluationsOf}
+use Rattle.interestrate.specs.declared.YieldPrice.{YieldPrice}
+use Rattle.bracketedroot.specs.declared.Root.{Root}
+use Rattle.bondanalytics.specs.Spreads.{spreadFromPrice}
+use Rattle.bondanalytics.specs.Spreads as spreads
+use Rattle.bondanalytics.specs.Yields.{priceNumber, pricePlace, priceOf, derivativeOf}
+use Rattle.bracketedroot.specs.Brackets.{rootNumber, rootPlace, rootValue, evaluationsOf}
 
 -- Of an elementary function and of the straight value.
 pub record Handed (answer : Answer) (result place : ℕ) (value : Float) : Type 0 where
@@ -56,3 +59,8 @@ pub record HandedRoot (answer : Root) (result place : ℕ) (value : Float) (eval
   pub place-is : place ≡ rootPlace answer
   pub value-is : value ≡ rootValue answer
   pub evaluations-is : evaluations ≡ evaluationsOf answer
+
+-- Of spread from price: the answer, tries on refusals too, and the end content of the four lent slices.
+pub record HandedSpread (m : Market) (calls : CallSchedule) (before after : Lent) (result place : ℕ) (spread : Float) (tried : ℕ) : Type 0 where
+  pub handed : HandedRoot (spreadFromPrice m calls (roomOf before)) result place spread tried
+  pub slices : after ≡ spreads.lentAfter m calls before

@@ -5,9 +5,9 @@ use mathlib.Core.Bool.{cond}
 use mathlib.Core.List.{List, [], _∷_}
 use lib.Ieee.{Float, binary64, ofBits, lt}
 use lib.Ieee as ieee
-use Rattle.elementary.specs.declared.Answer.the-variants as answer
-use Rattle.elementary.specs.Answers.{onAnswer, one}
-use Rattle.elementary.specs.Whole.{rounded}
+use Rattle.floats.specs.declared.Answer.the-variants as answer
+use Rattle.floats.specs.Answers.{onAnswer, one}
+use Rattle.floats.specs.Whole.{rounded}
 use Rattle.terms.specs.Terms.{Leg, CallSchedule, Pillars, TimeGrid, Market}
 use Rattle.terms.specs.Numbers.{float}
 use Rattle.terms.specs.Checks.{lowest, onCheck}
@@ -18,12 +18,14 @@ use Rattle.treebasedbondpricer.specs.declared.TreeValue.the-variants as tree
 use Rattle.lattice.specs.Layers.{Room}
 use Rattle.treebasedbondpricer.specs.Tree.{treeValue}
 use Rattle.bondpricer.specs.Straight.{straightValue}
-use Rattle.bondanalytics.specs.declared.YieldPrice.the-variants as price
-use Rattle.bondanalytics.specs.declared.Root.the-variants as root
-use Rattle.bondanalytics.specs.Prices.{onPrice}
-use Rattle.bondanalytics.specs.Rates.{withCode}
-use Rattle.bondanalytics.specs.Brackets.{bracketedRoot}
-use Rattle.bondanalytics.specs.Yields.{priceFromYield, yieldFromPrice, firstLower, firstUpper}
+use Rattle.interestrate.specs.declared.YieldPrice.the-variants as price
+use Rattle.bracketedroot.specs.declared.Root.the-variants as root
+use Rattle.interestrate.specs.Prices.{onPrice}
+use Rattle.interestrate.specs.Rates.{withCode}
+use Rattle.bracketedroot.specs.Brackets.{bracketedRoot}
+use Rattle.bondanalytics.specs.Yields.{priceFromYield, yieldFromPrice}
+use Rattle.bondanalytics.specs.Spreads.{spreadFromPrice, onTreeValue}
+use Rattle.sought.specs.Objectives.{firstLower, firstUpper}
 
 abbrev leg : List ℕ → List ℕ → List Float → Leg
 leg days kinds amounts = record { days = days; kinds = kinds; amounts = amounts }
@@ -201,3 +203,42 @@ yield-30 = refl
 yield-4 : yieldFromPrice 0 (leg (365 ∷ 701 ∷ []) (0 ∷ 1 ∷ []) ((ofBits binary64 0x426d1a94a2000000) ∷ (ofBits binary64 0x42645f680b000000) ∷ [])) 0 1 (ofBits binary64 0x431c6bf526340000) ≡ root.Refused (record { number = 4; place = 0 }) 0
 unfolding yieldFromPrice withCode onPrice onOutcome onCheck lowest onAnswer rounded ieee.ofBits ieee.add ieee.sub ieee.mul ieee.div ieee.neg ieee.lt ieee.le ieee.ofInt ieee.toSigned
 yield-4 = refl
+
+spread : spreadFromPrice (market 0 (leg (365 ∷ []) (1 ∷ []) ((float 105) ∷ [])) (float 100) (steps 1 512) (float 0) ((float 0) ∷ []) ((float 0) ∷ []) (float 100) (pillars (0 ∷ 365 ∷ []) ((float 1) ∷ (float 1) ∷ []))) (calls ([]) ([]) ([])) (room 4 6 1 1) ≡ root.Found (ofBits binary64 0x3fa8fb063ef2cccd) 40
+unfolding spreadFromPrice onTreeValue treeValue paidInto rawStep curveOver onOutcome onCheck lowest onAnswer rounded ieee.ofBits ieee.add ieee.sub ieee.mul ieee.div ieee.neg ieee.lt ieee.le ieee.ofInt ieee.toSigned
+spread = refl
+
+-- Called at once at −0.05: worth the strike there.
+spread-called : spreadFromPrice (market 100 (leg (465 ∷ 830 ∷ 830 ∷ []) (0 ∷ 0 ∷ 1 ∷ []) ((float 5) ∷ (float 5) ∷ (float 100) ∷ [])) (float 100) (steps 1 512) (ofBits binary64 0x3fb999999999999a) ((float 0) ∷ (float 1) ∷ []) ((ofBits binary64 0x3f847ae147ae147b) ∷ (ofBits binary64 0x3f889374bc6a7efa) ∷ []) (float 101) (pillars (100 ∷ 465 ∷ 900 ∷ []) ((float 1) ∷ (ofBits binary64 0x3fef0a3d70a3d70a) ∷ (ofBits binary64 0x3fedc28f5c28f5c3) ∷ []))) (calls (100 ∷ []) (465 ∷ []) ((float 101) ∷ [])) (room 64 96 9 9) ≡ root.Found (ofBits binary64 0xbfa999999999999a) 2
+unfolding spreadFromPrice onTreeValue treeValue paidInto rawStep curveOver onOutcome onCheck lowest onAnswer rounded ieee.ofBits ieee.add ieee.sub ieee.mul ieee.div ieee.neg ieee.lt ieee.le ieee.ofInt ieee.toSigned
+spread-called = refl
+
+spread-4 : spreadFromPrice (market 0 (leg (365 ∷ []) (1 ∷ []) ((float 105) ∷ [])) (float 100) (steps 1 512) (float 0) ((float 0) ∷ []) ((float 0) ∷ []) (ofBits binary64 0x430c6bf526340001) (pillars (0 ∷ 365 ∷ []) ((float 1) ∷ (float 1) ∷ []))) (calls ([]) ([]) ([])) (room 4 6 1 1) ≡ root.Refused (record { number = 4; place = 0 }) 0
+unfolding spreadFromPrice onTreeValue treeValue paidInto rawStep curveOver onOutcome onCheck lowest onAnswer rounded ieee.ofBits ieee.add ieee.sub ieee.mul ieee.div ieee.neg ieee.lt ieee.le ieee.ofInt ieee.toSigned
+spread-4 = refl
+
+spread-limit : spreadFromPrice (market 0 (leg (365 ∷ []) (1 ∷ []) ((float 105) ∷ [])) (float 100) (steps 1 512) (float 0) ((float 0) ∷ []) ((float 0) ∷ []) (ofBits binary64 0x430c6bf526340000) (pillars (0 ∷ 365 ∷ []) ((float 1) ∷ (float 1) ∷ []))) (calls ([]) ([]) ([])) (room 4 6 1 1) ≡ root.Refused (record { number = 29; place = 0 }) 7
+unfolding spreadFromPrice onTreeValue treeValue paidInto rawStep curveOver onOutcome onCheck lowest onAnswer rounded ieee.ofBits ieee.add ieee.sub ieee.mul ieee.div ieee.neg ieee.lt ieee.le ieee.ofInt ieee.toSigned
+spread-limit = refl
+
+-- Met at the first spread.
+spread-20 : spreadFromPrice (market 100 (leg (465 ∷ 830 ∷ 830 ∷ []) (0 ∷ 0 ∷ 1 ∷ []) ((float 5) ∷ (float 5) ∷ (float 100) ∷ [])) (float 100) (steps 1 512) (ofBits binary64 0x3fb999999999999a) ((float 0) ∷ (float 1) ∷ []) ((ofBits binary64 0x3f847ae147ae147b) ∷ (ofBits binary64 0x3f889374bc6a7efa) ∷ []) (float 100) (pillars (100 ∷ 465 ∷ 900 ∷ []) ((float 1) ∷ (ofBits binary64 0x3fef0a3d70a3d70a) ∷ (ofBits binary64 0x3fedc28f5c28f5c3) ∷ []))) (calls (830 ∷ []) (830 ∷ []) ((float 101) ∷ [])) (room 64 96 9 9) ≡ root.Refused (record { number = 20; place = 0 }) 1
+unfolding spreadFromPrice onTreeValue treeValue paidInto rawStep curveOver onOutcome onCheck lowest onAnswer rounded ieee.ofBits ieee.add ieee.sub ieee.mul ieee.div ieee.neg ieee.lt ieee.le ieee.ofInt ieee.toSigned
+spread-20 = refl
+
+spread-21 : spreadFromPrice (market 0 (leg (365 ∷ []) (1 ∷ []) ((float 105) ∷ [])) (float 100) (steps 1 512) (float 0) ((float 0) ∷ []) ((float 0) ∷ []) (float 100) (pillars (0 ∷ 365 ∷ []) ((float 1) ∷ (float 1) ∷ []))) (calls ([]) ([]) ([])) (room 3 6 1 1) ≡ root.Refused (record { number = 21; place = 1 }) 1
+unfolding spreadFromPrice onTreeValue treeValue paidInto rawStep curveOver onOutcome onCheck lowest onAnswer rounded ieee.ofBits ieee.add ieee.sub ieee.mul ieee.div ieee.neg ieee.lt ieee.le ieee.ofInt ieee.toSigned
+spread-21 = refl
+
+-- Met at the fifth spread, −0.47.
+spread-26 : spreadFromPrice (market 0 (leg (7300 ∷ 14600 ∷ []) (0 ∷ 1 ∷ []) ((float 0) ∷ (float 1) ∷ [])) (float 100) (steps 1 2) (float 0) ((float 0) ∷ []) ((float 0) ∷ []) (float 1000000) (pillars (0 ∷ 7300 ∷ 14600 ∷ []) ((float 1) ∷ (ofBits binary64 0x13b6e3d22865634) ∷ (float 1) ∷ []))) (calls ([]) ([]) ([])) (room 6 9 1 1) ≡ root.Refused (record { number = 26; place = 1 }) 5
+unfolding spreadFromPrice onTreeValue treeValue paidInto rawStep curveOver onOutcome onCheck lowest onAnswer rounded ieee.ofBits ieee.add ieee.sub ieee.mul ieee.div ieee.neg ieee.lt ieee.le ieee.ofInt ieee.toSigned
+spread-26 = refl
+
+spread-29 : spreadFromPrice (market 0 (leg (365 ∷ []) (1 ∷ []) ((float 105) ∷ [])) (float 100) (steps 1 512) (float 0) ((float 0) ∷ []) ((float 0) ∷ []) (float 1000000) (pillars (0 ∷ 365 ∷ []) ((float 1) ∷ (float 1) ∷ []))) (calls ([]) ([]) ([])) (room 4 6 1 1) ≡ root.Refused (record { number = 29; place = 0 }) 7
+unfolding spreadFromPrice onTreeValue treeValue paidInto rawStep curveOver onOutcome onCheck lowest onAnswer rounded ieee.ofBits ieee.add ieee.sub ieee.mul ieee.div ieee.neg ieee.lt ieee.le ieee.ofInt ieee.toSigned
+spread-29 = refl
+
+spread-36 : spreadFromPrice (market 0 (leg (365 ∷ []) (1 ∷ []) ((float 105) ∷ [])) (float 100) (steps 1 512) (float 0) ((float 0) ∷ []) ((float 0) ∷ []) (float 1) (pillars (0 ∷ 365 ∷ []) ((float 1) ∷ (float 1) ∷ []))) (calls ([]) ([]) ([])) (room 4 6 1 1) ≡ root.Refused (record { number = 36; place = 0 }) 6
+unfolding spreadFromPrice onTreeValue treeValue paidInto rawStep curveOver onOutcome onCheck lowest onAnswer rounded ieee.ofBits ieee.add ieee.sub ieee.mul ieee.div ieee.neg ieee.lt ieee.le ieee.ofInt ieee.toSigned
+spread-36 = refl

@@ -1,8 +1,8 @@
 // Writes an answer through the references that a C caller lends, and gives its refusal number.
 
-use bondanalytics::Root;
-use bondanalytics::YieldPrice;
-use elementary::Answer;
+use bracketedroot::Root;
+use floats::Answer;
+use interestrate::YieldPrice;
 use treebasedbondpricer::TreeValue;
 ghost use Rattle.host.specs.Handed.{Handed, HandedValue, HandedPrice, HandedRoot};
 

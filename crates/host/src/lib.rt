@@ -2,6 +2,7 @@
 // outputs; the result is the refusal number, 0 where accepted. Outputs are 0 on a refusal.
 mod grids;
 mod handing;
+mod spreads;
 mod trees;
 
 use crate::grids::hand_grid;
@@ -11,14 +12,14 @@ use crate::handing::hand_root;
 ghost use Rattle.host.specs.Handed.{Handed, HandedGrid, HandedPrice, HandedRoot};
 ghost use Rattle.bondpricer.specs.Straight.{straightValue};
 ghost use Rattle.bondanalytics.specs.Yields.{priceFromYield, yieldFromPrice};
-ghost use Rattle.elementary.specs.Root.{sqrtAlone};
-ghost use Rattle.elementary.specs.Whole.{roundAlone, ceilAlone};
-ghost use Rattle.elementary.specs.Extremes.{maxAlone, minAlone};
+ghost use Rattle.rounded.specs.Root.{sqrtAlone};
+ghost use Rattle.floats.specs.Whole.{roundAlone, ceilAlone};
+ghost use Rattle.floats.specs.Extremes.{maxAlone, minAlone};
 ghost use Rattle.elementary.specs.Exponential.{expAlone, expM1Alone};
 ghost use Rattle.elementary.specs.Logarithm.{lnAlone};
 ghost use Rattle.elementary.specs.Power.{powfAlone};
-ghost use Rattle.elementary.specs.Fused.{mulAddAlone};
-ghost use Rattle.elementary.specs.Middle.{midpointAlone};
+ghost use Rattle.rounded.specs.Fused.{mulAddAlone};
+ghost use Rattle.floats.specs.Middle.{midpointAlone};
 ghost use Rattle.bondevents.specs.Grid.{gridAnswer};
 
 // The correctly rounded root; below 0 refused with 26.
@@ -26,7 +27,7 @@ ghost use Rattle.bondevents.specs.Grid.{gridAnswer};
 pub extern "C" fn gutirapeo_sqrt(x: f64, place: &mut u32, value: &mut f64) -> u32
     ensures { λ r. ⌜ Handed (sqrtAlone x) r (now (place .exit)) (now (value .exit)) ⌝ }
 {
-    hand_over(elementary::sqrt::sqrt(x), place, value)
+    hand_over(rounded::sqrt::sqrt(x), place, value)
 }
 
 // The nearest whole number, a half away from zero.
@@ -34,7 +35,7 @@ pub extern "C" fn gutirapeo_sqrt(x: f64, place: &mut u32, value: &mut f64) -> u3
 pub extern "C" fn gutirapeo_round(x: f64, place: &mut u32, value: &mut f64) -> u32
     ensures { λ r. ⌜ Handed (roundAlone x) r (now (place .exit)) (now (value .exit)) ⌝ }
 {
-    hand_over(elementary::round::round(x), place, value)
+    hand_over(floats::round::round(x), place, value)
 }
 
 // The lowest whole number not below x.
@@ -42,7 +43,7 @@ pub extern "C" fn gutirapeo_round(x: f64, place: &mut u32, value: &mut f64) -> u
 pub extern "C" fn gutirapeo_ceil(x: f64, place: &mut u32, value: &mut f64) -> u32
     ensures { λ r. ⌜ Handed (ceilAlone x) r (now (place .exit)) (now (value .exit)) ⌝ }
 {
-    hand_over(elementary::ceil::ceil(x), place, value)
+    hand_over(floats::ceil::ceil(x), place, value)
 }
 
 // The greater of two, the first where equal.
@@ -50,7 +51,7 @@ pub extern "C" fn gutirapeo_ceil(x: f64, place: &mut u32, value: &mut f64) -> u3
 pub extern "C" fn gutirapeo_max(a: f64, b: f64, place: &mut u32, value: &mut f64) -> u32
     ensures { λ r. ⌜ Handed (maxAlone a b) r (now (place .exit)) (now (value .exit)) ⌝ }
 {
-    hand_over(elementary::max::max(a, b), place, value)
+    hand_over(floats::max::max(a, b), place, value)
 }
 
 // The lower of two, the first where equal.
@@ -58,7 +59,7 @@ pub extern "C" fn gutirapeo_max(a: f64, b: f64, place: &mut u32, value: &mut f64
 pub extern "C" fn gutirapeo_min(a: f64, b: f64, place: &mut u32, value: &mut f64) -> u32
     ensures { λ r. ⌜ Handed (minAlone a b) r (now (place .exit)) (now (value .exit)) ⌝ }
 {
-    hand_over(elementary::min::min(a, b), place, value)
+    hand_over(floats::min::min(a, b), place, value)
 }
 
 // exp(x); above 700 refused with 26.
@@ -98,7 +99,7 @@ pub extern "C" fn gutirapeo_powf(b: f64, y: f64, place: &mut u32, value: &mut f6
 pub extern "C" fn gutirapeo_mul_add(a: f64, b: f64, c: f64, place: &mut u32, value: &mut f64) -> u32
     ensures { λ r. ⌜ Handed (mulAddAlone a b c) r (now (place .exit)) (now (value .exit)) ⌝ }
 {
-    hand_over(elementary::mul_add::mul_add(a, b, c), place, value)
+    hand_over(rounded::mul_add::mul_add(a, b, c), place, value)
 }
 
 // (a + b)/2.
@@ -106,7 +107,7 @@ pub extern "C" fn gutirapeo_mul_add(a: f64, b: f64, c: f64, place: &mut u32, val
 pub extern "C" fn gutirapeo_midpoint(a: f64, b: f64, place: &mut u32, value: &mut f64) -> u32
     ensures { λ r. ⌜ Handed (midpointAlone a b) r (now (place .exit)) (now (value .exit)) ⌝ }
 {
-    hand_over(elementary::midpoint::midpoint(a, b), place, value)
+    hand_over(floats::midpoint::midpoint(a, b), place, value)
 }
 
 // The event grid: maturity time, steps, and all 513 cashflows, marks and call prices.

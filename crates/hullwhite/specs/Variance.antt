@@ -3,10 +3,10 @@ use Prim.Native.Nat.{ℕ, zero, suc}
 use mathlib.Core.Bool.{Bool, cond, _&&_}
 use mathlib.Core.List.{List, [], _∷_}
 use lib.Ieee.{Float, binary64, add, sub, mul, div, neg, lt, le}
-use Rattle.elementary.specs.declared.Answer.{Answer}
-use Rattle.elementary.specs.declared.Answer.the-variants.{Value}
-use Rattle.elementary.specs.Answers.{plusZero, two, andThen, tested, whenFinite}
-use Rattle.elementary.specs.Extremes.{maxOf, minOf}
+use Rattle.floats.specs.declared.Answer.{Answer}
+use Rattle.floats.specs.declared.Answer.the-variants.{Value}
+use Rattle.floats.specs.Answers.{plusZero, two, andThen, tested, whenFinite}
+use Rattle.floats.specs.Extremes.{maxOf, minOf}
 use Rattle.elementary.specs.Exponential.{expAt, expM1At}
 use Rattle.terms.specs.Numbers.{float, tolerance}
 use Rattle.terms.specs.Terms.{SigmaSchedule, HullWhite}

@@ -1,11 +1,11 @@
 // hull_white_piecewise_variance and transition_variances.
 
 use crate::weight::weight;
-use elementary::Answer;
-use elementary::Refusal;
-use elementary::finite::not_finite;
-use elementary::max::greater;
-use elementary::min::lesser;
+use floats::Answer;
+use floats::Refusal;
+use floats::finite::not_finite;
+use floats::max::greater;
+use floats::min::lesser;
 use terms::Check;
 ghost use mathlib.Core.Path.{_≡_};
 ghost use Prim.Native.Nat.{_≤_};

@@ -1,10 +1,10 @@
 // The weight of one sigma's piece of a step: its length, or the decaying integral over it.
 
-use elementary::Answer;
-use elementary::Refusal;
 use elementary::exp::exp_at;
 use elementary::exp_m1::exp_m1_at;
-use elementary::finite::not_finite;
+use floats::Answer;
+use floats::Refusal;
+use floats::finite::not_finite;
 ghost use mathlib.Core.Path.{_≡_};
 ghost use Rattle.hullwhite.specs.Variance.{noDecay, decayingWeight, weight};
 

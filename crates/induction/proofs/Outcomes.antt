@@ -1,7 +1,7 @@
 -- Laws in the shape that `search` wants, and the set `outcomes` of them: an answer beside the row that is left, read as an outcome. Assumes nothing.
 use mathlib.Core.Path.{_≡_, refl, sym, ap, _∙_}
-use Rattle.elementary.specs.declared.Refusal.{Refusal}
-use Rattle.elementary.proofs.Laws.{answers}
+use Rattle.floats.specs.declared.Refusal.{Refusal}
+use Rattle.floats.proofs.Laws.{answers}
 use Rattle.terms.specs.declared.Check.{Check}
 use Rattle.terms.specs.declared.Check.the-variants.{Passed, Refused}
 use Rattle.terms.specs.Outcomes.{Outcome, given, refused, onOutcome, follow}

@@ -1,10 +1,10 @@
 // Fitting the tree to the curve, one layer: the weighted sum of state prices, the shift, and the state prices of the next layer.
 
-use elementary::Answer;
-use elementary::Refusal;
 use elementary::exp::exp_at;
-use elementary::finite::not_finite;
 use elementary::ln::ln_at;
+use floats::Answer;
+use floats::Refusal;
+use floats::finite::not_finite;
 use lattice::reach::nothing_below;
 use lattice::reach::reached;
 use lattice::refusals::overflow;
@@ -14,7 +14,7 @@ use terms::Check;
 ghost use mathlib.Core.Path.{_≡_};
 ghost use Prim.Native.Nat.{_*_, _+_, _^_, _<_, _≤_};
 ghost use lib.ListN.{length};
-ghost use Rattle.elementary.specs.Answers.{plusZero};
+ghost use Rattle.floats.specs.Answers.{plusZero};
 ghost use Rattle.induction.specs.Fit.{weighted};
 ghost use Rattle.lattice.specs.laws.Stored.{numbersIn, rowOf};
 ghost use Rattle.lattice.specs.laws.Positions.{spotAt, past, startOf, Layered};
@@ -72,7 +72,10 @@ pub fn shift_from(sum: f64, factor: f64, dt: f64, place: u32) -> Answer
     ensures { λ r. ⌜ r ≡ shiftFrom dt place sum factor ⌝ }
 {
     if factor <= 0.0 {
-        return Answer::Refused(Refusal { number: 25, place });
+        return Answer::Refused(Refusal {
+            number: Refusal::FACTOR,
+            place,
+        });
     }
     let quotient = sum / factor;
     if not_finite(quotient) {

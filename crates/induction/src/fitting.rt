@@ -3,7 +3,7 @@
 use crate::layer::advance;
 use crate::layer::layer_shift;
 use crate::rows::current;
-use elementary::Answer;
+use floats::Answer;
 use lattice::refusals::row_refused;
 use terms::Check;
 ghost use mathlib.Core.Path.{_≡_};

@@ -3,8 +3,8 @@
 use crate::fit::onward;
 use crate::fit::shift_from;
 use crate::fit::weighted_sum;
-use elementary::Answer;
-use elementary::finite::not_finite;
+use floats::Answer;
+use floats::finite::not_finite;
 use lattice::refusals::overflow;
 use terms::Check;
 use terms::curve::curve_at;

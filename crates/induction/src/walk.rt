@@ -2,10 +2,10 @@
 
 use crate::fit::spot;
 use bondevents::CallStep;
-use elementary::Answer;
 use elementary::exp::exp_at;
-use elementary::finite::not_finite;
-use elementary::min::lesser;
+use floats::Answer;
+use floats::finite::not_finite;
+use floats::min::lesser;
 use lattice::reach::nothing_below;
 use lattice::reach::reached;
 use lattice::refusals::overflow;

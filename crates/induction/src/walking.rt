@@ -3,13 +3,13 @@
 use crate::walk::Rates;
 use crate::walk::roll;
 use bondevents::CallStep;
-use elementary::Answer;
+use floats::Answer;
 use terms::Check;
 ghost use mathlib.Core.Path.{_≡_};
 ghost use Prim.Native.Nat.{_+_, _^_, _<_, _≤_};
 ghost use lib.ListN.{length, getD, replicate};
 ghost use lib.IntN.{pos};
-ghost use Rattle.elementary.specs.declared.Answer.the-variants.{Value, Refused};
+ghost use Rattle.floats.specs.declared.Answer.the-variants.{Value, Refused};
 ghost use Rattle.bondevents.specs.Calls.{newStep};
 ghost use Rattle.terms.specs.Outcomes.{given, follow, onOutcome};
 ghost use Rattle.lattice.specs.Layers.{valueAt};

@@ -1,7 +1,7 @@
 -- Laws in the shape that `search` wants, for tests of the definitions that are joined by or. Assumes nothing.
 use mathlib.Core.Path.{_≡_, sym, ap, _∙_}
 use mathlib.Core.Bool.{Bool, true, false, cond, _||_}
-use Rattle.elementary.proofs.Laws.{answers}
+use Rattle.floats.proofs.Laws.{answers}
 
 pub either-first : {A : Type 0} (b c : Bool) {r : A} (x y : A) → b ≡ true → r ≡ x → r ≡ cond (b || c) x y
 either-first b c x y t p = p ∙ sym (ap (λ (z : Bool). cond (z || c) x y) t)

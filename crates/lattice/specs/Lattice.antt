@@ -5,10 +5,10 @@ use mathlib.Core.List.{List, [], _∷_}
 use lib.ListN.{length, replicate}
 use lib.IntN.{ℤ, pos}
 use lib.Ieee.{Float, binary64, mul, neg, le}
-use Rattle.elementary.specs.declared.Answer.{Answer}
-use Rattle.elementary.specs.Answers.{plusZero, one, two, andThen, whenFinite}
+use Rattle.floats.specs.declared.Answer.{Answer}
+use Rattle.floats.specs.Answers.{plusZero, one, two, andThen, whenFinite}
 use Rattle.elementary.specs.Exponential.{expAt}
-use Rattle.elementary.specs.Root.{sqrtAt}
+use Rattle.rounded.specs.Root.{sqrtAt}
 use Rattle.terms.specs.Numbers.{float, epsilon}
 use Rattle.terms.specs.Outcomes.{Outcome, given, follow, valued, finiteThen, refuse}
 use Rattle.lattice.specs.declared.Transition.{Transition}

@@ -6,7 +6,7 @@ use lib.ListN.{length}
 use lib.Dec.{ltb, leb}
 use lib.IntN.{ℤ, pos, negsuc}
 use lib.Ieee.{Float, binary64, ofInt}
-use Rattle.elementary.specs.Answers.{plusZero}
+use Rattle.floats.specs.Answers.{plusZero}
 
 -- The order of node numbers.
 abbrev pub below : ℤ → ℤ → Bool

@@ -3,9 +3,9 @@ use Prim.Native.Nat.{ℕ}
 use mathlib.Core.Bool.{Bool, cond, _||_}
 use lib.IntN.{ℤ, predℤ, sucℤ}
 use lib.Ieee.{Float, binary64, add, sub, mul, div, neg, lt, toSigned}
-use Rattle.elementary.specs.Answers.{plusZero, one, two}
-use Rattle.elementary.specs.Extremes.{maxOf}
-use Rattle.elementary.specs.Whole.{roundAt, rounded}
+use Rattle.floats.specs.Answers.{plusZero, one, two}
+use Rattle.floats.specs.Extremes.{maxOf}
+use Rattle.floats.specs.Whole.{roundAt, rounded}
 use Rattle.terms.specs.Numbers.{float, million, tolerance}
 use Rattle.terms.specs.Outcomes.{Outcome, given, follow, valued, finiteThen, refuse}
 use Rattle.lattice.specs.declared.Transition.{Transition}

@@ -2,7 +2,7 @@
 
 use crate::grow::MadeStep;
 use crate::grow::has_room;
-use elementary::Refusal;
+use floats::Refusal;
 use terms::Check;
 ghost use mathlib.Core.Path.{_≡_};
 ghost use mathlib.Core.Bool.{true};
@@ -10,7 +10,7 @@ ghost use Prim.Native.Nat.{_+_, _^_, _<_, _≤_};
 ghost use mathlib.Core.List.{_∷_};
 ghost use lib.ListN.{length, drop};
 ghost use lib.IntN.{pos};
-ghost use Rattle.elementary.specs.Answers.{plusZero, one};
+ghost use Rattle.floats.specs.Answers.{plusZero, one};
 ghost use Rattle.lattice.specs.Lattice.{flat, allFlat, rootLayer};
 ghost use Rattle.lattice.specs.laws.Growing.{roomLeft};
 ghost use Rattle.lattice.specs.laws.LaidTree.{LaysTree};

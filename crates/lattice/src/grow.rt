@@ -3,10 +3,10 @@
 use crate::layers::count_next;
 use crate::layers::fill;
 use crate::layers::spread;
-use elementary::Answer;
-use elementary::Refusal;
-use elementary::finite::not_finite;
-use elementary::sqrt::sqrt_at;
+use floats::Answer;
+use floats::Refusal;
+use floats::finite::not_finite;
+use rounded::sqrt::sqrt_at;
 use terms::Check;
 ghost use mathlib.Core.Path.{_≡_};
 ghost use Prim.Native.Nat.{_+_, _*_, _^_, _<_, _≤_};

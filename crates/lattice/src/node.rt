@@ -1,12 +1,12 @@
 // A node's transition: state, expectation and its quotient, the middle, error and probabilities.
 
 use crate::Transition;
-use elementary::Refusal;
-use elementary::finite::not_finite;
-use elementary::max::greater;
-use elementary::round::near;
+use floats::Refusal;
+use floats::finite::not_finite;
+use floats::max::greater;
+use floats::round::near;
 ghost use mathlib.Core.Path.{_≡_};
-ghost use Rattle.elementary.specs.laws.Cuts.{IsWhole};
+ghost use Rattle.floats.specs.laws.Cuts.{IsWhole};
 ghost use Rattle.lattice.specs.Transitions.{clamped, transitionOf};
 ghost use Rattle.lattice.specs.laws.Bounds.{Within};
 ghost use Rattle.lattice.specs.laws.Making.{madeOutcome, stepFrom, shares, chances, centred};

@@ -1,10 +1,10 @@
 // Refusals met on the way, as an answer and beside a row that is left.
 
-use elementary::Answer;
-use elementary::Refusal;
+use floats::Answer;
+use floats::Refusal;
 use terms::Check;
 ghost use mathlib.Core.Path.{_≡_};
-ghost use Rattle.elementary.specs.Answers.{refusal};
+ghost use Rattle.floats.specs.Answers.{refusal};
 ghost use Rattle.lattice.specs.laws.Rows.{refusedCheck, checkOf};
 
 // 27: the result of an operation isn't finite.

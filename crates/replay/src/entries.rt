@@ -2,21 +2,21 @@
 
 use crate::record::float;
 use crate::record::number;
-use elementary::Answer;
+use floats::Answer;
 
 fn answer_to(kind: u64, a: f64, b: f64, c: f64) -> Answer {
     match kind {
-        1 => elementary::sqrt::sqrt(a),
-        2 => elementary::round::round(a),
-        3 => elementary::ceil::ceil(a),
-        4 => elementary::max::max(a, b),
-        5 => elementary::min::min(a, b),
+        1 => rounded::sqrt::sqrt(a),
+        2 => floats::round::round(a),
+        3 => floats::ceil::ceil(a),
+        4 => floats::max::max(a, b),
+        5 => floats::min::min(a, b),
         6 => elementary::exp::exp(a),
         7 => elementary::exp_m1::exp_m1(a),
         8 => elementary::ln::ln(a),
         9 => elementary::powf::powf(a, b),
-        10 => elementary::mul_add::mul_add(a, b, c),
-        _ => elementary::midpoint::midpoint(a, b),
+        10 => rounded::mul_add::mul_add(a, b, c),
+        _ => floats::midpoint::midpoint(a, b),
     }
 }
 

@@ -5,6 +5,7 @@ mod grids;
 mod lists;
 mod record;
 mod report;
+mod spreads;
 mod trees;
 
 use crate::record::any_nan;
@@ -34,6 +35,12 @@ fn tallied(tally: Tally, record: &[u8; 1280]) -> Tally {
             return tally.tree(false);
         }
         return tally.tree(trees::same(record));
+    }
+    if kind == 14 {
+        if any_nan(record) {
+            return tally.spread(false);
+        }
+        return tally.spread(trees::same(record));
     }
     tally.unknown()
 }

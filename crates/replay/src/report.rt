@@ -9,6 +9,8 @@ pub struct Tally {
     grid_differ: u64,
     tree: u64,
     tree_differ: u64,
+    spread: u64,
+    spread_differ: u64,
     unknown: u64,
 }
 
@@ -40,6 +42,8 @@ impl Tally {
             grid_differ: 0,
             tree: 0,
             tree_differ: 0,
+            spread: 0,
+            spread_differ: 0,
             unknown: 0,
         }
     }
@@ -62,6 +66,12 @@ impl Tally {
         self
     }
 
+    pub(crate) fn spread(mut self, same: bool) -> Self {
+        self.spread = one_more(self.spread);
+        self.spread_differ = one_more_unless(same, self.spread_differ);
+        self
+    }
+
     pub(crate) fn unknown(mut self) -> Self {
         self.unknown = one_more(self.unknown);
         self
@@ -71,6 +81,7 @@ impl Tally {
         write_line(b"elementary ", self.elementary, self.elementary_differ);
         write_line(b"grid ", self.grid, self.grid_differ);
         write_line(b"tree value ", self.tree, self.tree_differ);
+        write_line(b"spread from price ", self.spread, self.spread_differ);
         io::write_all(1, b"unknown ");
         io::print_decimal(1, self.unknown);
         io::write_all(1, b"\n");

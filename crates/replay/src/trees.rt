@@ -1,5 +1,5 @@
-// The tree value, kind 13: at most 8 cashflows, 4 call entries, 4 sigma entries and 8 pillars, and slices of the lengths that a
-// record holds, up to 2,000, 3,000, 100 and 100.
+// The tree value, kind 13, and what is lent to it and to spread from price, kind 14: at most 8 cashflows, 4 call entries, 4 sigma
+// entries and 8 pillars, and slices of the lengths that a record holds, up to 2,000, 3,000, 100 and 100.
 
 use crate::lists::eight_bytes;
 use crate::lists::eight_floats;
@@ -7,6 +7,7 @@ use crate::lists::eight_numbers;
 use crate::record::float;
 use crate::record::number;
 use crate::record::word;
+use crate::spreads;
 use treebasedbondpricer::TreeValue;
 
 // Whether an answer is the number, the place, the value and the node count that a record holds.
@@ -127,6 +128,20 @@ fn answered(
     )
 }
 
+// Whether the entry of the record's kind answers with what it holds.
+fn replied(
+    record: &[u8; 1280],
+    nodes: &mut [i32],
+    probabilities: &mut [f64],
+    first: &mut [f64],
+    second: &mut [f64],
+) -> bool {
+    if word(record, 0) == 14 {
+        return spreads::answered(record, nodes, probabilities, first, second);
+    }
+    answered(record, nodes, probabilities, first, second)
+}
+
 // Whether the answer is the record's, and the slices are left as they must be.
 fn tried(
     record: &[u8; 1280],
@@ -135,7 +150,7 @@ fn tried(
     first: &mut [f64],
     second: &mut [f64],
 ) -> bool {
-    if !answered(record, nodes, probabilities, first, second) {
+    if !replied(record, nodes, probabilities, first, second) {
         return false;
     }
     left_so(number(record, 80), nodes, probabilities, first, second)

@@ -8,15 +8,15 @@ use lib.ListN.{length, getD}
 use lib.Dec.{ltb, leb·suc-zero}
 use borrow.Author.Needs.{needs}
 use borrow.Author.Tests.{lt-ltb, le-ltb, le-leb, lt-leb, eq-eqb, ne-eqb}
-use Rattle.elementary.specs.declared.Refusal.{Refusal}
+use Rattle.floats.specs.declared.Refusal.{Refusal}
 use Rattle.terms.specs.declared.Check.{Check}
 use Rattle.terms.specs.declared.Check.the-variants.{Passed, Refused}
 use Rattle.terms.specs.Checks.{onCheck, firstOf, single, outside, legCount, anyPaid}
 use lib.Ieee.{Float}
 use Rattle.terms.specs.Terms.{Leg, CallSchedule, Pillars, Bond, TimeGrid, Market}
-use Rattle.terms.specs.Entries.{gridChecks, treeChecks, straightChecks, yieldChecks}
-use Rattle.terms.specs.laws.Stages.{gridCounts, gridDays, gridNumbers, gridOrders, grid-in-stages, modelCounts, treeDays, treeFields, treeNumbers, treeOrders, tree-in-stages, straightCounts, straightDays, straightNumbers, straightOrders, straight-in-stages, yieldDays, yieldNumbers, yield-in-stages}
-use Rattle.elementary.proofs.Laws.{taken, left}
+use Rattle.terms.specs.Entries.{gridChecks, marketChecks, straightChecks, yieldChecks}
+use Rattle.terms.specs.laws.Stages.{gridCounts, gridDays, gridNumbers, gridOrders, grid-in-stages, modelCounts, treeDays, treeFields, treeNumbers, treeOrders, market-in-stages, straightCounts, straightDays, straightNumbers, straightOrders, straight-in-stages, yieldDays, yieldNumbers, yield-in-stages}
+use Rattle.floats.proofs.Laws.{taken, left}
 
 -- ---- a test made of two
 
@@ -106,8 +106,8 @@ pub ruleset sequence = (passed-first, refused-first, only-one, needs)
 pub as-grid : {r : Check} (d : ℕ) (b : Bond) (k : CallSchedule) (g : TimeGrid) → r ≡ firstOf (gridCounts g (b .leg) k ∷ gridDays d (b .leg) k ∷ gridNumbers (b .units) (b .leg) k ∷ gridOrders d (b .leg) k ∷ []) → r ≡ gridChecks d b k g
 as-grid d b k g p = p ∙ sym (grid-in-stages d b k g)
 
-pub as-tree : {r : Check} (m : Market) (k : CallSchedule) → r ≡ firstOf (gridCounts (m .controls) (m .bond .leg) k ∷ modelCounts (m .model .sigma) (m .pillars) ∷ treeDays (m .settlement) (m .bond .leg) k (m .pillars) ∷ treeFields (m .bond .units) (m .model .alpha) (m .spread) ∷ treeNumbers (m .bond .leg) k (m .model .sigma) (m .pillars) ∷ treeOrders (m .settlement) (m .bond .leg) k (m .model .sigma) (m .pillars) ∷ []) → r ≡ treeChecks m k
-as-tree m k p = p ∙ sym (tree-in-stages m k)
+pub as-market : {r : Check} (limit : Float) (m : Market) (k : CallSchedule) → r ≡ firstOf (gridCounts (m .controls) (m .bond .leg) k ∷ modelCounts (m .model .sigma) (m .pillars) ∷ treeDays (m .settlement) (m .bond .leg) k (m .pillars) ∷ treeFields limit (m .bond .units) (m .model .alpha) (m .spread) ∷ treeNumbers (m .bond .leg) k (m .model .sigma) (m .pillars) ∷ treeOrders (m .settlement) (m .bond .leg) k (m .model .sigma) (m .pillars) ∷ []) → r ≡ marketChecks limit m k
+as-market limit m k p = p ∙ sym (market-in-stages limit m k)
 
 pub as-straight : {r : Check} (d : ℕ) (l : Leg) (spread : Float) (q : Pillars) → r ≡ firstOf (straightCounts l q ∷ straightDays d l q ∷ straightNumbers spread l q ∷ straightOrders d l q ∷ []) → r ≡ straightChecks d l spread q
 as-straight d l spread q p = p ∙ sym (straight-in-stages d l spread q)

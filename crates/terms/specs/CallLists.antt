@@ -4,7 +4,7 @@ use mathlib.Core.Path.{_≡_}
 use lib.ListN.{length, getD}
 use lib.Dec.{T}
 use lib.Ieee.{Float, le, lt}
-use Rattle.elementary.specs.Answers.{plusZero}
+use Rattle.floats.specs.Answers.{plusZero}
 use Rattle.terms.specs.Numbers.{million}
 use Rattle.terms.specs.Terms.{CallSchedule}
 

@@ -25,10 +25,10 @@ gridChecks settlement bond calls controls =
     ∷ anyPaid settlement (bond .leg)
     ∷ [])
 
--- The tree value takes these, alpha, sigma, spread and pillars.
-unfoldable pub treeChecks : Market → CallSchedule → Check
+-- The tree value takes these, alpha, sigma, spread and pillars. The limit is the spread's, or that of what stands in its place.
+unfoldable pub marketChecks : Float → Market → CallSchedule → Check
 unfolding firstOf
-treeChecks m calls =
+marketChecks limit m calls =
     firstOf
     (settings (m .controls)
     ∷ legCount (m .bond .leg)
@@ -41,7 +41,7 @@ treeChecks m calls =
     ∷ pillarDays (m .pillars)
     ∷ unitsRange (m .bond .units)
     ∷ within (float 10) (m .model .alpha)
-    ∷ within (float 1) (m .spread)
+    ∷ within limit (m .spread)
     ∷ amountRange (m .bond .leg)
     ∷ strikeRange calls
     ∷ sigmaRange (m .model .sigma)
@@ -51,6 +51,16 @@ treeChecks m calls =
     ∷ anyPaid (m .settlement) (m .bond .leg)
     ∷ pillarOrder (m .settlement) (lastDay (m .bond .leg .days)) (m .pillars)
     ∷ [])
+
+-- Spread within ±1.
+unfoldable pub treeChecks : Market → CallSchedule → Check
+unfolding marketChecks
+treeChecks m calls = marketChecks (float 1) m calls
+
+-- Spread from price: a target stands where the spread stood.
+unfoldable pub spreadChecks : Market → CallSchedule → Check
+unfolding marketChecks
+spreadChecks m calls = marketChecks targetLimit m calls
 
 -- Straight value takes settlement, cashflows, spread and pillars.
 unfoldable pub straightChecks : ℕ → Leg → Float → Pillars → Check

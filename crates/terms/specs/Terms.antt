@@ -48,3 +48,15 @@ pub record Market : Type 0 where
   pub model : HullWhite
   pub spread : Float
   pub pillars : Pillars
+
+-- The same terms with another spread.
+abbrev pub withSpread : Market → Float → Market
+withSpread m s =
+    record {
+      settlement = m .settlement;
+      bond = m .bond;
+      controls = m .controls;
+      model = m .model;
+      spread = s;
+      pillars = m .pillars;
+    }

@@ -5,7 +5,7 @@ use crate::limits::CallEntries;
 use crate::numbers::not_above_at;
 use crate::ranges::no_day;
 use crate::refusing::refused_at;
-use elementary::Refusal;
+use floats::Refusal;
 ghost use mathlib.Core.Path.{_≡_};
 ghost use mathlib.Core.Bool.{_||_};
 ghost use mathlib.Core.List.{[]};

@@ -6,7 +6,7 @@ use crate::lists::last_day;
 use crate::ranges::no_day;
 use crate::refusing::refused_at;
 use crate::refusing::single;
-use elementary::Refusal;
+use floats::Refusal;
 ghost use mathlib.Core.Path.{_≡_};
 ghost use mathlib.Core.Bool.{_||_};
 ghost use mathlib.Core.List.{[]};

@@ -7,7 +7,7 @@ use crate::limits::PillarEntries;
 use crate::limits::SigmaEntries;
 use crate::ranges::out_of;
 use crate::refusing::single;
-use elementary::Refusal;
+use floats::Refusal;
 ghost use mathlib.Core.Path.{_≡_};
 ghost use mathlib.Core.Bool.{not, _||_};
 ghost use lib.Dec.{eqb};

@@ -2,14 +2,14 @@
 
 use crate::lists::number_at;
 use crate::time::year_fraction;
-use elementary::Answer;
-use elementary::Refusal;
-use elementary::finite::not_finite;
+use floats::Answer;
+use floats::Refusal;
+use floats::finite::not_finite;
 ghost use mathlib.Core.Path.{_≡_};
 ghost use Prim.Native.Nat.{_+_, _<_};
 ghost use lib.Ieee.{lt};
 ghost use lib.ListN.{length, getD};
-ghost use Rattle.elementary.specs.Answers.{plusZero};
+ghost use Rattle.floats.specs.Answers.{plusZero};
 ghost use Rattle.terms.specs.Terms.{Pillars};
 ghost use Rattle.terms.specs.Times.{yearFraction};
 ghost use Rattle.terms.specs.Curve.{between, curveAt, factorOf};

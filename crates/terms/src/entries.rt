@@ -7,6 +7,8 @@ use crate::grid_stages::grid_counts;
 use crate::grid_stages::grid_days;
 use crate::grid_stages::grid_numbers;
 use crate::grid_stages::grid_orders;
+use crate::limits::PillarEntries;
+use crate::limits::Target;
 use crate::limits::Yields;
 use crate::straight_stages::straight_counts;
 use crate::straight_stages::straight_days;
@@ -21,7 +23,7 @@ use crate::yield_stages::yield_days;
 use crate::yield_stages::yield_numbers;
 ghost use mathlib.Core.Path.{_≡_};
 ghost use Rattle.terms.specs.Terms.{Leg, CallSchedule, SigmaSchedule, Pillars, Bond, TimeGrid, HullWhite, Market};
-ghost use Rattle.terms.specs.Entries.{gridChecks, treeChecks, straightChecks, yieldChecks, priceChecks, targetChecks};
+ghost use Rattle.terms.specs.Entries.{gridChecks, marketChecks, treeChecks, spreadChecks, straightChecks, yieldChecks, priceChecks, targetChecks};
 
 // What the grid checks.
 pub fn grid_checks(
@@ -136,15 +138,52 @@ pub fn target_checks(
 ) -> Check
     ensures { λ r. ⌜ r ≡ targetChecks settlement (record { days = now (days .entry); kinds = now (kinds .entry); amounts = now (amounts .entry) }) target rate ⌝ }
 {
-    yield_checks(
-        Yields::TARGET,
-        settlement,
-        days,
-        kinds,
-        amounts,
-        target,
-        rate,
-    )
+    yield_checks(Target::MOST, settlement, days, kinds, amounts, target, rate)
+}
+
+// What the tree value and spread from price check, with the limit of the spread or the target.
+fn market_checks(
+    limit: f64,
+    settlement: u32,
+    days: &[u32],
+    kinds: &[u8],
+    amounts: &[f64],
+    units: f64,
+    starts: &[u32],
+    ends: &[u32],
+    strikes: &[f64],
+    yearly: u32,
+    maximum: u32,
+    alpha: f64,
+    times: &[f64],
+    sigmas: &[f64],
+    x: f64,
+    pillars: &[u32],
+    factors: &[f64],
+) -> Check
+    ensures { λ r. ⌜ r ≡ marketChecks limit (record { settlement = settlement; bond = record { leg = record { days = now (days .entry); kinds = now (kinds .entry); amounts = now (amounts .entry) }; units = units }; controls = record { perYear = yearly; maximum = maximum }; model = record { alpha = alpha; sigma = record { times = now (times .entry); sigmas = now (sigmas .entry) } }; spread = x; pillars = record { days = now (pillars .entry); factors = now (factors .entry) } }) (record { starts = now (starts .entry); ends = now (ends .entry); strikes = now (strikes .entry) }) ⌝ }
+{
+    let a = grid_counts(yearly, maximum, days, kinds, amounts, starts, ends, strikes);
+    let Check::Passed = a else {
+        return a;
+    };
+    let b = model_counts(times, sigmas, pillars, factors);
+    let Check::Passed = b else {
+        return b;
+    };
+    let c = tree_days(settlement, days, kinds, starts, ends, pillars);
+    let Check::Passed = c else {
+        return c;
+    };
+    let d = tree_fields(limit, units, alpha, x);
+    let Check::Passed = d else {
+        return d;
+    };
+    let e = tree_numbers(amounts, strikes, times, sigmas, factors);
+    let Check::Passed = e else {
+        return e;
+    };
+    tree_orders(settlement, days, starts, ends, times, pillars)
 }
 
 // What the tree value checks.
@@ -168,25 +207,65 @@ pub fn tree_checks(
 ) -> Check
     ensures { λ r. ⌜ r ≡ treeChecks (record { settlement = settlement; bond = record { leg = record { days = now (days .entry); kinds = now (kinds .entry); amounts = now (amounts .entry) }; units = units }; controls = record { perYear = yearly; maximum = maximum }; model = record { alpha = alpha; sigma = record { times = now (times .entry); sigmas = now (sigmas .entry) } }; spread = spread; pillars = record { days = now (pillars .entry); factors = now (factors .entry) } }) (record { starts = now (starts .entry); ends = now (ends .entry); strikes = now (strikes .entry) }) ⌝ }
 {
-    let a = grid_counts(yearly, maximum, days, kinds, amounts, starts, ends, strikes);
-    let Check::Passed = a else {
-        return a;
-    };
-    let b = model_counts(times, sigmas, pillars, factors);
-    let Check::Passed = b else {
-        return b;
-    };
-    let c = tree_days(settlement, days, kinds, starts, ends, pillars);
-    let Check::Passed = c else {
-        return c;
-    };
-    let d = tree_fields(units, alpha, spread);
-    let Check::Passed = d else {
-        return d;
-    };
-    let e = tree_numbers(amounts, strikes, times, sigmas, factors);
-    let Check::Passed = e else {
-        return e;
-    };
-    tree_orders(settlement, days, starts, ends, times, pillars)
+    market_checks(
+        PillarEntries::SPREAD,
+        settlement,
+        days,
+        kinds,
+        amounts,
+        units,
+        starts,
+        ends,
+        strikes,
+        yearly,
+        maximum,
+        alpha,
+        times,
+        sigmas,
+        spread,
+        pillars,
+        factors,
+    )
+}
+
+// What spread from price checks: a target stands where the spread stood.
+pub fn spread_checks(
+    settlement: u32,
+    days: &[u32],
+    kinds: &[u8],
+    amounts: &[f64],
+    units: f64,
+    starts: &[u32],
+    ends: &[u32],
+    strikes: &[f64],
+    yearly: u32,
+    maximum: u32,
+    alpha: f64,
+    times: &[f64],
+    sigmas: &[f64],
+    target: f64,
+    pillars: &[u32],
+    factors: &[f64],
+) -> Check
+    ensures { λ r. ⌜ r ≡ spreadChecks (record { settlement = settlement; bond = record { leg = record { days = now (days .entry); kinds = now (kinds .entry); amounts = now (amounts .entry) }; units = units }; controls = record { perYear = yearly; maximum = maximum }; model = record { alpha = alpha; sigma = record { times = now (times .entry); sigmas = now (sigmas .entry) } }; spread = target; pillars = record { days = now (pillars .entry); factors = now (factors .entry) } }) (record { starts = now (starts .entry); ends = now (ends .entry); strikes = now (strikes .entry) }) ⌝ }
+{
+    market_checks(
+        Target::MOST,
+        settlement,
+        days,
+        kinds,
+        amounts,
+        units,
+        starts,
+        ends,
+        strikes,
+        yearly,
+        maximum,
+        alpha,
+        times,
+        sigmas,
+        target,
+        pillars,
+        factors,
+    )
 }

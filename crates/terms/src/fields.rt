@@ -10,7 +10,7 @@ use crate::ranges::not_above;
 use crate::ranges::not_within;
 use crate::ranges::out_of;
 use crate::refusing::single;
-use elementary::Refusal;
+use floats::Refusal;
 ghost use mathlib.Core.Path.{_≡_};
 ghost use mathlib.Core.Bool.{_||_};
 ghost use Rattle.terms.specs.Numbers.{float};

@@ -1,12 +1,12 @@
 // What a call brings: its limits, the input checks, day times and the discount curve.
-use elementary::Refusal;
+use floats::Refusal;
 
 mod calls;
 mod cashflows;
 mod counts;
 pub mod curve;
 pub mod entries;
-mod fields;
+pub mod fields;
 mod grid_stages;
 pub mod limits;
 pub mod lists;

@@ -77,11 +77,16 @@ impl PillarEntries {
     pub const SPREAD: f64 = 1.0;
 }
 
-// A yield that is given within ±1e6, a target within ±1e15.
+// A yield that is given within ±1e6.
 pub struct Yields;
 
 impl Yields {
     pub const GIVEN: f64 = 1e6;
+}
 
-    pub const TARGET: f64 = 1e15;
+// A target within ±1e15.
+pub struct Target;
+
+impl Target {
+    pub const MOST: f64 = 1e15;
 }

@@ -6,12 +6,12 @@ use crate::ranges::not_above;
 use crate::ranges::not_up_to;
 use crate::ranges::not_within;
 use crate::refusing::refused_at;
-use elementary::Refusal;
+use floats::Refusal;
 ghost use mathlib.Core.Path.{_≡_};
 ghost use Prim.Native.Nat.{_-_, _<_, _≤_};
 ghost use lib.Ieee.{lt};
 ghost use lib.ListN.{length, getD};
-ghost use Rattle.elementary.specs.Answers.{plusZero};
+ghost use Rattle.floats.specs.Answers.{plusZero};
 ghost use Rattle.terms.specs.Checks.{beyond, notAbove, notUpTo, indexed};
 
 // Not within ±limit, at an index.

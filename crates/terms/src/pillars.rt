@@ -6,7 +6,7 @@ use crate::lists::last_day;
 use crate::numbers::all_within;
 use crate::ranges::no_day;
 use crate::refusing::refused_at;
-use elementary::Refusal;
+use floats::Refusal;
 ghost use mathlib.Core.Path.{_≡_};
 ghost use mathlib.Core.Bool.{not, cond, _&&_, _||_};
 ghost use mathlib.Core.List.{[]};

@@ -1,7 +1,7 @@
 // Whether a number lies outside its range.
 
 use crate::limits::Day;
-use elementary::finite::not_finite;
+use floats::finite::not_finite;
 ghost use mathlib.Core.Path.{_≡_};
 ghost use Rattle.terms.specs.Checks.{outside, noDay, beyond, notAbove, notUpTo};
 

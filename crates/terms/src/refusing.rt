@@ -1,10 +1,10 @@
 // How a cause becomes a check: refused with its number and place.
 
 use crate::Check;
-use elementary::Refusal;
+use floats::Refusal;
 ghost use mathlib.Core.Path.{_≡_};
 ghost use Prim.Native.Nat.{_≤_};
-ghost use Rattle.elementary.specs.declared.Refusal.{Refusal};
+ghost use Rattle.floats.specs.declared.Refusal.{Refusal};
 ghost use Rattle.terms.specs.declared.Check.the-variants.{Refused};
 ghost use Rattle.terms.specs.Checks as checks;
 

@@ -1,4 +1,4 @@
-// The checks of the tree value, in stages; the first is the grid's.
+// The checks of the tree value and of spread from price, in stages; the first is the grid's.
 
 use crate::Check;
 use crate::calls::call_days;
@@ -10,8 +10,8 @@ use crate::counts::pillar_count;
 use crate::counts::sigma_count;
 use crate::fields::alpha_range;
 use crate::fields::settlement_day;
-use crate::fields::spread_range;
 use crate::fields::units_range;
+use crate::fields::within;
 use crate::limits::Cashflows;
 use crate::numbers::all_within;
 use crate::pillars::factor_range;
@@ -69,9 +69,9 @@ pub fn tree_days(
     pillar_days(pillars)
 }
 
-// 4: single numbers and their ranges.
-pub fn tree_fields(units: f64, alpha: f64, spread: f64) -> Check
-    ensures { λ r. ⌜ r ≡ treeFields units alpha spread ⌝ }
+// 4: single numbers and their ranges; the last is the spread or the target, with its limit.
+pub fn tree_fields(limit: f64, units: f64, alpha: f64, x: f64) -> Check
+    ensures { λ r. ⌜ r ≡ treeFields limit units alpha x ⌝ }
 {
     let a = units_range(units);
     let Check::Passed = a else {
@@ -81,7 +81,7 @@ pub fn tree_fields(units: f64, alpha: f64, spread: f64) -> Check
     let Check::Passed = b else {
         return b;
     };
-    spread_range(spread)
+    within(limit, x)
 }
 
 // 4: the numbers of the lists and their ranges.

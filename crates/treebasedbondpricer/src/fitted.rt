@@ -1,7 +1,7 @@
 // The tree before the walk: time_step, layers and shifts. Nothing of it reads the calls, the cashflows or the spread.
 
-use elementary::Refusal;
-use elementary::finite::not_finite;
+use floats::Refusal;
+use floats::finite::not_finite;
 use hullwhite::variance::transition_variances;
 use induction::fitting::fit_tree;
 use lattice::flat::all_flat;

@@ -1,10 +1,10 @@
 // Trinomial-tree valuation of a callable bond.
-use elementary::Refusal;
+use floats::Refusal;
 
-mod fitted;
+pub mod fitted;
 pub mod tree;
 pub mod value;
-mod zero;
+pub mod zero;
 
 // The tree value: the root's value and the nodes of all layers, or a refusal.
 pub enum TreeValue {

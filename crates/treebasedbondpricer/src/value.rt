@@ -6,7 +6,7 @@ use crate::fitted::fitted_tree;
 use bondevents::BondEventGrid;
 use bondevents::marks::marks_of;
 use bondevents::marks::prices_of;
-use elementary::Answer;
+use floats::Answer;
 use induction::walking::root_value;
 use lattice::lattice::node_count;
 ghost use mathlib.Core.Path.{_≡_};

@@ -3,7 +3,7 @@
 ghost use mathlib.Core.Path.{_≡_};
 ghost use lib.ListN.{length, replicate};
 ghost use lib.IntN.{pos};
-ghost use Rattle.elementary.specs.Answers.{plusZero};
+ghost use Rattle.floats.specs.Answers.{plusZero};
 
 pub fn zero_floats(s: &mut [f64])
     ensures { λ _. ⌜ now (s .exit) ≡ replicate (length (now (s .entry))) plusZero ⌝ }

@@ -6,8 +6,8 @@ use Prim.Native.Nat.{ℕ, _≤_, _<_}
 use native.Mathlib.Omega.{arith}
 use lib.Dec.{T}
 use lib.Ieee.{lt}
-use Rattle.elementary.specs.declared.Refusal.{Refusal}
-use Rattle.elementary.specs.Answers.{plusZero}
+use Rattle.floats.specs.declared.Refusal.{Refusal}
+use Rattle.floats.specs.Answers.{plusZero}
 use Rattle.terms.specs.Terms.{Leg, CallSchedule, Bond, TimeGrid}
 use Rattle.terms.specs.CallLists.{Entries, MadeFrom, Reordered, size, strikeOf}
 use Rattle.terms.specs.Outcomes.{given, refused, follow}

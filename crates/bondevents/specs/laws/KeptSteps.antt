@@ -7,10 +7,10 @@ use native.Mathlib.Omega.{arith}
 use lib.Dec.{T}
 use lib.Ieee.{Float, le, lt}
 use lib.Ieee.Scale.{finite}
-use Rattle.elementary.specs.declared.Answer.the-variants.{Value}
-use Rattle.elementary.specs.Extremes.{minOf}
-use Rattle.elementary.specs.laws.Order.{number-of-finite, le-refl, le-trans}
-use Rattle.elementary.specs.laws.Extremes.{min-finite, min-le-left, min-le-right}
+use Rattle.floats.specs.declared.Answer.the-variants.{Value}
+use Rattle.floats.specs.Extremes.{minOf}
+use Rattle.floats.specs.laws.Order.{number-of-finite, le-refl, le-trans}
+use Rattle.floats.specs.laws.Extremes.{min-finite, min-le-left, min-le-right}
 use Rattle.terms.specs.Terms.{Bond}
 use Rattle.bondevents.specs.declared.CallStep.{CallStep}
 use Rattle.bondevents.specs.Steps.{Axis}

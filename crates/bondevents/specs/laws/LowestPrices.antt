@@ -10,9 +10,9 @@ use lib.ListN.{length, getD, replicate, length-replicate, getD-replicate, List·
 use lib.Dec.{T}
 use lib.Ieee.{Float, le}
 use lib.Ieee.Scale.{finite}
-use Rattle.elementary.specs.declared.Refusal.{Refusal}
-use Rattle.elementary.specs.declared.Answer.the-variants.{Value, Refused}
-use Rattle.elementary.specs.Answers.{plusZero}
+use Rattle.floats.specs.declared.Refusal.{Refusal}
+use Rattle.floats.specs.declared.Answer.the-variants.{Value, Refused}
+use Rattle.floats.specs.Answers.{plusZero}
 use Rattle.terms.specs.Terms.{CallSchedule, Bond}
 use Rattle.terms.specs.CallLists.{Entries, size, startOf, endOf, strikeOf}
 use Rattle.terms.specs.Outcomes.{given, refused, follow}

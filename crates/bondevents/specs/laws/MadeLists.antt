@@ -7,8 +7,8 @@ use Prim.Native.Nat.{ℕ, _<_}
 use lib.ListN.{getD}
 use lib.Dec.{T, ltb}
 use lib.Ieee.{le}
-use Rattle.elementary.specs.declared.Refusal.{Refusal}
-use Rattle.elementary.specs.laws.Order.{le-trans}
+use Rattle.floats.specs.declared.Refusal.{Refusal}
+use Rattle.floats.specs.laws.Order.{le-trans}
 use Rattle.terms.specs.Terms.{CallSchedule, Bond}
 use Rattle.terms.specs.CallLists.{Entries, MadeFrom, size, strikeOf}
 use Rattle.terms.specs.Outcomes.{given}

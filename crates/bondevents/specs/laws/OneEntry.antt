@@ -9,8 +9,8 @@ use native.Mathlib.Omega.{arith}
 use lib.ListN.{length, getD, List·getD-eq-default}
 use lib.Dec.{ltb}
 use lib.Ieee.{Float}
-use Rattle.elementary.specs.declared.Refusal.{Refusal}
-use Rattle.elementary.specs.declared.Answer.the-variants.{Value, Refused}
+use Rattle.floats.specs.declared.Refusal.{Refusal}
+use Rattle.floats.specs.declared.Answer.the-variants.{Value, Refused}
 use Rattle.terms.specs.Terms.{Bond}
 use Rattle.terms.specs.Outcomes.{Outcome, given, refused, follow, valued}
 use Rattle.terms.specs.laws.Outcomes.{given-or-refused, answer-cases, of-given, of-refused, valued-value, valued-refused}

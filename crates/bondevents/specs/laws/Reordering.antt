@@ -7,10 +7,10 @@ use lib.ListN.{getD}
 use lib.Seq.{ext-getD}
 use lib.Dec.{T}
 use lib.Ieee.{Float, binary64, lt, fits}
-use Rattle.elementary.specs.Answers.{plusZero}
-use Rattle.elementary.specs.laws.Order.{eq-of-le}
-use Rattle.elementary.specs.laws.Rounding.{Signed}
-use Rattle.elementary.specs.laws.SameNumber.{same-of-eq}
+use Rattle.floats.specs.Answers.{plusZero}
+use Rattle.floats.specs.laws.Order.{eq-of-le}
+use Rattle.floats.specs.laws.Rounding.{Signed}
+use Rattle.floats.specs.laws.SameNumber.{same-of-eq}
 use Rattle.terms.specs.Terms.{CallSchedule, Bond}
 use Rattle.terms.specs.CallLists.{Entries, Reordered, size, strikeOf}
 use Rattle.terms.specs.Outcomes.{given}

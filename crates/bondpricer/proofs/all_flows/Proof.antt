@@ -3,7 +3,7 @@ use Prim.Native.Nat.{_-_}
 use lib.ListN.{length}
 use Rattle.terms.specs.Terms.{Pillars}
 use Rattle.bondpricer.proofs.Flowing.{Going, start, paid, unpaid, stopped, done}
-use Rattle.elementary.proofs.Laws.{answers}
+use Rattle.floats.proofs.Laws.{answers}
 use Rattle.bondpricer.proofs.all_flows.Statement.{statement}
 use Rattle.bondpricer.proofs.all_flows.Tie as tie
 

@@ -1,6 +1,6 @@
 -- `discounted_value` meets its contract. Assumes nothing.
 use Rattle.bondpricer.specs.Straight.{discountedValue}
-use Rattle.elementary.proofs.Laws.{answers}
+use Rattle.floats.proofs.Laws.{answers}
 use Rattle.bondpricer.proofs.discounted_value.Statement.{statement}
 use Rattle.bondpricer.proofs.discounted_value.Tie as tie
 

@@ -1,6 +1,6 @@
 -- `straight_value` meets its contract. Assumes nothing.
 use Rattle.bondpricer.proofs.Entering.{same-count, straight-refused, straight-given}
-use Rattle.elementary.proofs.Laws.{answers}
+use Rattle.floats.proofs.Laws.{answers}
 use Rattle.bondpricer.proofs.straight_value.Statement.{statement}
 use Rattle.bondpricer.proofs.straight_value.Tie as tie
 

@@ -1,7 +1,7 @@
 -- `with_flow` meets its contract. Assumes nothing.
 use Rattle.bondpricer.specs.Straight.{withFlow}
 use Rattle.bondpricer.proofs.Flowing.{at-time}
-use Rattle.elementary.proofs.Laws.{answers}
+use Rattle.floats.proofs.Laws.{answers}
 use Rattle.bondpricer.proofs.with_flow.Statement.{statement}
 use Rattle.bondpricer.proofs.with_flow.Tie as tie
 

@@ -5,12 +5,12 @@ use lib.Dec.{T}
 use lib.IntN.{pos}
 use lib.Ieee.{Float, nan, inf, fin, binary64, ofBits, ofInt, add, sub, mul, div}
 use lib.Ieee.Scale.{finite}
-use Rattle.elementary.specs.declared.Answer.{Answer}
-use Rattle.elementary.specs.declared.Answer.the-variants.{Value}
-use Rattle.elementary.specs.Answers.{andThen, notFinite, whenFinite, tested, one}
-use Rattle.elementary.specs.Whole.{rounded}
+use Rattle.floats.specs.declared.Answer.{Answer}
+use Rattle.floats.specs.declared.Answer.the-variants.{Value}
+use Rattle.floats.specs.Answers.{andThen, notFinite, whenFinite, tested, one}
+use Rattle.floats.specs.Whole.{rounded}
 use Rattle.elementary.specs.Exponential.{inverseLn2, ln2High, ln2Low, term, series, remainder, powerOfTwo, expReduced, expAt}
-use Rattle.elementary.specs.laws.Propagation.{Spoils, passes, test-later, then-chain, then-later, add-right, sub-left, sub-right, mul-left, mul-right, div-left}
+use Rattle.floats.specs.laws.Propagation.{Spoils, passes, test-later, then-chain, then-later, add-right, sub-left, sub-right, mul-left, mul-right, div-left}
 
 -- ---- the series
 

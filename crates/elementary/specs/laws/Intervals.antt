@@ -9,13 +9,13 @@ use lib.IntN.{pos, negsuc}
 use lib.Ieee.{Float, fin, binary64, ofBits, ofInt, add, mul, div, lt, le}
 use lib.Ieee.Scale.{finite}
 use lib.Ieee.Fits.{and-l, and-r}
-use Rattle.elementary.specs.Answers.{plusZero, one}
-use Rattle.elementary.specs.laws.Fractions.{decide, le-of-leq}
-use Rattle.elementary.specs.laws.Order as order
-use Rattle.elementary.specs.laws.Arithmetic.{add-mono-right, mul-mono-left, mul-anti-right, div-mono-left}
-use Rattle.elementary.specs.laws.Bounds.{mul-lower}
-use Rattle.elementary.specs.laws.Signs.{add-above, mul-above, div-above}
-use Rattle.elementary.specs.laws.Propagation.{finite-back, finite-clash, add-right, div-left}
+use Rattle.floats.specs.Answers.{plusZero, one}
+use Rattle.floats.specs.laws.Fractions.{decide, le-of-leq}
+use Rattle.floats.specs.laws.Order as order
+use Rattle.floats.specs.laws.Arithmetic.{add-mono-right, mul-mono-left, mul-anti-right, div-mono-left}
+use Rattle.floats.specs.laws.Bounds.{mul-lower}
+use Rattle.floats.specs.laws.Signs.{add-above, mul-above, div-above}
+use Rattle.floats.specs.laws.Propagation.{finite-back, finite-clash, add-right, div-left}
 use Rattle.elementary.specs.laws.Exponential.{plainTerm, plainSeries, series-spoils}
 
 -- ---- one term, for r from a to b, neither above 0, and p from lo to hi, neither below 0

@@ -6,14 +6,14 @@ use lib.IntN.{pos}
 use lib.Ieee.{Float, binary64, ofBits, toBits, fits, ofInt, add, sub, mul, div}
 use lib.Ieee.Bits.{ofBits-toBits}
 use lib.Ieee.Scale.{finite}
-use Rattle.elementary.specs.declared.Answer.{Answer}
-use Rattle.elementary.specs.declared.Answer.the-variants.{Value}
-use Rattle.elementary.specs.Answers.{andThen, notFinite, whenFinite, tested, one, two}
+use Rattle.floats.specs.declared.Answer.{Answer}
+use Rattle.floats.specs.declared.Answer.the-variants.{Value}
+use Rattle.floats.specs.Answers.{andThen, notFinite, whenFinite, tested, one, two}
 use Rattle.elementary.specs.Exponential.{ln2High, ln2Low}
 use Rattle.elementary.specs.Logarithm.{logTerm, logSeries, ratio, logSum, fraction, exponent, lnOf}
 use Rattle.elementary.specs.laws.Normal.{Loggable, loggable-normal}
 use Rattle.elementary.specs.laws.Scales.{fraction-ratio}
-use Rattle.elementary.specs.laws.Propagation.{passes, test-later, then-chain, then-later, add-left, add-right, mul-left, mul-right, div-left}
+use Rattle.floats.specs.laws.Propagation.{passes, test-later, then-chain, then-later, add-left, add-right, mul-left, mul-right, div-left}
 
 -- ---- the series
 

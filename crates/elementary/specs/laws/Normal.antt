@@ -13,7 +13,7 @@ use lib.Ieee.Scale.{finite}
 use lib.Ieee.Exact.{odd-sign}
 use lib.Ieee.Positive.{positive, above, above-of-le, values-of-le, own-value}
 use Rattle.elementary.specs.Logarithm.{smallestNormal}
-use Rattle.elementary.specs.laws.Order as order
+use Rattle.floats.specs.laws.Order as order
 
 -- The bits of such a double.
 pub record Normal (b : ℕ) : Type 0 where

@@ -9,13 +9,13 @@ use lib.IntN.{ℤ, pos, negsuc}
 use lib.Ieee.{Float, fin, binary64, ofBits, minus, sub, mul, neg, lt, le}
 use lib.Ieee.Scale.{finite}
 use lib.Ieee.Fits.{and-l, and-r}
-use Rattle.elementary.specs.Answers.{plusZero}
-use Rattle.elementary.specs.Whole.{rounded, wholeOf}
+use Rattle.floats.specs.Answers.{plusZero}
+use Rattle.floats.specs.Whole.{rounded, wholeOf}
 use Rattle.elementary.specs.Exponential.{inverseLn2, ln2High, ln2Low, sevenHundred}
-use Rattle.elementary.specs.laws.Fractions.{decide}
-use Rattle.elementary.specs.laws.Order as order
-use Rattle.elementary.specs.laws.Arithmetic.{mul-mono-left, sub-mono}
-use Rattle.elementary.specs.laws.Whole.{rounded-mono}
+use Rattle.floats.specs.laws.Fractions.{decide}
+use Rattle.floats.specs.laws.Order as order
+use Rattle.floats.specs.laws.Arithmetic.{mul-mono-left, sub-mono}
+use Rattle.floats.specs.laws.Whole.{rounded-mono}
 use Rattle.elementary.specs.laws.Exponential.{plainRemainder, steps}
 use Rattle.elementary.specs.laws.Intervals.{minusTwo}
 use Rattle.elementary.specs.laws.Steps.{limit, Reducible, reducible-finite, quotient-low, quotient-high, quotient-finite}

@@ -15,12 +15,12 @@ use lib.Ieee.Exact.{odd-sign}
 use lib.Ieee.Order.{le-of-values}
 use lib.Ieee.Scale.{finite}
 use lib.Ieee.Back.{round-whole}
-use Rattle.elementary.specs.Answers.{one, two, plusZero}
+use Rattle.floats.specs.Answers.{one, two, plusZero}
 use Rattle.elementary.specs.Logarithm.{scale, fraction, exponent}
-use Rattle.elementary.specs.laws.Order as order
-use Rattle.elementary.specs.laws.Arithmetic.{add-mono-left}
-use Rattle.elementary.specs.laws.Integers.{Gap, over, under, gap, minus-pos, minus-neg, minus-same, add-whole}
-use Rattle.elementary.specs.laws.Patterns.{normal-bits}
+use Rattle.floats.specs.laws.Order as order
+use Rattle.floats.specs.laws.Arithmetic.{add-mono-left}
+use Rattle.floats.specs.laws.Integers.{Gap, over, under, gap, minus-pos, minus-neg, minus-same, add-whole}
+use Rattle.floats.specs.laws.Patterns.{normal-bits}
 use Rattle.elementary.specs.laws.Normal.{Normal}
 use Rattle.elementary.specs.laws.Steps.{bias}
 

@@ -12,14 +12,14 @@ use lib.Ieee.Scale.{finite}
 use lib.Ieee.Fits.{down-pos}
 use lib.Ieee.Exact.{HasValue}
 use lib.Ieee.Back.{round-whole, unsigned-back, positive-back, negative-back}
-use Rattle.elementary.specs.Answers.{plusZero}
-use Rattle.elementary.specs.Whole.{rounded, wholeOf}
+use Rattle.floats.specs.Answers.{plusZero}
+use Rattle.floats.specs.Whole.{rounded, wholeOf}
 use Rattle.elementary.specs.Exponential.{inverseLn2, sevenHundred, powerOfTwo}
-use Rattle.elementary.specs.laws.Fractions.{leq-of-le}
-use Rattle.elementary.specs.laws.Order as order
-use Rattle.elementary.specs.laws.Arithmetic.{mul-mono-left}
-use Rattle.elementary.specs.laws.Integers.{over, under, gap, minus-pos, minus-neg, minus-same, add-whole}
-use Rattle.elementary.specs.laws.Patterns.{power-bits}
+use Rattle.floats.specs.laws.Fractions.{leq-of-le}
+use Rattle.floats.specs.laws.Order as order
+use Rattle.floats.specs.laws.Arithmetic.{mul-mono-left}
+use Rattle.floats.specs.laws.Integers.{over, under, gap, minus-pos, minus-neg, minus-same, add-whole}
+use Rattle.floats.specs.laws.Patterns.{power-bits}
 use Rattle.elementary.specs.laws.Exponential.{steps}
 
 -- k is the whole number index - 1010

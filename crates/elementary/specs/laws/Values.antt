@@ -7,15 +7,15 @@ use lib.Dec.{T}
 use lib.IntN.{ℤ, pos}
 use lib.Ieee.{Float, nan, inf, fin, binary64, ofBits, ofInt, toSigned, sub, mul, div, neg, lt, le}
 use lib.Ieee.Scale.{finite}
-use Rattle.elementary.specs.declared.Answer.{Answer}
-use Rattle.elementary.specs.declared.Answer.the-variants.{Value, Refused}
-use Rattle.elementary.specs.Answers.{refusal, onAnswer, andThen, notFinite, tested, plusZero, one}
+use Rattle.floats.specs.declared.Answer.{Answer}
+use Rattle.floats.specs.declared.Answer.the-variants.{Value, Refused}
+use Rattle.floats.specs.Answers.{refusal, onAnswer, andThen, notFinite, tested, plusZero, one}
 use Rattle.elementary.specs.Exponential.{half, sevenHundred, series, powerOfTwo, expReduced, expAt, expM1At}
 use Rattle.elementary.specs.Logarithm.{smallestNormal, fraction, exponent, ratio, logSeries, logSum, lnOf, lnAt}
 use Rattle.elementary.specs.Power.{powfAt}
-use Rattle.elementary.specs.laws.Fractions.{le-of-leq}
-use Rattle.elementary.specs.laws.Signs.{mul-above}
-use Rattle.elementary.specs.laws.Propagation.{finite-back, finite-clash, mul-left}
+use Rattle.floats.specs.laws.Fractions.{le-of-leq}
+use Rattle.floats.specs.laws.Signs.{mul-above}
+use Rattle.floats.specs.laws.Propagation.{finite-back, finite-clash, mul-left}
 use Rattle.elementary.specs.laws.Exponential.{plainSeries, plainRemainder, plainExp, steps, argument-spoils, exp-straight}
 use Rattle.elementary.specs.laws.Intervals.{minusTwo, series-above}
 use Rattle.elementary.specs.laws.Steps.{reducible}

@@ -6,10 +6,10 @@ use mathlib.Core.Path.{_≡_, refl, sym, ap, _∙_}
 use mathlib.Core.List.{List, [], _∷_}
 use lib.ListN.{length, set}
 use lib.Ieee.{Float}
-use Rattle.elementary.specs.declared.Refusal.{Refusal}
-use Rattle.elementary.specs.declared.Answer.{Answer}
-use Rattle.elementary.specs.declared.Answer.the-variants as answer
-use Rattle.elementary.specs.Answers.{onAnswer}
+use Rattle.floats.specs.declared.Refusal.{Refusal}
+use Rattle.floats.specs.declared.Answer.{Answer}
+use Rattle.floats.specs.declared.Answer.the-variants as answer
+use Rattle.floats.specs.Answers.{onAnswer}
 use Rattle.terms.specs.declared.Check.{Check}
 use Rattle.terms.specs.declared.Check.the-variants.{Passed, Refused}
 use Rattle.terms.specs.Terms.{HullWhite}

@@ -7,11 +7,11 @@ use mathlib.Core.List.{List, [], _∷_}
 use lib.ListN.{length, getD, drop, drop-of-length-le}
 use lib.Seq.{drop-cons}
 use lib.Ieee.{Float}
-use Rattle.elementary.specs.declared.Answer.{Answer}
-use Rattle.elementary.specs.declared.Answer.the-variants.{Value, Refused}
-use Rattle.elementary.specs.declared.Refusal.{Refusal}
-use Rattle.elementary.specs.Answers.{plusZero, onAnswer, andThen}
-use Rattle.elementary.specs.Extremes.{maxOf, minOf}
+use Rattle.floats.specs.declared.Answer.{Answer}
+use Rattle.floats.specs.declared.Answer.the-variants.{Value, Refused}
+use Rattle.floats.specs.declared.Refusal.{Refusal}
+use Rattle.floats.specs.Answers.{plusZero, onAnswer, andThen}
+use Rattle.floats.specs.Extremes.{maxOf, minOf}
 use Rattle.hullwhite.specs.Variance.{withPiece, pieces, varianceOver}
 
 module _ (alpha : Float) (times sigmas : List Float) (start end : Float) (place : ℕ) where

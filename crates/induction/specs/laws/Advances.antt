@@ -5,8 +5,8 @@ use mathlib.Core.List.{List}
 use lib.ListN.{take}
 use lib.IntN.{ℤ}
 use lib.Ieee.{Float}
-use Rattle.elementary.specs.declared.Answer.{Answer}
-use Rattle.elementary.specs.Answers.{plusZero, andThen}
+use Rattle.floats.specs.declared.Answer.{Answer}
+use Rattle.floats.specs.Answers.{plusZero, andThen}
 use Rattle.terms.specs.Terms.{Pillars}
 use Rattle.terms.specs.Outcomes.{Outcome, given, follow, valued}
 use Rattle.lattice.specs.Layers.{At}

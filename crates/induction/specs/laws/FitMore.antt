@@ -10,7 +10,7 @@ use lib.ListN.{length, getD, take, drop}
 use lib.Seq.{length-take-le}
 use lib.IntN.{ℤ}
 use lib.Ieee.{Float}
-use Rattle.elementary.specs.Answers.{plusZero}
+use Rattle.floats.specs.Answers.{plusZero}
 use Rattle.terms.specs.Terms.{Pillars}
 use Rattle.terms.specs.Outcomes.{Outcome, given, follow, valued}
 use Rattle.lattice.specs.Layers.{At}

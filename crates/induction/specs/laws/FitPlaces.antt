@@ -9,7 +9,7 @@ use lib.ListN.{length, getD, set, take, length-set}
 use lib.Seq.{take-length}
 use lib.IntN.{ℤ, pos, predℤ, sucℤ}
 use lib.Ieee.{Float, binary64, nan, add, mul}
-use Rattle.elementary.specs.Answers.{notFinite}
+use Rattle.floats.specs.Answers.{notFinite}
 use Rattle.terms.specs.Outcomes.{Outcome, given, follow, valued, finiteThen, refuse}
 use Rattle.lattice.specs.declared.Transition.{Transition}
 use Rattle.lattice.specs.declared.reach.Reach.{Reach}

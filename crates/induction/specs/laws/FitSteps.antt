@@ -7,9 +7,9 @@ use lib.Dec.{ltb, leb}
 use lib.ListN.{getD, set}
 use lib.IntN.{ℤ}
 use lib.Ieee.{Float, binary64, nan, add, mul, div, neg, le}
-use Rattle.elementary.specs.declared.Answer.{Answer}
-use Rattle.elementary.specs.declared.Answer.the-variants.{Value}
-use Rattle.elementary.specs.Answers.{plusZero, onAnswer, andThen, refusal, tested, whenFinite}
+use Rattle.floats.specs.declared.Answer.{Answer}
+use Rattle.floats.specs.declared.Answer.the-variants.{Value}
+use Rattle.floats.specs.Answers.{plusZero, onAnswer, andThen, refusal, tested, whenFinite}
 use Rattle.elementary.specs.Exponential.{expAt}
 use Rattle.elementary.specs.Logarithm.{lnAt}
 use Rattle.terms.specs.Outcomes.{Outcome, given, onOutcome, follow, valued, finiteThen}

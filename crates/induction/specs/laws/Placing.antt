@@ -11,7 +11,7 @@ use lib.ListN.{length, getD, set, take}
 use lib.IntN.{ℤ, pos, negsuc, predℤ, sucℤ}
 use lib.Ieee.{Float, binary64, nan, add}
 use lib.Ieee.Scale.{finite}
-use Rattle.elementary.specs.Answers.{notFinite}
+use Rattle.floats.specs.Answers.{notFinite}
 use Rattle.terms.specs.Outcomes.{Outcome, given, onOutcome, follow, refuse}
 use Rattle.lattice.specs.declared.reach.Reach.{Reach}
 use Rattle.lattice.specs.Layers.{below, At, valueAt}

@@ -6,12 +6,12 @@ use lib.Dec.{T}
 use lib.IntN.{ℤ}
 use lib.Ieee.{Float, binary64, add, mul, le}
 use lib.Ieee.Scale.{finite}
-use Rattle.elementary.specs.Answers.{plusZero}
-use Rattle.elementary.specs.laws.Order.{number-of-finite, le-refl, le-trans}
-use Rattle.elementary.specs.laws.Arithmetic.{add-mono, mul-mono-left}
-use Rattle.elementary.specs.laws.Extremes.{min-below, min-mono}
-use Rattle.elementary.specs.Extremes.{minOf}
-use Rattle.elementary.specs.laws.Finite.{finite-of-add, finite-of-mul}
+use Rattle.floats.specs.Answers.{plusZero}
+use Rattle.floats.specs.laws.Order.{number-of-finite, le-refl, le-trans}
+use Rattle.floats.specs.laws.Arithmetic.{add-mono, mul-mono-left}
+use Rattle.floats.specs.laws.Extremes.{min-below, min-mono}
+use Rattle.floats.specs.Extremes.{minOf}
+use Rattle.floats.specs.laws.Finite.{finite-of-add, finite-of-mul}
 use Rattle.elementary.specs.laws.Values.{Above}
 use Rattle.bondevents.specs.declared.CallStep.{CallStep}
 use Rattle.bondevents.specs.laws.NoLower.{NoLower}

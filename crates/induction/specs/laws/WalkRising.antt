@@ -6,13 +6,13 @@ use lib.ListN.{getD}
 use lib.IntN.{ℤ}
 use lib.Ieee.{Float, binary64, add, mul, neg, ofBits}
 use lib.Ieee.Scale.{finite}
-use Rattle.elementary.specs.declared.Answer.{Answer}
-use Rattle.elementary.specs.declared.Answer.the-variants.{Value, Refused}
-use Rattle.elementary.specs.laws.Order.{number-of-finite, le-refl}
-use Rattle.elementary.specs.Answers.{plusZero, tested, whenFinite}
+use Rattle.floats.specs.declared.Answer.{Answer}
+use Rattle.floats.specs.declared.Answer.the-variants.{Value, Refused}
+use Rattle.floats.specs.laws.Order.{number-of-finite, le-refl}
+use Rattle.floats.specs.Answers.{plusZero, tested, whenFinite}
 use Rattle.elementary.specs.Exponential.{expAt}
 use Rattle.elementary.specs.laws.Values.{Above, exp-value}
-use Rattle.elementary.specs.laws.Finite.{finite-of-add}
+use Rattle.floats.specs.laws.Finite.{finite-of-add}
 use Rattle.terms.specs.Outcomes.{given}
 use Rattle.terms.specs.laws.Lockstep.{Meets, valued-both, refused-first, meets-then, meets-finite, Follows, given-both, follows-follow, follows-valued, follows-weaker, GivenOr27, given-or-27}
 use Rattle.bondevents.specs.declared.CallStep.{CallStep}

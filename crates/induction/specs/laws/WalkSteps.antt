@@ -5,9 +5,9 @@ use mathlib.Core.List.{List, [], _∷_}
 use lib.ListN.{getD, set}
 use lib.IntN.{ℤ}
 use lib.Ieee.{Float, binary64, nan, add, mul, neg}
-use Rattle.elementary.specs.declared.Answer.{Answer}
-use Rattle.elementary.specs.Answers.{plusZero, andThen, tested, whenFinite}
-use Rattle.elementary.specs.Extremes.{minOf}
+use Rattle.floats.specs.declared.Answer.{Answer}
+use Rattle.floats.specs.Answers.{plusZero, andThen, tested, whenFinite}
+use Rattle.floats.specs.Extremes.{minOf}
 use Rattle.elementary.specs.Exponential.{expAt}
 use Rattle.terms.specs.Outcomes.{Outcome, given, valued}
 use Rattle.bondevents.specs.declared.CallStep.{CallStep}

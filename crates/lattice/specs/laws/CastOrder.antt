@@ -10,10 +10,10 @@ use lib.Signed.{leZ, mag}
 use lib.Ieee.{Float, nan, inf, fin, binary64, up, down, le, lt, neg, ofBits, toSigned, inSigned, whole}
 use lib.Ieee.Fits.{down-pos}
 use lib.Ieee.Scale.{finite}
-use Rattle.elementary.specs.laws.Fractions.{leq-of-le}
-use Rattle.elementary.specs.laws.Order.{le-of-not-lt, number-of-finite, T-of-not}
-use Rattle.elementary.specs.laws.Cuts.{IsWhole, whole-finite}
-use Rattle.elementary.specs.laws.Casts.{signed-between}
+use Rattle.floats.specs.laws.Fractions.{leq-of-le}
+use Rattle.floats.specs.laws.Order.{le-of-not-lt, number-of-finite, T-of-not}
+use Rattle.floats.specs.laws.Cuts.{IsWhole, whole-finite}
+use Rattle.floats.specs.laws.Casts.{signed-between}
 use Rattle.terms.specs.Numbers.{million}
 use Rattle.lattice.specs.laws.Bounds.{Within}
 

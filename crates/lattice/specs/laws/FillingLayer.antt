@@ -7,8 +7,8 @@ use lib.ListN.{length, getD, drop, set, length-append, length-drop}
 use lib.Seq.{getD-append-add, getD-drop, append-snoc}
 use lib.IntN.{ℤ, pos}
 use lib.Ieee.{Float}
-use Rattle.elementary.specs.declared.Refusal.{Refusal}
-use Rattle.elementary.specs.Answers.{plusZero}
+use Rattle.floats.specs.declared.Refusal.{Refusal}
+use Rattle.floats.specs.Answers.{plusZero}
 use Rattle.terms.specs.declared.Check.{Check}
 use Rattle.terms.specs.declared.Check.the-variants as check
 use Rattle.terms.specs.Outcomes.{Outcome, given, refused, onOutcome, follow}

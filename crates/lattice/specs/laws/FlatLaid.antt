@@ -8,7 +8,7 @@ use mathlib.Core.List.{List, [], _∷_}
 use lib.ListN.{length, drop, length-drop, drop-of-length-le}
 use lib.IntN.{ℤ, pos, negsuc}
 use lib.Ieee.{Float}
-use Rattle.elementary.specs.Answers.{plusZero, one}
+use Rattle.floats.specs.Answers.{plusZero, one}
 use Rattle.terms.specs.declared.Check.{Check}
 use Rattle.terms.specs.declared.Check.the-variants.{Passed, Refused}
 use Rattle.terms.specs.Outcomes.{Outcome, given, refused, follow, onOutcome}

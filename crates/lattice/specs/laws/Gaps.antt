@@ -8,7 +8,7 @@ use lib.Dec.{T, leb, leb→le, ltb→lt, lit<}
 use lib.IntN.{ℤ, pos, negsuc, sucℤ, predℤ}
 use lib.Signed.{leZ}
 use lib.Ieee.{Float, Format, binary64, round, le, ofInt}
-use Rattle.elementary.specs.laws.Rounding.{Rounds, above, under, rounds-mono}
+use Rattle.floats.specs.laws.Rounding.{Rounds, above, under, rounds-mono}
 use Rattle.lattice.specs.Layers.{below, nodeFloat}
 use Rattle.lattice.specs.laws.IntegerOrder.{up, up-shift}
 

@@ -6,7 +6,7 @@ use lib.Dec.{T}
 use lib.ListN.{length, drop}
 use lib.IntN.{ℤ}
 use lib.Ieee.{Float, le}
-use Rattle.elementary.specs.Answers.{plusZero}
+use Rattle.floats.specs.Answers.{plusZero}
 use Rattle.terms.specs.Outcomes.{Outcome, given, refused, follow}
 use Rattle.lattice.specs.declared.Transition.{Transition}
 use Rattle.lattice.specs.declared.grow.NextLayer.{NextLayer}

@@ -8,9 +8,9 @@ use lib.Dec.{T}
 use lib.ListN.{length}
 use lib.IntN.{ℤ}
 use lib.Ieee.{Float, le}
-use Rattle.elementary.specs.declared.Refusal.{Refusal}
-use Rattle.elementary.specs.Answers.{plusZero}
-use Rattle.elementary.specs.laws.RootBounds.{NotBelow}
+use Rattle.floats.specs.declared.Refusal.{Refusal}
+use Rattle.floats.specs.Answers.{plusZero}
+use Rattle.rounded.specs.laws.RootBounds.{NotBelow}
 use Rattle.terms.specs.Outcomes.{Outcome, refused}
 use Rattle.terms.specs.laws.Outcomes.{Gives, gives, nothing, gives-follow}
 use Rattle.lattice.specs.declared.Transition.{Transition}

@@ -3,8 +3,8 @@ use Prim.Native.Nat.{ℕ}
 use mathlib.Core.Path.{_≡_, refl}
 use mathlib.Core.Bool.{cond}
 use lib.Ieee.{Float, binary64, mul, le, ofBits, ofInt}
-use Rattle.elementary.specs.Answers.{two, whenFinite}
-use Rattle.elementary.specs.Root.{sqrtAt}
+use Rattle.floats.specs.Answers.{two, whenFinite}
+use Rattle.rounded.specs.Root.{sqrtAt}
 use Rattle.terms.specs.Numbers.{float, epsilon}
 use Rattle.terms.specs.Outcomes.{Outcome, given, refused, valued, finiteThen, refuse}
 use Rattle.lattice.specs.declared.grow.MadeStep.{MadeStep}

@@ -7,10 +7,10 @@ use lib.Dec.{T}
 use lib.IntN.{ℤ, predℤ, sucℤ}
 use lib.Ieee.{Float, binary64, add, sub, mul, div, toSigned, ofBits, ofInt, fits}
 use lib.Ieee.Scale.{finite}
-use Rattle.elementary.specs.Answers.{plusZero, one, two, notFinite, onAnswer}
-use Rattle.elementary.specs.Extremes.{maxOf}
-use Rattle.elementary.specs.Whole.{roundAt, rounded}
-use Rattle.elementary.specs.laws.Whole.{round-answers}
+use Rattle.floats.specs.Answers.{plusZero, one, two, notFinite, onAnswer}
+use Rattle.floats.specs.Extremes.{maxOf}
+use Rattle.floats.specs.Whole.{roundAt, rounded}
+use Rattle.floats.specs.laws.Whole.{round-answers}
 use Rattle.terms.specs.Numbers.{float}
 use Rattle.terms.specs.Outcomes.{Outcome, given, refused, valued, finiteThen, refuse}
 use Rattle.lattice.specs.declared.Transition.{Transition}

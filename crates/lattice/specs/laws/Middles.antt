@@ -10,19 +10,19 @@ use lib.Signed.{leZ}
 use lib.Ieee.{Float, binary64, add, sub, mul, div, neg, le, lt, fits, toSigned}
 use lib.Ieee.Fits.{div-fits}
 use lib.Ieee.Scale.{finite}
-use Rattle.elementary.specs.Answers.{plusZero, one, two, onAnswer}
-use Rattle.elementary.specs.Extremes.{maxOf}
-use Rattle.elementary.specs.Whole.{rounded, roundAt}
-use Rattle.elementary.specs.laws.Arithmetic.{mul-mono-left, mul-mono-right, div-mono-left}
-use Rattle.elementary.specs.laws.Cuts.{IsWhole, whole-finite}
-use Rattle.elementary.specs.laws.Whole.{rounded-mono, rounded-whole, round-answers}
+use Rattle.floats.specs.Answers.{plusZero, one, two, onAnswer}
+use Rattle.floats.specs.Extremes.{maxOf}
+use Rattle.floats.specs.Whole.{rounded, roundAt}
+use Rattle.floats.specs.laws.Arithmetic.{mul-mono-left, mul-mono-right, div-mono-left}
+use Rattle.floats.specs.laws.Cuts.{IsWhole, whole-finite}
+use Rattle.floats.specs.laws.Whole.{rounded-mono, rounded-whole, round-answers}
 use Rattle.terms.specs.Numbers.{million}
 use Rattle.terms.specs.Outcomes.{Outcome, given, refused, refuse}
 use Rattle.lattice.specs.declared.Transition.{Transition}
 use Rattle.lattice.specs.Layers.{below, nodeFloat, insert}
 use Rattle.lattice.specs.Transitions.{Step, tooLow, tooFar, clamped, transitionOf}
 use Rattle.lattice.specs.Lattice.{transitionsOf, destinations}
-use Rattle.elementary.specs.laws.Finite.{finite-of-mul, positive-of-div}
+use Rattle.floats.specs.laws.Finite.{finite-of-mul, positive-of-div}
 use Rattle.terms.specs.laws.Outcomes.{Gives, gives, nothing, gives-follow, gives-finite, gives-cond}
 use Rattle.lattice.specs.laws.Bounds.{Within}
 use Rattle.lattice.specs.laws.IntegerOrder.{up}

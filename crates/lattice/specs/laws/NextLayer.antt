@@ -8,11 +8,11 @@ use lib.Dec.{T}
 use lib.IntN.{ℤ, sucℤ, predℤ}
 use lib.Ieee.{Float, binary64, mul, le}
 use lib.Ieee.Scale.{finite}
-use Rattle.elementary.specs.declared.Answer.{Answer}
-use Rattle.elementary.specs.declared.Answer.the-variants.{Value, Refused}
-use Rattle.elementary.specs.Answers.{plusZero, two, onAnswer, notFinite, refusal}
-use Rattle.elementary.specs.Root.{sqrtAt}
-use Rattle.elementary.specs.laws.RootBounds.{NotBelow, sqrtAt-bounds}
+use Rattle.floats.specs.declared.Answer.{Answer}
+use Rattle.floats.specs.declared.Answer.the-variants.{Value, Refused}
+use Rattle.floats.specs.Answers.{plusZero, two, onAnswer, notFinite, refusal}
+use Rattle.rounded.specs.Root.{sqrtAt}
+use Rattle.rounded.specs.laws.RootBounds.{NotBelow, sqrtAt-bounds}
 use Rattle.terms.specs.Numbers.{float, epsilon}
 use Rattle.terms.specs.Outcomes.{Outcome, given, valued}
 use Rattle.lattice.specs.declared.Transition.{Transition}

@@ -8,13 +8,13 @@ use lib.Dec.{T}
 use lib.IntN.{ℤ}
 use lib.Ieee.{Float, binary64, add, sub, mul, div, le, ofBits, toSigned}
 use lib.Ieee.Scale.{finite}
-use Rattle.elementary.specs.laws.Order.{number-of-finite}
-use Rattle.elementary.specs.laws.Signs.{add-above, div-above}
-use Rattle.elementary.specs.laws.Extremes.{max-finite, le-max-right}
-use Rattle.elementary.specs.Extremes.{maxOf}
-use Rattle.elementary.specs.Answers.{plusZero, one, two}
-use Rattle.elementary.specs.Whole.{roundAt}
-use Rattle.elementary.specs.laws.Finite.{positive-of-div}
+use Rattle.floats.specs.laws.Order.{number-of-finite}
+use Rattle.floats.specs.laws.Signs.{add-above, div-above}
+use Rattle.floats.specs.laws.Extremes.{max-finite, le-max-right}
+use Rattle.floats.specs.Extremes.{maxOf}
+use Rattle.floats.specs.Answers.{plusZero, one, two}
+use Rattle.floats.specs.Whole.{roundAt}
+use Rattle.floats.specs.laws.Finite.{positive-of-div}
 use Rattle.elementary.specs.laws.Values.{Above}
 use Rattle.terms.specs.Outcomes.{given}
 use Rattle.terms.specs.laws.Outcomes.{Gives, gives, nothing, given-of, gives-follow, gives-valued, gives-finite, gives-cond, gives-known}

@@ -8,10 +8,10 @@ use lib.Dec.{T}
 use lib.ListN.{length, getD, set, length-set}
 use lib.IntN.{ℤ, pos, negsuc}
 use lib.Ieee.{Float, binary64, nan, mul, neg, le}
-use Rattle.elementary.specs.declared.Refusal.{Refusal}
-use Rattle.elementary.specs.declared.Answer.{Answer}
-use Rattle.elementary.specs.declared.Answer.the-variants.{Value, Refused}
-use Rattle.elementary.specs.Answers.{plusZero, onAnswer, notFinite, refusal}
+use Rattle.floats.specs.declared.Refusal.{Refusal}
+use Rattle.floats.specs.declared.Answer.{Answer}
+use Rattle.floats.specs.declared.Answer.the-variants.{Value, Refused}
+use Rattle.floats.specs.Answers.{plusZero, onAnswer, notFinite, refusal}
 use Rattle.elementary.specs.Exponential.{expAt}
 use Rattle.elementary.specs.laws.Values.{exp-value}
 use Rattle.terms.specs.declared.Check.{Check}

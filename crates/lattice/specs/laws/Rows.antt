@@ -5,8 +5,8 @@ use mathlib.Core.List.{List}
 use lib.ListN.{take}
 use lib.Dec.{eqb}
 use lib.Ieee.{Float}
-use Rattle.elementary.specs.declared.Answer.{Answer}
-use Rattle.elementary.specs.Answers.{onAnswer}
+use Rattle.floats.specs.declared.Answer.{Answer}
+use Rattle.floats.specs.Answers.{onAnswer}
 use Rattle.terms.specs.declared.Check.{Check}
 use Rattle.terms.specs.declared.Check.the-variants.{Passed, Refused}
 use Rattle.terms.specs.Outcomes.{Outcome, given, refused}

@@ -4,9 +4,9 @@ use Prim.Native.Nat.{ℕ, _≤_, _<_}
 use lib.ListN.{length}
 use lib.Dec.{T, ltb, nltb→le}
 use lib.Ieee.{lt, le}
-use Rattle.elementary.specs.declared.Refusal.{Refusal}
-use Rattle.elementary.specs.Answers.{plusZero, notFinite}
-use Rattle.elementary.specs.laws.Fractions.{or-r}
+use Rattle.floats.specs.declared.Refusal.{Refusal}
+use Rattle.floats.specs.Answers.{plusZero, notFinite}
+use Rattle.floats.specs.laws.Fractions.{or-r}
 use Rattle.terms.specs.declared.Check.the-variants.{Passed, Refused}
 use Rattle.terms.specs.Numbers.{million}
 use Rattle.terms.specs.Terms.{CallSchedule}

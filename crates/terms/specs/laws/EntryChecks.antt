@@ -4,14 +4,14 @@ use mathlib.Core.List.{List, [], _∷_, _++_}
 use Prim.Native.Nat.{ℕ}
 use lib.ListN.{getD}
 use lib.Ieee.{Float}
-use Rattle.elementary.specs.declared.Refusal.{Refusal}
+use Rattle.floats.specs.declared.Refusal.{Refusal}
 use Rattle.terms.specs.declared.Check.{Check}
 use Rattle.terms.specs.declared.Check.the-variants.{Passed, Refused}
-use Rattle.terms.specs.Numbers.{float}
-use Rattle.terms.specs.Terms.{Leg, CallSchedule, Pillars, Bond, TimeGrid, Market}
+use Rattle.terms.specs.Numbers.{float, targetLimit}
+use Rattle.terms.specs.Terms.{Leg, CallSchedule, Pillars, Bond, TimeGrid, Market, withSpread}
 use Rattle.terms.specs.Checks.{firstOf, settings, legCount, callCount, sigmaCount, pillarCount, settlementDay, legDays, callDays, pillarDays, unitsRange, within, amountRange, strikeRange, sigmaRange, factorRange, callOrder, sigmaOrder, lastDay, anyPaid, pillarOrder}
-use Rattle.terms.specs.Entries.{gridChecks, treeChecks, straightChecks, yieldChecks}
-use Rattle.terms.specs.laws.Sequence.{Passes, passed-at, first-of-passes, first-refusal, first-of-one}
+use Rattle.terms.specs.Entries.{gridChecks, marketChecks, treeChecks, spreadChecks, straightChecks, yieldChecks}
+use Rattle.terms.specs.laws.Sequence.{Passes, passed-at, first-of-passes, first-refusal, first-of-one, first-of-other}
 use Rattle.terms.specs.laws.Groups.{LegPassed, CallsPassed, PillarsPassed, GridTermsPassed, MarketPassed}
 
 -- ---- the grid
@@ -79,11 +79,12 @@ module _ (settlement : ℕ) (bond : Bond) (calls : CallSchedule) (controls : Tim
   grid-strike-refused r terms counted days e =
       grid-split ∙ first-refusal grid-before (strikeRange calls) r grid-after (grid-front terms counted days) e
 
--- ---- the tree value
+-- ---- the tree value, and spread from price
 
 module _ (m : Market) (calls : CallSchedule) where
-  abbrev tree-before : List Check
-  tree-before =
+  -- the checks before and after the spread, or the target in its place
+  abbrev spread-before : List Check
+  spread-before =
       settings (m .controls)
       ∷ legCount (m .bond .leg)
       ∷ callCount calls
@@ -95,12 +96,11 @@ module _ (m : Market) (calls : CallSchedule) where
       ∷ pillarDays (m .pillars)
       ∷ unitsRange (m .bond .units)
       ∷ within (float 10) (m .model .alpha)
-      ∷ within (float 1) (m .spread)
-      ∷ amountRange (m .bond .leg)
       ∷ []
 
-  abbrev tree-after : List Check
-  tree-after =
+  -- and after the strikes
+  abbrev market-after : List Check
+  market-after =
       sigmaRange (m .model .sigma)
       ∷ factorRange (m .pillars)
       ∷ callOrder calls
@@ -109,16 +109,23 @@ module _ (m : Market) (calls : CallSchedule) where
       ∷ pillarOrder (m .settlement) (lastDay (m .bond .leg .days)) (m .pillars)
       ∷ []
 
-  tree-split : treeChecks m calls ≡ firstOf (tree-before ++ (strikeRange calls ∷ tree-after))
-  unfolding treeChecks
-  tree-split = refl
+  abbrev spread-after : List Check
+  spread-after = amountRange (m .bond .leg) ∷ strikeRange calls ∷ market-after
 
-  tree-passes : treeChecks m calls ≡ Passed → (i : ℕ) → getD (tree-before ++ (strikeRange calls ∷ tree-after)) i Passed ≡ Passed
-  tree-passes h = passed-at (tree-before ++ (strikeRange calls ∷ tree-after)) (sym tree-split ∙ h)
+module _ (limit : Float) (m : Market) (calls : CallSchedule) where
+  abbrev market-before : List Check
+  market-before = spread-before m calls ++ (within limit (m .spread) ∷ amountRange (m .bond .leg) ∷ [])
 
-  pub tree-market : treeChecks m calls ≡ Passed → MarketPassed m
-  tree-market h =
-      let p = tree-passes h in
+  market-split : marketChecks limit m calls ≡ firstOf (market-before ++ (strikeRange calls ∷ market-after m calls))
+  unfolding marketChecks
+  market-split = refl
+
+  market-passes : marketChecks limit m calls ≡ Passed → (i : ℕ) → getD (market-before ++ (strikeRange calls ∷ market-after m calls)) i Passed ≡ Passed
+  market-passes h = passed-at (market-before ++ (strikeRange calls ∷ market-after m calls)) (sym market-split ∙ h)
+
+  pub market-terms : marketChecks limit m calls ≡ Passed → MarketPassed limit m
+  market-terms h =
+      let p = market-passes h in
       record {
         grid = record {
           steps = p 0;
@@ -146,9 +153,9 @@ module _ (m : Market) (calls : CallSchedule) where
         spread = p 11;
       }
 
-  pub tree-calls : treeChecks m calls ≡ Passed → CallsPassed calls
-  tree-calls h =
-      let p = tree-passes h in
+  pub market-calls : marketChecks limit m calls ≡ Passed → CallsPassed calls
+  market-calls h =
+      let p = market-passes h in
       record {
         counted = p 2;
         days = p 7;
@@ -156,30 +163,75 @@ module _ (m : Market) (calls : CallSchedule) where
         ordered = p 16;
       }
 
-  tree-front : MarketPassed m → callCount calls ≡ Passed → callDays calls ≡ Passed → Passes tree-before
-  tree-front t counted days =
+  market-front : MarketPassed limit m → callCount calls ≡ Passed → callDays calls ≡ Passed → Passes market-before
+  market-front t counted days =
       (t .grid .steps, (t .grid .leg .counted, (counted, (t .sigma .counted, (t .pillars .counted, (t .grid .leg .settled, (t .grid .leg .days, (days, (t .pillars .days, (t .grid .units, (t .alpha, (t .spread, (t .grid .leg .amounts, tt)))))))))))))
 
-  pub tree-passed : MarketPassed m → CallsPassed calls → treeChecks m calls ≡ Passed
-  tree-passed t k =
-      tree-split
-      ∙ first-of-one tree-before (strikeRange calls) tree-after (tree-front t (k .counted) (k .days))
+  pub market-passed : MarketPassed limit m → CallsPassed calls → marketChecks limit m calls ≡ Passed
+  market-passed t k =
+      market-split
+      ∙ first-of-one market-before (strikeRange calls) (market-after m calls) (market-front t (k .counted) (k .days))
       (t .sigma .numbers, (t .pillars .factors, (k .ordered, (t .sigma .ordered, (t .grid .leg .paid, (t .pillars .ordered, tt))))))
       ∙ k .strikes
 
   -- What stands before the strikes is passed, and a strike is refused: that is the answer.
-  pub tree-strike-refused : (r : Refusal) → MarketPassed m → callCount calls ≡ Passed → callDays calls ≡ Passed → strikeRange calls ≡ Refused r → treeChecks m calls ≡ Refused r
-  tree-strike-refused r t counted days e =
-      tree-split ∙ first-refusal tree-before (strikeRange calls) r tree-after (tree-front t counted days) e
+  pub market-strike-refused : (r : Refusal) → MarketPassed limit m → callCount calls ≡ Passed → callDays calls ≡ Passed → strikeRange calls ≡ Refused r → marketChecks limit m calls ≡ Refused r
+  market-strike-refused r t counted days e =
+      market-split ∙ first-refusal market-before (strikeRange calls) r (market-after m calls) (market-front t counted days) e
 
-  -- Where the tree's checks are passed, so are those of its grid.
+  -- Where these checks are passed, so are those of the grid.
+  pub market-grid : marketChecks limit m calls ≡ Passed → gridChecks (m .settlement) (m .bond) calls (m .controls) ≡ Passed
+  market-grid h = grid-passed (m .settlement) (m .bond) calls (m .controls) (market-terms h .grid) (market-calls h)
+
+-- The other checks don't read the call entries: two lists that both pass their own checks are answered alike.
+pub market-alike : (limit : Float) (m : Market) (first second : CallSchedule) → CallsPassed first → CallsPassed second → marketChecks limit m second ≡ marketChecks limit m first
+unfolding marketChecks
+market-alike limit m first second k l = cc
+
+-- Nor the spread: where they are passed, another spread is answered by its own check.
+pub other-spread : (limit : Float) (m : Market) (calls : CallSchedule) (s : Float) → marketChecks limit m calls ≡ Passed → treeChecks (withSpread m s) calls ≡ within (float 1) s
+unfolding treeChecks
+other-spread limit m calls s h = first-of-other (spread-before m calls) (within limit (m .spread)) (within (float 1) s) (spread-after m calls) h
+
+-- ---- the tree value
+
+module _ (m : Market) (calls : CallSchedule) where
+  pub tree-market : treeChecks m calls ≡ Passed → MarketPassed (float 1) m
+  unfolding treeChecks
+  tree-market = market-terms (float 1) m calls
+
+  pub tree-calls : treeChecks m calls ≡ Passed → CallsPassed calls
+  unfolding treeChecks
+  tree-calls = market-calls (float 1) m calls
+
+  pub tree-passed : MarketPassed (float 1) m → CallsPassed calls → treeChecks m calls ≡ Passed
+  unfolding treeChecks
+  tree-passed = market-passed (float 1) m calls
+
+  pub tree-strike-refused : (r : Refusal) → MarketPassed (float 1) m → callCount calls ≡ Passed → callDays calls ≡ Passed → strikeRange calls ≡ Refused r → treeChecks m calls ≡ Refused r
+  unfolding treeChecks
+  tree-strike-refused = market-strike-refused (float 1) m calls
+
   pub tree-grid : treeChecks m calls ≡ Passed → gridChecks (m .settlement) (m .bond) calls (m .controls) ≡ Passed
-  tree-grid h = grid-passed (m .settlement) (m .bond) calls (m .controls) (tree-market h .grid) (tree-calls h)
+  unfolding treeChecks
+  tree-grid = market-grid (float 1) m calls
 
--- The tree's other checks don't read the call entries: two lists that both pass their own checks are answered alike.
 pub tree-alike : (m : Market) (first second : CallSchedule) → CallsPassed first → CallsPassed second → treeChecks m second ≡ treeChecks m first
 unfolding treeChecks
-tree-alike m first second k l = cc
+tree-alike = market-alike (float 1)
+
+-- ---- spread from price
+
+pub spread-is : (m : Market) (calls : CallSchedule) → spreadChecks m calls ≡ marketChecks targetLimit m calls
+unfolding spreadChecks
+spread-is m calls = refl
+
+pub spread-grid : (m : Market) (calls : CallSchedule) → spreadChecks m calls ≡ Passed → gridChecks (m .settlement) (m .bond) calls (m .controls) ≡ Passed
+spread-grid m calls h = market-grid targetLimit m calls (sym (spread-is m calls) ∙ h)
+
+-- Where a target's terms are accepted, those of a tried spread are checked only for its range.
+pub spread-tried : (m : Market) (calls : CallSchedule) (s : Float) → spreadChecks m calls ≡ Passed → treeChecks (withSpread m s) calls ≡ within (float 1) s
+spread-tried m calls s h = other-spread targetLimit m calls s (sym (spread-is m calls) ∙ h)
 
 -- ---- straight value
 

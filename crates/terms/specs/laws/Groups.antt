@@ -1,6 +1,7 @@
 -- The checks of an entry grouped by what they look at: every one of the group is passed. Assumes nothing.
 use mathlib.Core.Path.{_≡_}
 use Prim.Native.Nat.{ℕ}
+use lib.Ieee.{Float}
 use Rattle.terms.specs.declared.Check.the-variants.{Passed}
 use Rattle.terms.specs.Numbers.{float}
 use Rattle.terms.specs.Terms.{Leg, CallSchedule, SigmaSchedule, Pillars, Bond, TimeGrid, Market}
@@ -40,10 +41,10 @@ pub record GridTermsPassed (settlement : ℕ) (bond : Bond) (controls : TimeGrid
   pub leg : LegPassed settlement (bond .leg)
   pub units : unitsRange (bond .units) ≡ Passed
 
--- What the tree value takes, but for the call entries.
-pub record MarketPassed (m : Market) : Type 0 where
+-- What the tree value takes, but for the call entries; the limit is the spread's, or that of what stands in its place.
+pub record MarketPassed (limit : Float) (m : Market) : Type 0 where
   pub grid : GridTermsPassed (m .settlement) (m .bond) (m .controls)
   pub sigma : SigmaPassed (m .model .sigma)
   pub pillars : PillarsPassed (m .settlement) (m .bond .leg) (m .pillars)
   pub alpha : within (float 10) (m .model .alpha) ≡ Passed
-  pub spread : within (float 1) (m .spread) ≡ Passed
+  pub spread : within limit (m .spread) ≡ Passed

@@ -2,7 +2,7 @@
 use lib.Dec.{T}
 use lib.Ieee.{ofBits, ofInt}
 use lib.Ieee.Scale.{finite}
-use Rattle.elementary.specs.Answers.{plusZero}
+use Rattle.floats.specs.Answers.{plusZero}
 use Rattle.terms.specs.Numbers.{float, amountLimit, million, targetLimit}
 
 pub zero-finite : T (finite plusZero)

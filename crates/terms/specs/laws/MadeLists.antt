@@ -5,9 +5,9 @@ use Prim.Native.Nat.{ℕ, _<_}
 use native.Mathlib.Omega.{arith}
 use lib.Dec.{T}
 use lib.Ieee.{lt, le}
-use Rattle.elementary.specs.declared.Refusal.{Refusal}
-use Rattle.elementary.specs.Answers.{plusZero}
-use Rattle.elementary.specs.laws.Order.{number-of-finite, number-of-le, le-of-lt, le-of-not-lt, lt-of-lt-of-le, between}
+use Rattle.floats.specs.declared.Refusal.{Refusal}
+use Rattle.floats.specs.Answers.{plusZero}
+use Rattle.floats.specs.laws.Order.{number-of-finite, number-of-le, le-of-lt, le-of-not-lt, lt-of-lt-of-le, between}
 use Rattle.terms.specs.declared.Check.the-variants.{Passed, Refused}
 use Rattle.terms.specs.Numbers.{million}
 use Rattle.terms.specs.Terms.{CallSchedule, Bond, TimeGrid, Market}

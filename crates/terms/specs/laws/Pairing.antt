@@ -8,7 +8,7 @@ use native.Mathlib.Omega.{arith}
 use lib.Dec.{T, T-not, eqb, eqb→eq}
 use lib.Ieee.{Float, le}
 use lib.Ieee.Fits.{eq→eqb}
-use Rattle.elementary.specs.laws.Order.{number-of-le, le-refl}
+use Rattle.floats.specs.laws.Order.{number-of-le, le-refl}
 use Rattle.terms.specs.Terms.{CallSchedule}
 use Rattle.terms.specs.CallLists.{Entries, MadeFrom, Reordered, size, startOf, endOf, strikeOf}
 use Rattle.terms.specs.laws.Searching.{somewhere, below-or-not}

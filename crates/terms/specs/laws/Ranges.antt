@@ -7,8 +7,8 @@ use lib.Dec.{T, not-T, eqb, ltb, eqb→eq, ltb→lt, nltb→le}
 use lib.Ieee.{Float, neg, lt, le}
 use lib.Ieee.Scale.{finite}
 use lib.Ieee.Fits.{eq→eqb}
-use Rattle.elementary.specs.Answers.{plusZero, notFinite}
-use Rattle.elementary.specs.laws.Order.{number, number-of-finite, number-of-le, le-refl, neg-anti, le-of-not-lt, lt-of-not-le, not-le-of-lt}
+use Rattle.floats.specs.Answers.{plusZero, notFinite}
+use Rattle.floats.specs.laws.Order.{number, number-of-finite, number-of-le, le-refl, neg-anti, le-of-not-lt, lt-of-not-le, not-le-of-lt}
 use Rattle.terms.specs.Checks.{outside, beyond, notAbove, notUpTo}
 use Rattle.terms.specs.laws.Limits.{zero-finite}
 

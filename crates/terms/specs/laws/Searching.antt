@@ -5,7 +5,7 @@ use Prim.Native.Nat.{ℕ, zero, suc, _<_, _≤_}
 use native.Mathlib.Nat.{eq-or-lt-of-le, le-of-suc-le-suc}
 use native.Mathlib.Omega.{arith}
 use lib.Dec.{T, ltb, ltb→lt, nltb→le}
-use Rattle.elementary.specs.laws.Fractions.{decide}
+use Rattle.floats.specs.laws.Fractions.{decide}
 
 -- An index below the count at which the test holds.
 pub record Somewhere (test : ℕ → Bool) (count : ℕ) : Type 0 where

@@ -8,7 +8,7 @@ use native.Mathlib.Nat.{eq-or-lt-of-le}
 use native.Mathlib.Omega.{arith}
 use lib.ListN.{length, getD}
 use lib.Dec.{T, T-not}
-use Rattle.elementary.specs.declared.Refusal.{Refusal}
+use Rattle.floats.specs.declared.Refusal.{Refusal}
 use Rattle.terms.specs.declared.Check.{Check}
 use Rattle.terms.specs.declared.Check.the-variants.{Passed, Refused}
 use Rattle.terms.specs.Checks.{onCheck, firstOf, single, lowest, indexed}
@@ -67,6 +67,16 @@ first-refusal before c r after h e = first-after before (c ∷ after) h ∙ rw (
 pub first-of-one : (before : List Check) (c : Check) (after : List Check) → Passes before → Passes after → firstOf (before ++ (c ∷ after)) ≡ c
 first-of-one before Passed after b a = first-after before (Passed ∷ after) b ∙ first-of-passes (Passed ∷ after) (refl, a)
 first-of-one before (Refused r) after b a = first-refusal before (Refused r) r after b refl
+
+-- All passed, and another check stands where one stood: the answer is its own.
+pub first-of-other : (before : List Check) (c d : Check) (after : List Check) → firstOf (before ++ (c ∷ after)) ≡ Passed → firstOf (before ++ (d ∷ after)) ≡ d
+first-of-other before c d after h =
+    let p = around before (passes-of-first (before ++ (c ∷ after)) h) in
+    first-of-one before d after (p .0) (p .1)
+  where
+    around : (xs : List Check) → Passes (xs ++ (c ∷ after)) → Passes xs × Passes after
+    around [] p = (tt, p .1)
+    around (x ∷ xs) p = let q = around xs (p .1) in ((p .0, q .0), q .1)
 
 -- ---- a cause that has one place
 

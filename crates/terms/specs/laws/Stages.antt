@@ -11,7 +11,7 @@ use Rattle.terms.specs.Checks.{onCheck, firstOf, settings, legCount, cal
 use Rattle.terms.specs.laws.Sequence.{passed-at}
 use Rattle.terms.specs.laws.TermChecks.{LegCounted, leg-counted, SigmaCounted, sigma-counted, PillarsCounted, pillars-counted}
 use Rattle.terms.specs.laws.CallChecks.{CallCounted, call-counted}
-use Rattle.terms.specs.Entries.{gridChecks, treeChecks, straightChecks, yieldChecks}
+use Rattle.terms.specs.Entries.{gridChecks, marketChecks, straightChecks, yieldChecks}
 
 -- ---- stages of any checks
 
@@ -59,7 +59,7 @@ grid-in-stages d b k g =
     ∷ (callOrder k ∷ anyPaid d (b .leg) ∷ [])
     ∷ [])
 
--- ---- the tree value
+-- ---- the tree value, and spread from price
 
 abbrev pub modelCounts : SigmaSchedule → Pillars → Check
 modelCounts v p = firstOf (sigmaCount v ∷ pillarCount p ∷ [])
@@ -67,8 +67,8 @@ modelCounts v p = firstOf (sigmaCount v ∷ pillarCount p ∷ [])
 abbrev pub treeDays : ℕ → Leg → CallSchedule → Pillars → Check
 treeDays d l k p = firstOf (settlementDay d ∷ legDays l ∷ callDays k ∷ pillarDays p ∷ [])
 
-abbrev pub treeFields : Float → Float → Float → Check
-treeFields units alpha spread = firstOf (unitsRange units ∷ within (float 10) alpha ∷ within (float 1) spread ∷ [])
+abbrev pub treeFields : Float → Float → Float → Float → Check
+treeFields limit units alpha x = firstOf (unitsRange units ∷ within (float 10) alpha ∷ within limit x ∷ [])
 
 abbrev pub treeNumbers : Leg → CallSchedule → SigmaSchedule → Pillars → Check
 treeNumbers l k v p = firstOf (amountRange l ∷ strikeRange k ∷ sigmaRange v ∷ factorRange p ∷ [])
@@ -76,16 +76,16 @@ treeNumbers l k v p = firstOf (amountRange l ∷ strikeRange k ∷ sigmaRange v 
 abbrev pub treeOrders : ℕ → Leg → CallSchedule → SigmaSchedule → Pillars → Check
 treeOrders d l k v p = firstOf (callOrder k ∷ sigmaOrder v ∷ anyPaid d l ∷ pillarOrder d (lastDay (l .days)) p ∷ [])
 
-pub tree-in-stages : (m : Market) (k : CallSchedule) → treeChecks m k ≡ firstOf (gridCounts (m .controls) (m .bond .leg) k ∷ modelCounts (m .model .sigma) (m .pillars) ∷ treeDays (m .settlement) (m .bond .leg) k (m .pillars) ∷ treeFields (m .bond .units) (m .model .alpha) (m .spread) ∷ treeNumbers (m .bond .leg) k (m .model .sigma) (m .pillars) ∷ treeOrders (m .settlement) (m .bond .leg) k (m .model .sigma) (m .pillars) ∷ [])
-unfolding treeChecks
-tree-in-stages m k =
+pub market-in-stages : (limit : Float) (m : Market) (k : CallSchedule) → marketChecks limit m k ≡ firstOf (gridCounts (m .controls) (m .bond .leg) k ∷ modelCounts (m .model .sigma) (m .pillars) ∷ treeDays (m .settlement) (m .bond .leg) k (m .pillars) ∷ treeFields limit (m .bond .units) (m .model .alpha) (m .spread) ∷ treeNumbers (m .bond .leg) k (m .model .sigma) (m .pillars) ∷ treeOrders (m .settlement) (m .bond .leg) k (m .model .sigma) (m .pillars) ∷ [])
+unfolding marketChecks
+market-in-stages limit m k =
     let l = m .bond .leg in
     let d = m .settlement in
     in-stages
     ((settings (m .controls) ∷ legCount l ∷ callCount k ∷ [])
     ∷ (sigmaCount (m .model .sigma) ∷ pillarCount (m .pillars) ∷ [])
     ∷ (settlementDay d ∷ legDays l ∷ callDays k ∷ pillarDays (m .pillars) ∷ [])
-    ∷ (unitsRange (m .bond .units) ∷ within (float 10) (m .model .alpha) ∷ within (float 1) (m .spread) ∷ [])
+    ∷ (unitsRange (m .bond .units) ∷ within (float 10) (m .model .alpha) ∷ within limit (m .spread) ∷ [])
     ∷ (amountRange l ∷ strikeRange k ∷ sigmaRange (m .model .sigma) ∷ factorRange (m .pillars) ∷ [])
     ∷ (callOrder k ∷ sigmaOrder (m .model .sigma) ∷ anyPaid d l ∷ pillarOrder d (lastDay (l .days)) (m .pillars) ∷ [])
     ∷ [])

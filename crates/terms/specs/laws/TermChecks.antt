@@ -8,7 +8,7 @@ use lib.Dec.{T, ltb, leb, eqb, lt→ltb, nltb→le, nleb→lt, eqb→eq}
 use lib.Ieee.{Float, lt}
 use lib.Ieee.Scale.{finite}
 use lib.Ieee.Fits.{eq→eqb}
-use Rattle.elementary.specs.Answers.{plusZero}
+use Rattle.floats.specs.Answers.{plusZero}
 use Rattle.terms.specs.declared.Check.the-variants.{Passed}
 use Rattle.terms.specs.Numbers.{float, amountLimit}
 use Rattle.terms.specs.Terms.{Leg, SigmaSchedule, Pillars, TimeGrid}

@@ -4,8 +4,8 @@ use mathlib.Core.Path.{_≡_, refl, sym, ap, _∙_}
 use mathlib.Core.Logic.{inl, inr}
 use native.Mathlib.Omega.{arith}
 use lib.Ieee.{Float}
-use Rattle.elementary.specs.declared.Refusal.{Refusal}
-use Rattle.elementary.specs.laws.Order.{not-le-of-lt}
+use Rattle.floats.specs.declared.Refusal.{Refusal}
+use Rattle.floats.specs.laws.Order.{not-le-of-lt}
 use Rattle.terms.specs.declared.Check.{Check}
 use Rattle.terms.specs.declared.Check.the-variants as check
 use Rattle.terms.specs.Numbers.{million}

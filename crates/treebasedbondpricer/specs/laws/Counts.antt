@@ -9,8 +9,8 @@ use lib.Dec.{T}
 use lib.IntN.{pos}
 use lib.Ieee.{Float, binary64, div, ofInt}
 use lib.Ieee.Scale.{finite}
-use Rattle.elementary.specs.Answers.{plusZero}
-use Rattle.elementary.specs.laws.Finite.{not-by-zero}
+use Rattle.floats.specs.Answers.{plusZero}
+use Rattle.floats.specs.laws.Finite.{not-by-zero}
 use Rattle.terms.specs.Numbers.{float}
 use Rattle.terms.specs.Terms.{Pillars, HullWhite, Market}
 use Rattle.terms.specs.Outcomes.{given}

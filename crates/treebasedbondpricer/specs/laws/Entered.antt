@@ -6,8 +6,8 @@ use mathlib.Core.List.{List}
 use lib.ListN.{length, replicate}
 use lib.IntN.{ℤ, pos}
 use lib.Ieee.{Float, binary64, div}
-use Rattle.elementary.specs.declared.Refusal.{Refusal}
-use Rattle.elementary.specs.Answers.{plusZero}
+use Rattle.floats.specs.declared.Refusal.{Refusal}
+use Rattle.floats.specs.Answers.{plusZero}
 use Rattle.terms.specs.declared.Check.{Check}
 use Rattle.terms.specs.declared.Check.the-variants as check
 use Rattle.terms.specs.Checks.{onCheck}
@@ -64,7 +64,7 @@ steps-of-grid settlement bond calls controls {r} e p some few =
 
 -- ---- the tree
 
-tree-is : (m : Market) (room : Room) (maturity : Float) (steps : ℕ) → fittedTree m room maturity steps ≡ finiteThen (div binary64 maturity (float steps)) 0 λ dt. fittedOver (m .settlement) (m .model) (m .pillars) room steps dt
+pub tree-is : (m : Market) (room : Room) (maturity : Float) (steps : ℕ) → fittedTree m room maturity steps ≡ finiteThen (div binary64 maturity (float steps)) 0 λ dt. fittedOver (m .settlement) (m .model) (m .pillars) room steps dt
 unfolding fittedTree fittedWith
 tree-is m room maturity steps = refl
 

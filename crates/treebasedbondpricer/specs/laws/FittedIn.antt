@@ -7,8 +7,8 @@ use mathlib.Core.List.{List, [], _∷_, _++_, append-nil}
 use lib.ListN.{length, getD, drop, drop-of-length-le}
 use lib.IntN.{ℤ}
 use lib.Ieee.{Float}
-use Rattle.elementary.specs.declared.Refusal.{Refusal}
-use Rattle.elementary.specs.Answers.{plusZero}
+use Rattle.floats.specs.declared.Refusal.{Refusal}
+use Rattle.floats.specs.Answers.{plusZero}
 use Rattle.terms.specs.declared.Check.{Check}
 use Rattle.terms.specs.declared.Check.the-variants as check
 use Rattle.terms.specs.Terms.{HullWhite, Pillars}

@@ -6,7 +6,7 @@ use mathlib.Core.List.{List, [], _∷_}
 use lib.ListN.{length}
 use lib.IntN.{ℤ, pos}
 use lib.Ieee.{Float, ofBits}
-use Rattle.elementary.specs.Answers.{plusZero}
+use Rattle.floats.specs.Answers.{plusZero}
 use Rattle.terms.specs.Terms.{Market}
 use Rattle.terms.specs.Outcomes.{given}
 use Rattle.terms.specs.laws.Lockstep.{Follows, given-both, follows-follow, follows-same, GivenOr27, given-or-27}

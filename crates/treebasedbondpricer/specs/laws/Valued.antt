@@ -6,10 +6,10 @@ use mathlib.Core.List.{List, map}
 use lib.ListN.{length}
 use lib.IntN.{ℤ, pos}
 use lib.Ieee.{Float}
-use Rattle.elementary.specs.declared.Refusal.{Refusal}
-use Rattle.elementary.specs.declared.Answer.{Answer}
-use Rattle.elementary.specs.declared.Answer.the-variants as answer
-use Rattle.elementary.specs.Answers.{plusZero, onAnswer}
+use Rattle.floats.specs.declared.Refusal.{Refusal}
+use Rattle.floats.specs.declared.Answer.{Answer}
+use Rattle.floats.specs.declared.Answer.the-variants as answer
+use Rattle.floats.specs.Answers.{plusZero, onAnswer}
 use Rattle.terms.specs.Outcomes.{Outcome, given, refused, onOutcome, follow}
 use Rattle.terms.specs.laws.Outcomes.{follow-given, follow-refused}
 use Rattle.bondevents.specs.declared.CallStep.{CallStep}
@@ -87,7 +87,7 @@ module _ {o : Outcome Fitted} {one two : ℕ} {counts : List ℕ} {spacings shif
     abbrev pub rowIn0 : Float → List Float → List CallStep → Outcome (List At)
     rowIn0 spread cashflows calls = walkFrom dt spread cashflows calls 0 (layersIn flat counts spacings nodes probabilities) shifts (finalIn counts spacings nodes)
 
-    same-row : (spread : Float) (cashflows : List Float) (calls : List CallStep) → rowOver spread cashflows calls (s .content) ≡ rowIn0 spread cashflows calls
+    pub same-row : (spread : Float) (cashflows : List Float) (calls : List CallStep) → rowOver spread cashflows calls (s .content) ≡ rowIn0 spread cashflows calls
     same-row spread cashflows calls = rw (s .fitted .dt-is, s .fitted .shifts-are, s .fitted .stands .layers, s .fitted .stands .final)
 
     same-count : nodeCount (s .content .tree) ≡ totalOf counts

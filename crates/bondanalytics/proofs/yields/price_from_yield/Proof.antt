@@ -1,6 +1,6 @@
 -- `yields::price_from_yield` meets its contract. Assumes nothing.
 use Rattle.bondanalytics.proofs.Entering.{same-count, price-refused, price-unknown, price-given}
-use Rattle.bondanalytics.proofs.Laws.{prices}
+use Rattle.interestrate.proofs.Laws.{prices}
 use Rattle.bondanalytics.proofs.yields.price_from_yield.Statement.{statement}
 use Rattle.bondanalytics.proofs.yields.price_from_yield.Tie as tie
 

@@ -1,6 +1,6 @@
 -- `yields::yield_from_price` meets its contract. Assumes nothing.
 use Rattle.bondanalytics.proofs.Entering.{same-count, yield-refused, yield-unknown, yield-given}
-use Rattle.bondanalytics.proofs.Laws.{prices}
+use Rattle.interestrate.proofs.Laws.{prices}
 use Rattle.bondanalytics.proofs.yields.yield_from_price.Statement.{statement}
 use Rattle.bondanalytics.proofs.yields.yield_from_price.Tie as tie
 

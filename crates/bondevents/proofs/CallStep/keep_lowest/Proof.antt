@@ -1,6 +1,6 @@
 -- `bondevents::CallStep::keep_lowest` meets its contract: by whether a price stood there. Assumes nothing.
 use mathlib.Core.Path.{sym}
-use Rattle.elementary.proofs.Laws.{answers}
+use Rattle.floats.proofs.Laws.{answers}
 use Rattle.bondevents.specs.Calls.{keepLowest}
 use Rattle.bondevents.proofs.CallStep.keep_lowest.Statement.{statement}
 use Rattle.bondevents.proofs.CallStep.keep_lowest.Tie as tie

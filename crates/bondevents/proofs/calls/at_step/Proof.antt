@@ -4,7 +4,7 @@ use native.Mathlib.Omega.{arith}
 use lib.ListN.{length}
 use borrow.Author.Needs.{needs}
 use Rattle.bondevents.proofs.Outcomes.{handed-up, went-on, kept-at}
-use Rattle.elementary.proofs.Laws.{answers}
+use Rattle.floats.proofs.Laws.{answers}
 use Rattle.bondevents.proofs.calls.at_step.Statement.{statement}
 use Rattle.bondevents.proofs.calls.at_step.Tie as tie
 

@@ -1,5 +1,5 @@
 -- `bondevents::calls::call_price` meets its contract: each step is the definition's. Assumes nothing.
-use Rattle.elementary.proofs.Laws.{answers}
+use Rattle.floats.proofs.Laws.{answers}
 use Rattle.bondevents.proofs.calls.call_price.Statement.{statement}
 use Rattle.bondevents.proofs.calls.call_price.Tie as tie
 

@@ -1,5 +1,5 @@
 -- `bondevents::calls::in_window` meets its contract: both tests of the definition, one after the other. Assumes nothing.
-use Rattle.elementary.proofs.Laws.{answers}
+use Rattle.floats.proofs.Laws.{answers}
 use Rattle.bondevents.proofs.calls.in_window.Statement.{statement}
 use Rattle.bondevents.proofs.calls.in_window.Tie as tie
 

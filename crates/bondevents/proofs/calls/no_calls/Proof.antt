@@ -3,7 +3,7 @@ use mathlib.Core.Path.{ap}
 use lib.ListN.{replicate}
 use Rattle.bondevents.specs.declared.CallStep.{CallStep}
 use Rattle.bondevents.specs.Parts.{noCalls}
-use Rattle.elementary.proofs.Laws.{answers}
+use Rattle.floats.proofs.Laws.{answers}
 use Rattle.bondevents.proofs.calls.no_calls.Statement.{statement}
 use Rattle.bondevents.proofs.calls.no_calls.Tie as tie
 

@@ -1,5 +1,5 @@
 -- `bondevents::calls::refusal_of` meets its contract: by the two cases of an answer. Assumes nothing.
-use Rattle.elementary.proofs.Laws.{answers}
+use Rattle.floats.proofs.Laws.{answers}
 use Rattle.bondevents.proofs.calls.refusal_of.Statement.{statement}
 use Rattle.bondevents.proofs.calls.refusal_of.Tie as tie
 

@@ -2,7 +2,7 @@
 use borrow.Author.Needs.{needs}
 use mathlib.Core.Path.{ap}
 use lib.ListN.{replicate}
-use Rattle.elementary.specs.Answers.{plusZero}
+use Rattle.floats.specs.Answers.{plusZero}
 use Rattle.bondevents.specs.declared.CallStep.{CallStep}
 use Rattle.bondevents.specs.Parts.{noGrid}
 use Rattle.bondevents.proofs.grid.zero_grid.Statement.{statement}

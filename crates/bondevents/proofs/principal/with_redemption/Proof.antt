@@ -1,6 +1,6 @@
 -- `bondevents::principal::with_redemption` meets its contract: both tests of the definition, one after the other. Assumes nothing.
 use borrow.Author.Tests.{eq-eqb, ne-eqb}
-use Rattle.elementary.proofs.Laws.{answers, taken-both, left-first, left-second}
+use Rattle.floats.proofs.Laws.{answers, taken-both, left-first, left-second}
 use Rattle.bondevents.proofs.principal.with_redemption.Statement.{statement}
 use Rattle.bondevents.proofs.principal.with_redemption.Tie as tie
 

@@ -3,7 +3,7 @@ use Prim.Native.Nat.{_-_}
 use native.Mathlib.Nat.{max-eq-left, max-eq-right}
 use native.Mathlib.Omega.{arith}
 use lib.Ieee.{mul, div}
-use Rattle.elementary.proofs.Laws.{answers}
+use Rattle.floats.proofs.Laws.{answers}
 use Rattle.bondevents.specs.Steps.{rawStep}
 use Rattle.bondevents.proofs.steps.call_step_of.Statement.{statement}
 use Rattle.bondevents.proofs.steps.call_step_of.Tie as tie

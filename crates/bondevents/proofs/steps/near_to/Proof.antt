@@ -1,6 +1,6 @@
 -- `bondevents::steps::near_to` meets its contract: what is compared with 1 and with the highest is what the definition clamps (`Clamps`). Assumes nothing.
-use Rattle.elementary.proofs.Laws.{answers}
-use Rattle.elementary.specs.Whole.{rounded, roundAt}
+use Rattle.floats.proofs.Laws.{answers}
+use Rattle.floats.specs.Whole.{rounded, roundAt}
 use Rattle.bondevents.proofs.Clamps.{nearest, clamped-high, clamped-low, mid-taken, mid-clamped, mid-refused}
 use Rattle.bondevents.proofs.steps.near_to.Statement.{statement}
 use Rattle.bondevents.proofs.steps.near_to.Tie as tie

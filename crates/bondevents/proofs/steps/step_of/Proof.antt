@@ -1,6 +1,6 @@
 -- `bondevents::steps::step_of` meets its contract: the definition's quotient and product, through `near_to`. Assumes nothing.
 use lib.Ieee.{mul, div}
-use Rattle.elementary.proofs.Laws.{answers}
+use Rattle.floats.proofs.Laws.{answers}
 use Rattle.bondevents.specs.Steps.{rawStep}
 use Rattle.bondevents.proofs.steps.step_of.Statement.{statement}
 use Rattle.bondevents.proofs.steps.step_of.Tie as tie

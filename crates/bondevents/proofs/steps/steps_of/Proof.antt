@@ -1,5 +1,5 @@
 -- `bondevents::steps::steps_of` meets its contract: the definition's product, through `up_to`. Assumes nothing.
-use Rattle.elementary.proofs.Laws.{answers}
+use Rattle.floats.proofs.Laws.{answers}
 use Rattle.bondevents.specs.Steps.{stepsOf}
 use Rattle.bondevents.proofs.steps.steps_of.Statement.{statement}
 use Rattle.bondevents.proofs.steps.steps_of.Tie as tie

@@ -1,6 +1,6 @@
 -- `bondevents::steps::up_to` meets its contract: what is compared with 1 and with the highest is what the definition clamps (`Clamps`). Assumes nothing.
-use Rattle.elementary.proofs.Laws.{answers}
-use Rattle.elementary.specs.Whole.{ceiled, ceilAt}
+use Rattle.floats.proofs.Laws.{answers}
+use Rattle.floats.specs.Whole.{ceiled, ceilAt}
 use Rattle.bondevents.proofs.Clamps.{upwards, clamped-high, clamped-low, mid-taken, mid-clamped, mid-refused}
 use Rattle.bondevents.proofs.steps.up_to.Statement.{statement}
 use Rattle.bondevents.proofs.steps.up_to.Tie as tie

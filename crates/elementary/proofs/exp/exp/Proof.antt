@@ -1,5 +1,5 @@
 -- `exp::exp` meets its contract. Assumes nothing.
-use Rattle.elementary.proofs.Laws.{answers}
+use Rattle.floats.proofs.Laws.{answers}
 use Rattle.elementary.proofs.exp.exp.Statement.{statement}
 use Rattle.elementary.proofs.exp.exp.Tie as tie
 

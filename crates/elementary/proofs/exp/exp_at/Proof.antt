@@ -1,9 +1,9 @@
 -- `exp::exp_at` meets its contract: one test of the end result stands for the tests of every operation. Assumes nothing.
 use Rattle.elementary.specs.Exponential.{expAt}
 use Rattle.elementary.specs.laws.Exponential.{exp-is}
-use Rattle.elementary.specs.laws.Propagation.{tested-bad, tested-good}
+use Rattle.floats.specs.laws.Propagation.{tested-bad, tested-good}
 use Rattle.elementary.specs.laws.Steps.{reducible}
-use Rattle.elementary.proofs.Laws.{answers, finite-by-call}
+use Rattle.floats.proofs.Laws.{answers, finite-by-call}
 use Rattle.elementary.proofs.exp.exp_at.Statement.{statement}
 use Rattle.elementary.proofs.exp.exp_at.Tie as tie
 

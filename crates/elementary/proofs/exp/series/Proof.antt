@@ -4,7 +4,7 @@ use mathlib.Core.Path.{_≡_, refl, sym, ap, _∙_}
 use native.Mathlib.Omega.{arith}
 use borrow.Author.Needs.{needs}
 use lib.Ieee.{Float}
-use Rattle.elementary.specs.Answers.{one}
+use Rattle.floats.specs.Answers.{one}
 use Rattle.elementary.specs.laws.Exponential.{plainTerm, plainSeries}
 use Rattle.elementary.proofs.exp.series.Statement.{statement}
 use Rattle.elementary.proofs.exp.series.Tie as tie

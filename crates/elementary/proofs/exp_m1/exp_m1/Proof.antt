@@ -1,5 +1,5 @@
 -- `exp_m1::exp_m1` meets its contract. Assumes nothing.
-use Rattle.elementary.proofs.Laws.{answers}
+use Rattle.floats.proofs.Laws.{answers}
 use Rattle.elementary.proofs.exp_m1.exp_m1.Statement.{statement}
 use Rattle.elementary.proofs.exp_m1.exp_m1.Tie as tie
 

@@ -1,7 +1,7 @@
 -- `exp_m1::exp_m1_at` meets its contract, part by part. Assumes nothing.
 use Rattle.elementary.specs.Exponential.{expM1At}
 use Rattle.elementary.specs.laws.Exponential.{near-zero-is}
-use Rattle.elementary.proofs.Laws.{answers, flags}
+use Rattle.floats.proofs.Laws.{answers, flags}
 use Rattle.elementary.proofs.exp_m1.exp_m1_at.Statement.{statement}
 use Rattle.elementary.proofs.exp_m1.exp_m1_at.Tie as tie
 

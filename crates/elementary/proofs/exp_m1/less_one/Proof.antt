@@ -1,5 +1,5 @@
 -- `exp_m1::less_one` meets its contract. Assumes nothing.
-use Rattle.elementary.proofs.Laws.{answers}
+use Rattle.floats.proofs.Laws.{answers}
 use Rattle.elementary.proofs.exp_m1.less_one.Statement.{statement}
 use Rattle.elementary.proofs.exp_m1.less_one.Tie as tie
 

@@ -1,8 +1,8 @@
 -- `exp_m1::near_zero` meets its contract: one test of the product stands for those of the series. Assumes nothing.
 use mathlib.Core.Path.{ap}
 use lib.Ieee.{binary64, mul}
-use Rattle.elementary.specs.laws.Propagation.{tested-bad, tested-good}
-use Rattle.elementary.proofs.Laws.{answers}
+use Rattle.floats.specs.laws.Propagation.{tested-bad, tested-good}
+use Rattle.floats.proofs.Laws.{answers}
 use Rattle.elementary.proofs.exp_m1.near_zero.Statement.{statement}
 use Rattle.elementary.proofs.exp_m1.near_zero.Tie as tie
 

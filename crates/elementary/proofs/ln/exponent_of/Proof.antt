@@ -3,7 +3,7 @@ use mathlib.Core.Path.{sym}
 use native.Mathlib.Omega.{arith}
 use borrow.Author.Needs.{needs}
 use Rattle.elementary.specs.laws.Scales.{exponent-bits}
-use Rattle.elementary.proofs.Laws.{counted-below}
+use Rattle.floats.proofs.Laws.{counted-below}
 use Rattle.elementary.proofs.ln.exponent_of.Statement.{statement}
 use Rattle.elementary.proofs.ln.exponent_of.Tie as tie
 

@@ -2,7 +2,7 @@
 use mathlib.Core.Path.{sym}
 use native.Mathlib.Omega.{arith}
 use borrow.Author.Needs.{needs}
-use Rattle.elementary.specs.laws.Patterns.{no-nan}
+use Rattle.floats.specs.laws.Patterns.{no-nan}
 use Rattle.elementary.specs.laws.Scales.{fraction-bits}
 use Rattle.elementary.proofs.ln.fraction_of.Statement.{statement}
 use Rattle.elementary.proofs.ln.fraction_of.Tie as tie

@@ -1,5 +1,5 @@
 -- `ln::ln` meets its contract. Assumes nothing.
-use Rattle.elementary.proofs.Laws.{answers}
+use Rattle.floats.proofs.Laws.{answers}
 use Rattle.elementary.proofs.ln.ln.Statement.{statement}
 use Rattle.elementary.proofs.ln.ln.Tie as tie
 

@@ -2,8 +2,8 @@
 use Rattle.elementary.specs.Logarithm.{lnAt}
 use Rattle.elementary.specs.laws.Logarithm.{ln-is}
 use Rattle.elementary.specs.laws.Normal.{loggable}
-use Rattle.elementary.specs.laws.Propagation.{tested-bad, tested-good}
-use Rattle.elementary.proofs.Laws.{answers, finite-by-call}
+use Rattle.floats.specs.laws.Propagation.{tested-bad, tested-good}
+use Rattle.floats.proofs.Laws.{answers, finite-by-call}
 use Rattle.elementary.proofs.ln.ln_at.Statement.{statement}
 use Rattle.elementary.proofs.ln.ln_at.Tie as tie
 

@@ -4,7 +4,7 @@ use lib.Ieee.Bits.{ofBits-toBits}
 use denote.Floats.{passes}
 use borrow.Author.Needs.{needs}
 use Rattle.elementary.specs.laws.Normal.{loggable-normal}
-use Rattle.elementary.proofs.Laws.{finite-no-nan}
+use Rattle.floats.proofs.Laws.{finite-no-nan}
 use Rattle.elementary.proofs.ln.straight.Statement.{statement}
 use Rattle.elementary.proofs.ln.straight.Tie as tie
 

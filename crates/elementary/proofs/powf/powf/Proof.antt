@@ -1,5 +1,5 @@
 -- `powf::powf` meets its contract. Assumes nothing.
-use Rattle.elementary.proofs.Laws.{answers}
+use Rattle.floats.proofs.Laws.{answers}
 use Rattle.elementary.proofs.powf.powf.Statement.{statement}
 use Rattle.elementary.proofs.powf.powf.Tie as tie
 

@@ -1,6 +1,6 @@
 -- `powf::powf_at` meets its contract. Assumes nothing.
 use Rattle.elementary.specs.Power.{powfAt}
-use Rattle.elementary.proofs.Laws.{answers}
+use Rattle.floats.proofs.Laws.{answers}
 use Rattle.elementary.proofs.powf.powf_at.Statement.{statement}
 use Rattle.elementary.proofs.powf.powf_at.Tie as tie
 

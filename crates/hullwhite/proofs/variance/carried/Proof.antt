@@ -1,5 +1,5 @@
 -- `carried` meets its contract: by the answer's case. Assumes nothing.
-use Rattle.elementary.proofs.Laws.{answers}
+use Rattle.floats.proofs.Laws.{answers}
 use Rattle.hullwhite.proofs.variance.carried.Statement.{statement}
 use Rattle.hullwhite.proofs.variance.carried.Tie as tie
 

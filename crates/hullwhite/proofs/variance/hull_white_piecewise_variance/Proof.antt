@@ -1,5 +1,5 @@
 -- `hull_white_piecewise_variance` meets its contract: the invariant is that the pieces from entry i on give the whole. Assumes nothing.
-use Rattle.elementary.proofs.Laws.{answers}
+use Rattle.floats.proofs.Laws.{answers}
 use Prim.Native.Nat.{_-_}
 use native.Mathlib.Omega.{arith}
 use lib.ListN.{length}

@@ -1,5 +1,5 @@
 -- `step_variance` meets its contract: the two ends of the step are tested, and the rest is the piecewise variance. Assumes nothing.
-use Rattle.elementary.proofs.Laws.{answers}
+use Rattle.floats.proofs.Laws.{answers}
 use Rattle.hullwhite.specs.Variance.{stepVariance}
 use Rattle.hullwhite.proofs.variance.step_variance.Statement.{statement}
 use Rattle.hullwhite.proofs.variance.step_variance.Tie as tie

@@ -1,5 +1,5 @@
 -- `transition_variances` meets its contract: the invariant is that the first k variances are in the row and the rest gives the whole. Assumes nothing.
-use Rattle.elementary.proofs.Laws.{answers}
+use Rattle.floats.proofs.Laws.{answers}
 use Prim.Native.Nat.{_-_}
 use Rattle.hullwhite.specs.laws.Filled.{modelOf}
 use Rattle.hullwhite.specs.laws.EachStep.{Reached, reached-none, reached-refused, reached-more, reached-all}

@@ -1,5 +1,5 @@
 -- `with_piece` meets its contract: nothing where the piece is empty, else each operation is tested as the definition has it. Assumes nothing.
-use Rattle.elementary.proofs.Laws.{answers}
+use Rattle.floats.proofs.Laws.{answers}
 use Rattle.hullwhite.specs.Variance.{withPiece}
 use Rattle.hullwhite.proofs.variance.with_piece.Statement.{statement}
 use Rattle.hullwhite.proofs.variance.with_piece.Tie as tie

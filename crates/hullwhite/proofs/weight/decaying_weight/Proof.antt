@@ -1,5 +1,5 @@
 -- `decaying_weight` meets its contract: each operation is tested as the definition has it. Assumes nothing.
-use Rattle.elementary.proofs.Laws.{answers}
+use Rattle.floats.proofs.Laws.{answers}
 use Rattle.hullwhite.proofs.weight.decaying_weight.Statement.{statement}
 use Rattle.hullwhite.proofs.weight.decaying_weight.Tie as tie
 

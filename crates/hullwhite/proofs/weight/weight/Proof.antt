@@ -1,5 +1,5 @@
 -- `weight` meets its contract: by the test on alpha it is the length or the decaying weight. Assumes nothing.
-use Rattle.elementary.proofs.Laws.{answers}
+use Rattle.floats.proofs.Laws.{answers}
 use Rattle.hullwhite.proofs.weight.weight.Statement.{statement}
 use Rattle.hullwhite.proofs.weight.weight.Tie as tie
 

@@ -1,7 +1,7 @@
 -- `fit::add_at` meets its contract. Assumes nothing.
 use Rattle.induction.proofs.Outcomes.{outcomes}
 use Rattle.induction.specs.laws.FitSteps.{addAt}
-use Rattle.elementary.proofs.Laws.{answers}
+use Rattle.floats.proofs.Laws.{answers}
 use Rattle.induction.proofs.fit.add_at.Statement.{statement}
 use Rattle.induction.proofs.fit.add_at.Tie as tie
 

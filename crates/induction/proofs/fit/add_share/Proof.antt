@@ -1,7 +1,7 @@
 -- `fit::add_share` meets its contract. Assumes nothing.
 use Rattle.induction.proofs.Outcomes.{outcomes}
 use Rattle.induction.specs.laws.FitSteps.{shareAt}
-use Rattle.elementary.proofs.Laws.{answers}
+use Rattle.floats.proofs.Laws.{answers}
 use Rattle.induction.proofs.fit.add_share.Statement.{statement}
 use Rattle.induction.proofs.fit.add_share.Tie as tie
 

@@ -3,7 +3,7 @@ use native.Mathlib.Omega.{arith}
 use Rattle.lattice.specs.laws.Positions.{spot-below}
 use Rattle.induction.specs.laws.FitSteps.{addThree}
 use Rattle.induction.proofs.Outcomes.{outcomes}
-use Rattle.elementary.proofs.Laws.{answers}
+use Rattle.floats.proofs.Laws.{answers}
 use Rattle.induction.proofs.fit.add_three.Statement.{statement}
 use Rattle.induction.proofs.fit.add_three.Tie as tie
 

@@ -1,6 +1,6 @@
 -- `fit::discounted` meets its contract. Assumes nothing.
 use Rattle.induction.specs.laws.FitSteps.{discountedOf}
-use Rattle.elementary.proofs.Laws.{answers}
+use Rattle.floats.proofs.Laws.{answers}
 use Rattle.induction.proofs.fit.discounted.Statement.{statement}
 use Rattle.induction.proofs.fit.discounted.Tie as tie
 

@@ -1,5 +1,5 @@
 -- `fit::passed` meets its contract. Assumes nothing.
-use Rattle.elementary.proofs.Laws.{answers}
+use Rattle.floats.proofs.Laws.{answers}
 use Rattle.induction.proofs.fit.passed.Statement.{statement}
 use Rattle.induction.proofs.fit.passed.Tie as tie
 

@@ -1,6 +1,6 @@
 -- `fit::shift_from` meets its contract. Assumes nothing.
 use Rattle.induction.specs.laws.FitSteps.{shiftFrom}
-use Rattle.elementary.proofs.Laws.{answers}
+use Rattle.floats.proofs.Laws.{answers}
 use Rattle.induction.proofs.fit.shift_from.Statement.{statement}
 use Rattle.induction.proofs.fit.shift_from.Tie as tie
 

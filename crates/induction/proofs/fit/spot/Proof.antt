@@ -1,5 +1,5 @@
 -- `fit::spot` meets its contract. Assumes nothing.
-use Rattle.elementary.proofs.Laws.{answers}
+use Rattle.floats.proofs.Laws.{answers}
 use Rattle.induction.proofs.fit.spot.Statement.{statement}
 use Rattle.induction.proofs.fit.spot.Tie as tie
 

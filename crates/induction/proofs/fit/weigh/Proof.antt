@@ -1,6 +1,6 @@
 -- `fit::weigh` meets its contract. Assumes nothing.
 use Rattle.induction.specs.laws.FitSteps.{weighOne}
-use Rattle.elementary.proofs.Laws.{answers}
+use Rattle.floats.proofs.Laws.{answers}
 use Rattle.induction.proofs.fit.weigh.Statement.{statement}
 use Rattle.induction.proofs.fit.weigh.Tie as tie
 

@@ -8,17 +8,17 @@ use mir.Facts.{toZ-ofZ}
 use lib.ListN.{length, getD}
 use lib.IntN.{ℤ, pos}
 use lib.Ieee.{Float, nan}
-use Rattle.elementary.specs.declared.Refusal.{Refusal}
-use Rattle.elementary.specs.declared.Answer.{Answer}
-use Rattle.elementary.specs.declared.Answer.the-variants.{Value, Refused}
-use Rattle.elementary.specs.Answers.{plusZero, andThen}
+use Rattle.floats.specs.declared.Refusal.{Refusal}
+use Rattle.floats.specs.declared.Answer.{Answer}
+use Rattle.floats.specs.declared.Answer.the-variants.{Value, Refused}
+use Rattle.floats.specs.Answers.{plusZero, andThen}
 use Rattle.lattice.specs.Layers.{nodeFloat}
 use Rattle.induction.specs.Fit.{weighted}
 use Rattle.lattice.specs.laws.Stored.{numbersIn, rowOf}
 use Rattle.lattice.specs.laws.StoredAt.{rowFrom, row-from, row-done}
 use Rattle.lattice.specs.laws.Binds.{went-on, stopped-at}
 use Rattle.induction.specs.laws.FitSteps.{weighOne, weighted-more}
-use Rattle.elementary.proofs.Laws.{answers}
+use Rattle.floats.proofs.Laws.{answers}
 use Rattle.induction.proofs.fit.weighted_sum.Statement.{statement}
 use Rattle.induction.proofs.fit.weighted_sum.Tie as tie
 

@@ -2,7 +2,7 @@
 use mathlib.Core.Path.{refl, _∙_}
 use native.Mathlib.Omega.{arith}
 use lib.ListN.{length-set}
-use Rattle.elementary.specs.Answers.{one}
+use Rattle.floats.specs.Answers.{one}
 use Rattle.induction.specs.laws.LaidFront.{fronted, laid-over}
 use Rattle.induction.specs.laws.FitLaid.{root-row}
 use Rattle.induction.proofs.fitting.fit_tree.Statement.{statement}

@@ -3,10 +3,10 @@ use mathlib.Core.Path.{sym, refl}
 use mathlib.Core.List.{List}
 use lib.Seq.{length-take-le}
 use lib.Ieee.{Float}
-use Rattle.elementary.proofs.Laws.{taken-eq, left-eq}
+use Rattle.floats.proofs.Laws.{taken-eq, left-eq}
 use Rattle.induction.specs.laws.Advances.{advancedAt}
 use Rattle.induction.proofs.Outcomes.{beside}
-use Rattle.elementary.proofs.Laws.{answers}
+use Rattle.floats.proofs.Laws.{answers}
 use Rattle.induction.proofs.layer.advance.Statement.{statement}
 use Rattle.induction.proofs.layer.advance.Tie as tie
 

@@ -1,5 +1,5 @@
 -- `layer::layer_shift` meets its contract. Assumes nothing.
-use Rattle.elementary.proofs.Laws.{answers}
+use Rattle.floats.proofs.Laws.{answers}
 use Rattle.induction.proofs.layer.layer_shift.Statement.{statement}
 use Rattle.induction.proofs.layer.layer_shift.Tie as tie
 

@@ -1,7 +1,7 @@
 -- `layer::shift_of` meets its contract. Assumes nothing.
 use Rattle.induction.specs.Fit.{shiftOf}
 use Rattle.induction.specs.laws.FitSteps.{shiftFrom}
-use Rattle.elementary.proofs.Laws.{answers}
+use Rattle.floats.proofs.Laws.{answers}
 use Rattle.induction.proofs.layer.shift_of.Statement.{statement}
 use Rattle.induction.proofs.layer.shift_of.Tie as tie
 

@@ -1,7 +1,7 @@
 -- `rows::current` meets its contract. Assumes nothing.
 use mathlib.Core.Path.{sym}
 use lib.Seq.{length-take-le}
-use Rattle.elementary.proofs.Laws.{answers}
+use Rattle.floats.proofs.Laws.{answers}
 use Rattle.induction.proofs.rows.current.Statement.{statement}
 use Rattle.induction.proofs.rows.current.Tie as tie
 

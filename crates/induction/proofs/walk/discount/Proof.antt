@@ -1,6 +1,6 @@
 -- `walk::discount` meets its contract. Assumes nothing.
 use Rattle.induction.specs.laws.WalkSteps.{discountWith}
-use Rattle.elementary.proofs.Laws.{answers}
+use Rattle.floats.proofs.Laws.{answers}
 use Rattle.induction.proofs.walk.discount.Statement.{statement}
 use Rattle.induction.proofs.walk.discount.Tie as tie
 

@@ -1,5 +1,5 @@
 -- `walk::lower` meets its contract. Assumes nothing.
-use Rattle.elementary.proofs.Laws.{answers}
+use Rattle.floats.proofs.Laws.{answers}
 use Rattle.induction.proofs.walk.lower.Statement.{statement}
 use Rattle.induction.proofs.walk.lower.Tie as tie
 

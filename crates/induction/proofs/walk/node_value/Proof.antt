@@ -2,7 +2,7 @@
 use native.Mathlib.Omega.{arith}
 use Rattle.lattice.specs.laws.Positions.{spot-below}
 use Rattle.induction.specs.laws.WalkSteps.{valueWith}
-use Rattle.elementary.proofs.Laws.{answers}
+use Rattle.floats.proofs.Laws.{answers}
 use Rattle.induction.proofs.walk.node_value.Statement.{statement}
 use Rattle.induction.proofs.walk.node_value.Tie as tie
 

@@ -8,10 +8,10 @@ use mir.Facts.{toZ-ofZ}
 use lib.ListN.{length, getD, set, drop, drop-of-length-le, length-set}
 use lib.IntN.{ℤ, pos}
 use lib.Ieee.{Float, nan}
-use Rattle.elementary.specs.declared.Refusal.{Refusal}
-use Rattle.elementary.specs.declared.Answer.{Answer}
-use Rattle.elementary.specs.declared.Answer.the-variants.{Value, Refused}
-use Rattle.elementary.specs.Answers.{onAnswer}
+use Rattle.floats.specs.declared.Refusal.{Refusal}
+use Rattle.floats.specs.declared.Answer.{Answer}
+use Rattle.floats.specs.declared.Answer.the-variants.{Value, Refused}
+use Rattle.floats.specs.Answers.{onAnswer}
 use Rattle.terms.specs.declared.Check.{Check}
 use Rattle.terms.specs.declared.Check.the-variants.{Passed}
 use Rattle.terms.specs.Outcomes.{Outcome, valued}
@@ -28,7 +28,7 @@ use Rattle.lattice.specs.laws.Rows.{outcomeOf, checkOf}
 use Rattle.lattice.specs.laws.Binds.{went-on, stopped-at}
 use Rattle.induction.specs.laws.WalkSteps.{valueWith, rolledAt}
 use Rattle.induction.proofs.Outcomes.{passes}
-use Rattle.elementary.proofs.Laws.{answers}
+use Rattle.floats.proofs.Laws.{answers}
 use Rattle.induction.proofs.walk.roll.Statement.{statement}
 use Rattle.induction.proofs.walk.roll.Tie as tie
 

@@ -1,6 +1,6 @@
 -- `walk::summed` meets its contract. Assumes nothing.
 use Rattle.induction.specs.laws.WalkSteps.{sumOf}
-use Rattle.elementary.proofs.Laws.{answers}
+use Rattle.floats.proofs.Laws.{answers}
 use Rattle.induction.proofs.walk.summed.Statement.{statement}
 use Rattle.induction.proofs.walk.summed.Tie as tie
 

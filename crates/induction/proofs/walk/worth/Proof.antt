@@ -1,6 +1,6 @@
 -- `walk::worth` meets its contract. Assumes nothing.
 use mathlib.Core.Path.{refl}
-use Rattle.elementary.proofs.Laws.{answers, left-call, taken-call}
+use Rattle.floats.proofs.Laws.{answers, left-call, taken-call}
 use Rattle.induction.specs.laws.WalkSteps.{worthOf}
 use Rattle.induction.proofs.walk.worth.Statement.{statement}
 use Rattle.induction.proofs.walk.worth.Tie as tie

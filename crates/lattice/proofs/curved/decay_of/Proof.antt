@@ -1,5 +1,5 @@
 -- `curved::decay_of` meets its contract. Assumes nothing.
-use Rattle.elementary.proofs.Laws.{answers}
+use Rattle.floats.proofs.Laws.{answers}
 use Rattle.lattice.proofs.curved.decay_of.Statement.{statement}
 use Rattle.lattice.proofs.curved.decay_of.Tie as tie
 

@@ -1,6 +1,6 @@
 -- `step_of` meets its contract: by the test, then by the case of the spacing. Assumes nothing.
 use mathlib.Core.Path.{sym, _∙_}
-use Rattle.elementary.specs.Answers.{onAnswer}
+use Rattle.floats.specs.Answers.{onAnswer}
 use Rattle.lattice.specs.laws.MadeSteps.{step-is}
 use Rattle.lattice.proofs.grow.step_of.Statement.{statement}
 use Rattle.lattice.proofs.grow.step_of.Tie as tie

@@ -3,8 +3,8 @@ use mathlib.Core.Path.{sym, _∙_}
 use borrow.Author.Needs.{needs}
 use mir.Facts.{toZ-ofZ}
 use Rattle.lattice.proofs.Signed.{back}
-use Rattle.elementary.proofs.Laws.{finite-by-call}
-use Rattle.elementary.specs.laws.Whole.{rounded-whole}
+use Rattle.floats.proofs.Laws.{finite-by-call}
+use Rattle.floats.specs.laws.Whole.{rounded-whole}
 use Rattle.lattice.specs.laws.Making.{stepFrom, centredFrom, centred-transition, from-rounded, quotientOf}
 use Rattle.lattice.proofs.Laws.{transitions}
 use Rattle.lattice.proofs.node.transition_of.Statement.{statement}

@@ -1,5 +1,5 @@
 -- `refusals::row_refused` meets its contract. Assumes nothing.
-use Rattle.elementary.proofs.Laws.{answers}
+use Rattle.floats.proofs.Laws.{answers}
 use Rattle.lattice.proofs.refusals.row_refused.Statement.{statement}
 use Rattle.lattice.proofs.refusals.row_refused.Tie as tie
 

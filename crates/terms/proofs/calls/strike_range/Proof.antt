@@ -1,7 +1,7 @@
 -- `strike_range` meets its contract: in the loop, no strike before the index is outside. Assumes nothing.
 use Prim.Native.Nat.{_-_}
 use lib.ListN.{length, getD}
-use Rattle.elementary.specs.Answers.{plusZero}
+use Rattle.floats.specs.Answers.{plusZero}
 use Rattle.terms.specs.Numbers.{million}
 use Rattle.terms.specs.Checks.{notAbove}
 use Rattle.terms.proofs.Seeking.{Seeking, seeking}

@@ -1,7 +1,7 @@
 -- `before_next` meets its contract: the time that is compared is that of the pillar's day. Assumes nothing.
 use mathlib.Core.Path.{ap}
 use lib.Ieee.{lt}
-use Rattle.elementary.proofs.Laws.{answers}
+use Rattle.floats.proofs.Laws.{answers}
 use Rattle.terms.proofs.curve.before_next.Statement.{statement}
 use Rattle.terms.proofs.curve.before_next.Tie as tie
 

@@ -1,5 +1,5 @@
 -- `on_line` meets its contract: each operation is tested, in the definition's order. Assumes nothing.
-use Rattle.elementary.proofs.Laws.{answers}
+use Rattle.floats.proofs.Laws.{answers}
 use Rattle.terms.proofs.curve.on_line.Statement.{statement}
 use Rattle.terms.proofs.curve.on_line.Tie as tie
 

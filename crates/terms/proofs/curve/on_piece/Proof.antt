@@ -1,6 +1,6 @@
 -- `on_piece` meets its contract: the line goes through the two pillars that were read. Assumes nothing.
 use Rattle.terms.proofs.Curving.{between-read}
-use Rattle.elementary.proofs.Laws.{answers}
+use Rattle.floats.proofs.Laws.{answers}
 use Rattle.terms.proofs.curve.on_piece.Statement.{statement}
 use Rattle.terms.proofs.curve.on_piece.Tie as tie
 

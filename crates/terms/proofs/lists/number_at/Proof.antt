@@ -1,6 +1,6 @@
 -- `number_at` meets its contract: what stands for a number past the end makes no difference, as the index is inside. Assumes nothing.
 use lib.Ieee.{nan}
-use Rattle.elementary.specs.Answers.{plusZero}
+use Rattle.floats.specs.Answers.{plusZero}
 use Rattle.terms.proofs.Laws.{tests, same-at}
 use Rattle.terms.proofs.lists.number_at.Statement.{statement}
 use Rattle.terms.proofs.lists.number_at.Tie as tie

@@ -1,7 +1,7 @@
 -- `all_within` meets its contract: in the loop, no number before the index is outside. Assumes nothing.
 use Prim.Native.Nat.{_-_}
 use lib.ListN.{length, getD}
-use Rattle.elementary.specs.Answers.{plusZero}
+use Rattle.floats.specs.Answers.{plusZero}
 use Rattle.terms.specs.Checks.{beyond}
 use Rattle.terms.proofs.Seeking.{Seeking, seeking}
 use Rattle.terms.proofs.numbers.all_within.Statement.{statement}

@@ -2,7 +2,7 @@
 use mathlib.Core.Path.{ap, _∙_}
 use lib.Ieee.{Float, lt}
 use lib.ListN.{getD}
-use Rattle.elementary.specs.Answers.{plusZero}
+use Rattle.floats.specs.Answers.{plusZero}
 use Rattle.terms.proofs.Laws.{tests}
 use Rattle.terms.proofs.numbers.rises_at.Statement.{statement}
 use Rattle.terms.proofs.numbers.rises_at.Tie as tie

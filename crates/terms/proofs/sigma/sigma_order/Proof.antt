@@ -4,7 +4,7 @@ use lib.ListN.{length, getD}
 use mathlib.Core.Bool.{not, _&&_}
 use lib.Dec.{ltb}
 use lib.Ieee.{lt}
-use Rattle.elementary.specs.Answers.{plusZero}
+use Rattle.floats.specs.Answers.{plusZero}
 use Rattle.terms.proofs.Seeking.{Seeking, seeking}
 use Rattle.terms.proofs.sigma.sigma_order.Statement.{statement}
 use Rattle.terms.proofs.sigma.sigma_order.Tie as tie

@@ -2,7 +2,7 @@
 use Prim.Native.Nat.{_-_}
 use lib.ListN.{length, getD}
 use mathlib.Core.Bool.{_||_}
-use Rattle.elementary.specs.Answers.{plusZero}
+use Rattle.floats.specs.Answers.{plusZero}
 use Rattle.terms.specs.Numbers.{float}
 use Rattle.terms.specs.Checks.{notUpTo}
 use Rattle.terms.proofs.Seeking.{Seeking, seeking}

@@ -2,7 +2,7 @@
 use mathlib.Core.Path.{refl}
 use lib.Ieee.{ofInt, ofBits}
 use Rattle.terms.specs.Times.{yearFraction}
-use Rattle.elementary.proofs.Laws.{answers}
+use Rattle.floats.proofs.Laws.{answers}
 use Rattle.terms.proofs.time.year_fraction.Statement.{statement}
 use Rattle.terms.proofs.time.year_fraction.Tie as tie
 

@@ -27,8 +27,8 @@ enum-told-4 c = search sequence
 returns-2 : tie.Need-returns-2
 returns-2 c = search sequence
 
-spread-range-requires : tie.Need-spread-range-requires
-spread-range-requires c κs = search sequence
+within-requires : tie.Need-within-requires
+within-requires c κs = search sequence
 
 returns-3 : tie.Need-returns-3
 returns-3 c = search sequence
@@ -45,5 +45,5 @@ tree-fields-spec =
     enum-told-3
     enum-told-4
     returns-2
-    spread-range-requires
+    within-requires
     returns-3)

@@ -1,7 +1,7 @@
 -- `zero::zero_floats` meets its contract. The invariant: the places passed hold 0, the rest is as it was. Assumes nothing.
 use Prim.Native.Nat.{_-_}
 use lib.ListN.{length}
-use Rattle.elementary.specs.Answers.{plusZero}
+use Rattle.floats.specs.Answers.{plusZero}
 use Rattle.induction.proofs.Filling.{Filled, filling}
 use Rattle.treebasedbondpricer.proofs.zero.zero_floats.Statement.{statement}
 use Rattle.treebasedbondpricer.proofs.zero.zero_floats.Tie as tie

@@ -1,0 +1,5 @@
+-- Laws of brackets and roots that proofs and the crates above may cite.
+pub mod Cases
+pub mod Evaluations
+pub mod Roots
+pub mod SoughtRoots

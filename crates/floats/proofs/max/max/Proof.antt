@@ -1,0 +1,33 @@
+-- `max` meets its contract: the arguments are tested, and the rest is `max_at`. Assumes nothing.
+use Rattle.floats.proofs.Laws.{answers}
+use Rattle.floats.proofs.max.max.Statement.{statement}
+use Rattle.floats.proofs.max.max.Tie as tie
+
+not-finite-requires : tie.Need-not-finite-requires
+not-finite-requires c κs = search answers
+
+returns : tie.Need-returns
+returns c = search answers
+
+not-finite-requires-2 : tie.Need-not-finite-requires-2
+not-finite-requires-2 c κs = search answers
+
+returns-2 : tie.Need-returns-2
+returns-2 c = search answers
+
+max-at-requires : tie.Need-max-at-requires
+max-at-requires c κs = search answers
+
+returns-3 : tie.Need-returns-3
+returns-3 c = search answers
+
+pub max-spec : {M : Type 1} → statement M
+max-spec =
+    tie.close
+    (tie.spec
+    not-finite-requires
+    returns
+    not-finite-requires-2
+    returns-2
+    max-at-requires
+    returns-3)

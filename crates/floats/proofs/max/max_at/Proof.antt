@@ -1,0 +1,33 @@
+-- `max_at` meets its contract: each step is the definition's. Assumes nothing.
+use Rattle.floats.proofs.Laws.{answers}
+use Rattle.floats.proofs.max.max_at.Statement.{statement}
+use Rattle.floats.proofs.max.max_at.Tie as tie
+
+not-finite-requires : tie.Need-not-finite-requires
+not-finite-requires c κs = search answers
+
+returns : tie.Need-returns
+returns c = search answers
+
+not-finite-requires-2 : tie.Need-not-finite-requires-2
+not-finite-requires-2 c κs = search answers
+
+returns-2 : tie.Need-returns-2
+returns-2 c = search answers
+
+greater-requires : tie.Need-greater-requires
+greater-requires c κs = search answers
+
+returns-3 : tie.Need-returns-3
+returns-3 c = search answers
+
+pub max-at-spec : {M : Type 1} → statement M
+max-at-spec =
+    tie.close
+    (tie.spec
+    not-finite-requires
+    returns
+    not-finite-requires-2
+    returns-2
+    greater-requires
+    returns-3)

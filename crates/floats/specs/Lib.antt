@@ -1,0 +1,5 @@
+pub mod Answers
+pub mod Whole
+pub mod Middle
+pub mod Extremes
+pub mod laws

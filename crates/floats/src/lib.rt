@@ -1,0 +1,71 @@
+// Floats and what a function on them answers: the test that follows every operation, whole numbers, extremes and the
+// midpoint, each equal to its definition bit for bit.
+
+pub mod ceil;
+pub mod finite;
+pub mod max;
+pub mod midpoint;
+pub mod min;
+pub mod round;
+mod sign;
+
+// Why and where a call is refused.
+pub struct Refusal {
+    pub number: u32,
+    pub place: u32,
+}
+
+// The refusal numbers by name.
+impl Refusal {
+    // Found in the input.
+    // A grid setting outside its range.
+    pub const SETTING: u32 = 1;
+    // A list's count outside its limits, or parallel slices of unequal length.
+    pub const COUNT: u32 = 2;
+    // A day out of range, cashflow days falling, a kind not 0 or 1.
+    pub const DAY: u32 = 3;
+    // A number that isn't finite or lies outside its range.
+    pub const NUMBER: u32 = 4;
+    // A call's end before its start.
+    pub const CALL_ORDER: u32 = 5;
+    // Sigma times not strictly rising.
+    pub const SIGMA_ORDER: u32 = 6;
+    // No cashflow after settlement.
+    pub const NOTHING_PAID: u32 = 7;
+    // Pillar days not strictly rising, the first not settlement, the last before maturity.
+    pub const PILLAR_ORDER: u32 = 8;
+    // A compounding code unknown, or a frequency unusable.
+    pub const RATE: u32 = 9;
+
+    // Found in the working state.
+    // No principal at an eligible step.
+    pub const NO_PRINCIPAL: u32 = 20;
+    // A layer doesn't fit the lent slices.
+    pub const NO_ROOM: u32 = 21;
+    // Variance at or below 2^−52 on some steps only.
+    pub const NO_VARIANCE: u32 = 22;
+    // A middle node beyond ±1,000,000.
+    pub const NODE_TOO_FAR: u32 = 23;
+    // A probability below −1e-12.
+    pub const PROBABILITY: u32 = 24;
+    // A factor at or below 0.
+    pub const FACTOR: u32 = 25;
+    // exp or ln outside its range, or sqrt below 0.
+    pub const OUTSIDE: u32 = 26;
+    // The result of an operation isn't finite.
+    pub const NOT_FINITE: u32 = 27;
+    // Yield base or simple factor at or below 0.
+    pub const YIELD_BASE: u32 = 28;
+    // No bracket.
+    pub const NO_BRACKET: u32 = 29;
+    // Not converged.
+    pub const NOT_CONVERGED: u32 = 30;
+    // The tried spread is above 1.
+    pub const SPREAD_ABOVE: u32 = 36;
+}
+
+// What a function on floats answers.
+pub enum Answer {
+    Value(f64),
+    Refused(Refusal),
+}

@@ -1,0 +1,3 @@
+pub mod Rates
+pub mod Prices
+pub mod laws

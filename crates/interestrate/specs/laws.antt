@@ -1,0 +1,2 @@
+-- Laws of rates that proofs and the crates above may cite.
+pub mod Found

@@ -1,0 +1,3 @@
+-- Laws of what is sought that proofs and the crates above may cite.
+pub mod Sought
+pub mod Seeking
