@@ -1,0 +1,3 @@
+pub mod Calendar
+pub mod laws
+pub mod Examples

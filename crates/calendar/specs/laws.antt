@@ -1,0 +1,4 @@
+-- The laws of the definitions.
+pub mod Days
+pub mod BothWays
+pub mod Search

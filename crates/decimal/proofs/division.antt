@@ -1,0 +1,2 @@
+-- What the proof of `nearest` uses.
+mod Rounding

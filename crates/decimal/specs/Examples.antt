@@ -1,0 +1,109 @@
+-- Words as they are read and numbers as they are shown, computed by the checker.
+use Prim.Native.Nat.{ℕ}
+use Prim.Native.Char.{code}
+use Prim.Native.String.{String}
+use Prim.Native.String as text
+use mathlib.Core.Path.{_≡_, refl}
+use mathlib.Core.Bool.{Bool, true, false}
+use mathlib.Core.List.{List, [], _∷_}
+use lib.Ieee.{nan, inf, binary64, ofBits}
+use lib.Ieee as ieee
+use Rattle.decimal.specs.declared.ReadDecimal.{ReadDecimal}
+use Rattle.decimal.specs.declared.ReadDecimal.the-variants.{Number, Malformed, TooLong}
+use Rattle.decimal.specs.declared.writing.TwoDecimals.{TwoDecimals}
+use Rattle.decimal.specs.declared.writing.TwoDecimals.the-variants.{Shown, Beyond}
+use Rattle.decimal.specs.Decimal.{readDecimal}
+use Rattle.decimal.specs.Writing.{twoDecimals, hexDigits}
+
+-- The bytes of a word of plain letters.
+abbrev pub bytes : String → List ℕ
+bytes text.String.[] = []
+bytes (text.String._∷_ c s) = code c ∷ bytes s
+
+abbrev reads : String → ReadDecimal
+reads word = readDecimal (bytes word)
+
+abbrev bits : ℕ → ReadDecimal
+bits n = Number (ofBits binary64 n)
+
+abbrev shows : ℕ → TwoDecimals
+shows n = twoDecimals (ofBits binary64 n)
+
+abbrev hundredths : Bool → ℕ → ℕ → TwoDecimals
+hundredths negative whole cents = Shown (record { negative = negative; whole = whole; cents = cents })
+
+pub record Starred : Type 0 where
+  pub tenth : reads "0.1" ≡ bits 0x3fb9_9999_9999_999a
+  pub strike : reads "101.5" ≡ bits 0x4059_6000_0000_0000
+  pub whole : reads "45000" ≡ bits 0x40e5_f900_0000_0000
+  pub below-zero : reads "-0.0025" ≡ bits 0xbf64_7ae1_47ae_147b
+  pub minus-zero : reads "-0" ≡ bits 0x8000_0000_0000_0000
+  -- Seventeen digits, and halfway between two doubles.
+  pub longest : reads "99999999999999999" ≡ bits 0x4376_3457_85d8_a000
+  pub next-to-0·3 : reads "0.30000000000000004" ≡ bits 0x3fd3_3333_3333_3334
+  pub halfway : reads "9007199254740993" ≡ bits 0x4340_0000_0000_0000
+  -- The first byte that no number has there.
+  pub empty : reads "" ≡ Malformed 0
+  pub sign-alone : reads "-" ≡ Malformed 1
+  pub no-whole-part : reads ".5" ≡ Malformed 0
+  pub no-decimals : reads "1." ≡ Malformed 2
+  pub two-points : reads "1.2.3" ≡ Malformed 3
+  pub two-signs : reads "--1" ≡ Malformed 1
+  pub plus : reads "+1" ≡ Malformed 0
+  pub exponent : reads "1e5" ≡ Malformed 1
+  pub not-a-number : reads "nan" ≡ Malformed 0
+  pub infinity : reads "inf" ≡ Malformed 0
+  -- The eighteenth digit, and the twenty-third decimal.
+  pub too-long : reads "100000000000000000" ≡ TooLong 17
+  pub too-fine : reads "0.00000000000000000000001" ≡ TooLong 24
+  -- 101.5, 2.675, which is less than it says, and -0.005, which is more.
+  pub shown : shows 0x4059_6000_0000_0000 ≡ hundredths false 101 50
+  pub under : shows 0x4005_6666_6666_6666 ≡ hundredths false 2 67
+  pub over : shows 0xbf74_7ae1_47ae_147b ≡ hundredths true 0 1
+  -- 0.125 and 0.375 lie halfway, and go to the even hundredth.
+  pub tie-down : shows 0x3fc0_0000_0000_0000 ≡ hundredths false 0 12
+  pub tie-up : shows 0x3fd8_0000_0000_0000 ≡ hundredths false 0 38
+  -- -0, the last number that is shown, and those that are not.
+  pub shown-zero : shows 0x8000_0000_0000_0000 ≡ hundredths true 0 0
+  pub last-shown : shows 0x433f_ffff_ffff_ffff ≡ hundredths false 9007199254740991 0
+  pub too-large : shows 0xc340_0000_0000_0000 ≡ Beyond
+  pub no-infinity : twoDecimals (inf true) ≡ Beyond
+  pub no-nan : twoDecimals nan ≡ Beyond
+  pub digits : hexDigits 0x3fb9_9999_9999_999a ≡ bytes "3fb999999999999a"
+
+pub starred : Starred
+unfolding readDecimal twoDecimals hexDigits ieee.ofBits
+starred =
+    record {
+      tenth = refl;
+      strike = refl;
+      whole = refl;
+      below-zero = refl;
+      minus-zero = refl;
+      longest = refl;
+      next-to-0·3 = refl;
+      halfway = refl;
+      empty = refl;
+      sign-alone = refl;
+      no-whole-part = refl;
+      no-decimals = refl;
+      two-points = refl;
+      two-signs = refl;
+      plus = refl;
+      exponent = refl;
+      not-a-number = refl;
+      infinity = refl;
+      too-long = refl;
+      too-fine = refl;
+      shown = refl;
+      under = refl;
+      over = refl;
+      tie-down = refl;
+      tie-up = refl;
+      shown-zero = refl;
+      last-shown = refl;
+      too-large = refl;
+      no-infinity = refl;
+      no-nan = refl;
+      digits = refl;
+    }
