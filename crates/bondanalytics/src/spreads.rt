@@ -24,7 +24,7 @@ ghost use Rattle.terms.specs.Outcomes.{finiteThen};
 ghost use Rattle.hullwhite.specs.laws.Filled.{modelOf};
 ghost use Rattle.treebasedbondpricer.specs.Entry.{marketOf, callsIn};
 ghost use Rattle.lattice.specs.laws.Growing.{roomLeft};
-ghost use Rattle.induction.specs.laws.WalkMore.{callsOf};
+ghost use Rattle.backwardinduction.specs.laws.WalkMore.{callsOf};
 ghost use Rattle.treebasedbondpricer.specs.laws.FittedIn.{fittedOver};
 ghost use Rattle.bondanalytics.specs.Spreads.{Solved};
 ghost use Rattle.bondanalytics.specs.laws.SpreadTree.{foundOver};

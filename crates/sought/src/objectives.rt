@@ -1,10 +1,10 @@
 // What the solver evaluates: the worth of what is priced at a tried argument, less the target.
 use crate::Priced;
 use crate::Sought;
+use backwardinduction::walking::root_value;
 use floats::Answer;
 use floats::Refusal;
 use floats::finite::not_finite;
-use induction::walking::root_value;
 use interestrate::YieldPrice;
 use interestrate::prices::yield_price_and_derivative;
 ghost use mathlib.Core.Path.{_≡_};

@@ -19,8 +19,8 @@ use Rattle.treebasedbondpricer.specs.declared.TreeValue.{TreeValue}
 use Rattle.treebasedbondpricer.specs.declared.TreeValue.the-variants.{Value, Refused}
 use Rattle.lattice.specs.Layers.{At, valueAt, Room}
 use Rattle.lattice.specs.Lattice.{Lattice, lattice, countOf, nodeCount}
-use Rattle.induction.specs.Fit.{fitted, shiftsFrom}
-use Rattle.induction.specs.Walk.{walkFrom}
+use Rattle.forwardinduction.specs.Fit.{fitted, shiftsFrom}
+use Rattle.backwardinduction.specs.Walk.{walkFrom}
 
 -- The tree before the walk: time_step, layers and shifts. Nothing of it reads the calls or the cashflows.
 pub record Fitted : Type 0 where

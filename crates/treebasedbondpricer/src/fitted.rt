@@ -2,8 +2,8 @@
 
 use floats::Refusal;
 use floats::finite::not_finite;
+use forwardinduction::fitting::fit_tree;
 use hullwhite::variance::transition_variances;
-use induction::fitting::fit_tree;
 use lattice::flat::all_flat;
 use lattice::lattice::lattice_transitions;
 use terms::Check;

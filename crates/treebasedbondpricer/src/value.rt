@@ -3,11 +3,11 @@
 use crate::TreeValue;
 use crate::fitted::FittedTree;
 use crate::fitted::fitted_tree;
+use backwardinduction::walking::root_value;
 use bondevents::BondEventGrid;
 use bondevents::marks::marks_of;
 use bondevents::marks::prices_of;
 use floats::Answer;
-use induction::walking::root_value;
 use lattice::lattice::node_count;
 ghost use mathlib.Core.Path.{_≡_};
 ghost use Prim.Native.Nat.{_+_, _^_, _<_, _≤_};
@@ -17,7 +17,7 @@ ghost use Rattle.terms.specs.Numbers.{float};
 ghost use Rattle.terms.specs.Outcomes.{follow, finiteThen};
 ghost use Rattle.hullwhite.specs.laws.Filled.{modelOf};
 ghost use Rattle.lattice.specs.laws.Growing.{roomLeft};
-ghost use Rattle.induction.specs.laws.WalkMore.{callsOf};
+ghost use Rattle.backwardinduction.specs.laws.WalkMore.{callsOf};
 ghost use Rattle.treebasedbondpricer.specs.laws.FittedIn.{fittedOver};
 ghost use Rattle.treebasedbondpricer.specs.laws.Valued.{treeOf, unfitValue, countedValue, walked};
 

@@ -21,7 +21,7 @@ use Rattle.bondevents.specs.declared.EventGrid.{EventGrid}
 use Rattle.bondevents.specs.Grid.{eventGrid}
 use Rattle.bondevents.specs.Parts.{gridOutcome, markOf, priceOfStep}
 use Rattle.lattice.specs.Layers.{At, Room}
-use Rattle.induction.specs.laws.WalkMore.{callsOf}
+use Rattle.backwardinduction.specs.laws.WalkMore.{callsOf}
 use Rattle.treebasedbondpricer.specs.declared.fitted.FittedTree.{FittedTree}
 use Rattle.treebasedbondpricer.specs.declared.fitted.FittedTree.the-variants as tree
 use Rattle.treebasedbondpricer.specs.Tree.{Fitted, Lent, roomOf, zeroed}

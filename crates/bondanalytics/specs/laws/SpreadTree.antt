@@ -25,7 +25,7 @@ use Rattle.bondevents.specs.Grid.{eventGrid}
 use Rattle.treebasedbondpricer.specs.declared.TreeValue.{TreeValue}
 use Rattle.treebasedbondpricer.specs.declared.TreeValue.the-variants as tree
 use Rattle.lattice.specs.Layers.{At, valueAt, Room}
-use Rattle.induction.specs.Walk.{walkFrom}
+use Rattle.backwardinduction.specs.Walk.{walkFrom}
 use Rattle.lattice.specs.Lattice.{nodeCount}
 use Rattle.treebasedbondpricer.specs.Tree.{Fitted, fittedTree, latticeValue, treeValue}
 use Rattle.treebasedbondpricer.specs.laws.Valued.{rowOver, rootOver}

@@ -12,10 +12,10 @@ use Rattle.terms.specs.Numbers.{float}
 use Rattle.terms.specs.Outcomes.{onOutcome}
 use Rattle.terms.specs.Checks.{beyond}
 use Rattle.lattice.specs.Lattice.{rootLayer}
-use Rattle.induction.specs.Walk.{walkFrom}
+use Rattle.backwardinduction.specs.Walk.{walkFrom}
 use Rattle.lattice.specs.laws.Stored.{numbersIn}
 use Rattle.lattice.specs.laws.Laid.{frontNodes, layersIn, finalIn, Laid}
-use Rattle.induction.specs.laws.WalkMore.{callsOf}
+use Rattle.backwardinduction.specs.laws.WalkMore.{callsOf}
 use Rattle.treebasedbondpricer.specs.laws.Valued.{rootOver}
 use Rattle.sought.specs.declared.Sought.{Sought}
 use Rattle.sought.specs.declared.Priced.{Priced}

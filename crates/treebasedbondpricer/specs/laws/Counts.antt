@@ -18,7 +18,7 @@ use Rattle.terms.specs.laws.Outcomes.{Gives, gives, given-of, gives-follow, giv
 use Rattle.hullwhite.specs.Variance.{stepVariance, variancesFrom}
 use Rattle.lattice.specs.Layers.{At, Room}
 use Rattle.lattice.specs.Lattice.{Layer, lattice}
-use Rattle.induction.specs.Fit.{weighted, shiftOf, onward, shiftsFrom}
+use Rattle.forwardinduction.specs.Fit.{weighted, shiftOf, onward, shiftsFrom}
 use Rattle.treebasedbondpricer.specs.Tree.{Fitted, fittedTree}
 use Rattle.lattice.specs.laws.Proper.{Proper, proper-of-lattice, layers-of-lattice}
 

@@ -20,9 +20,9 @@ use Rattle.treebasedbondpricer.specs.declared.fitted.FittedTree.{FittedT
 use Rattle.treebasedbondpricer.specs.declared.fitted.FittedTree.the-variants as tree
 use Rattle.lattice.specs.Layers.{Room}
 use Rattle.lattice.specs.Lattice.{Layer, Lattice, lattice, rootLayer, allFlat}
-use Rattle.induction.specs.Fit.{fitted, shiftsFrom}
+use Rattle.forwardinduction.specs.Fit.{fitted, shiftsFrom}
 use Rattle.treebasedbondpricer.specs.Tree.{Fitted}
-use Rattle.induction.specs.laws.Found.{Found}
+use Rattle.forwardinduction.specs.laws.Found.{Found}
 use Rattle.lattice.specs.laws.Laid.{layersIn}
 use Rattle.lattice.specs.laws.LaidTree.{LaidTree, LaysTree}
 

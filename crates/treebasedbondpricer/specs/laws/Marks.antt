@@ -4,7 +4,7 @@ use mathlib.Core.Bool.{Bool, true, false, cond}
 use mathlib.Core.List.{List, [], _∷_, map}
 use lib.Dec.{eqb}
 use Rattle.bondevents.specs.declared.CallStep.{CallStep}
-use Rattle.induction.specs.laws.WalkMore.{callsOf}
+use Rattle.backwardinduction.specs.laws.WalkMore.{callsOf}
 
 mark-back : (b : Bool) → eqb (cond b 1 0) 1 ≡ b
 mark-back true = refl

@@ -17,12 +17,12 @@ use Rattle.treebasedbondpricer.specs.declared.TreeValue.{TreeValue}
 use Rattle.treebasedbondpricer.specs.declared.TreeValue.the-variants.{Value}
 use Rattle.lattice.specs.Layers.{Room}
 use Rattle.lattice.specs.Lattice.{Layer}
-use Rattle.induction.specs.Walk.{walkFrom}
+use Rattle.backwardinduction.specs.Walk.{walkFrom}
 use Rattle.treebasedbondpricer.specs.Tree.{fittedTree, latticeValue}
 use Rattle.lattice.specs.laws.Proper.{Proper}
 use Rattle.treebasedbondpricer.specs.laws.Counts.{ready-of-fitted}
-use Rattle.induction.specs.laws.Rising.{Higher, higher-refl, Rows, at-node}
-use Rattle.induction.specs.laws.WalkRising.{walk-higher}
+use Rattle.backwardinduction.specs.laws.Rising.{Higher, higher-refl, Rows, at-node}
+use Rattle.backwardinduction.specs.laws.WalkRising.{walk-higher}
 
 -- Two values with the same node count, the second no lower than the first.
 pub data Values : TreeValue → TreeValue → Type 0 where

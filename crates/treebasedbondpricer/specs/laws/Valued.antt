@@ -20,12 +20,12 @@ use Rattle.treebasedbondpricer.specs.declared.fitted.FittedTree.{FittedT
 use Rattle.treebasedbondpricer.specs.declared.fitted.FittedTree.the-variants as tree
 use Rattle.lattice.specs.Layers.{At, valueAt}
 use Rattle.lattice.specs.Lattice.{Layer, Lattice}
-use Rattle.induction.specs.Walk.{walkFrom}
+use Rattle.backwardinduction.specs.Walk.{walkFrom}
 use Rattle.treebasedbondpricer.specs.Tree.{Fitted}
 use Rattle.lattice.specs.Lattice.{countOf, nodeCount}
 use Rattle.lattice.specs.laws.Laid.{layersIn, finalIn, Laid}
 use Rattle.lattice.specs.laws.Totals.{totalOf, laid-nodes}
-use Rattle.induction.specs.laws.WalkMore.{callsOf}
+use Rattle.backwardinduction.specs.laws.WalkMore.{callsOf}
 use Rattle.treebasedbondpricer.specs.laws.Marks.{calls-back}
 use Rattle.treebasedbondpricer.specs.laws.FittedIn.{FittedIn, FitsTree, fits, refuses}
 

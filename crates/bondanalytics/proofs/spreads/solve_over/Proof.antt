@@ -1,7 +1,7 @@
 -- `solve_over` meets its contract: the fit once, then the root over what stands in the slices (`SpreadSolved`). Assumes nothing.
 use mathlib.Core.Path.{refl, _∙_}
 use native.Mathlib.Omega.{arith}
-use Rattle.induction.specs.laws.LaidFront.{laid-over}
+use Rattle.forwardinduction.specs.laws.LaidFront.{laid-over}
 use Rattle.treebasedbondpricer.specs.laws.FittedIn.{root-count}
 use Rattle.treebasedbondpricer.specs.laws.Valued.{standing}
 use Rattle.sought.specs.laws.Seeking.{spread-ready}

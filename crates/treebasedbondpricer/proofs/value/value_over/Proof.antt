@@ -2,7 +2,7 @@
 use mathlib.Core.Path.{_∙_}
 use native.Mathlib.Omega.{arith}
 use Rattle.lattice.specs.laws.Totals.{laid-total}
-use Rattle.induction.specs.laws.LaidFront.{laid-over}
+use Rattle.forwardinduction.specs.laws.LaidFront.{laid-over}
 use Rattle.treebasedbondpricer.specs.laws.FittedIn.{root-count}
 use Rattle.treebasedbondpricer.specs.laws.Valued.{standing, value-refused, value-is}
 use Rattle.treebasedbondpricer.proofs.value.value_over.Statement.{statement}

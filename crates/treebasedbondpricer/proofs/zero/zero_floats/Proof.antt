@@ -2,7 +2,7 @@
 use Prim.Native.Nat.{_-_}
 use lib.ListN.{length}
 use Rattle.floats.specs.Answers.{plusZero}
-use Rattle.induction.proofs.Filling.{Filled, filling}
+use Rattle.forwardinduction.proofs.Filling.{Filled, filling}
 use Rattle.treebasedbondpricer.proofs.zero.zero_floats.Statement.{statement}
 use Rattle.treebasedbondpricer.proofs.zero.zero_floats.Tie as tie
 

@@ -2,7 +2,7 @@
 use Prim.Native.Nat.{_-_}
 use lib.ListN.{length}
 use lib.IntN.{pos}
-use Rattle.induction.proofs.Filling.{Filled, filling}
+use Rattle.forwardinduction.proofs.Filling.{Filled, filling}
 use Rattle.treebasedbondpricer.proofs.zero.zero_numbers.Statement.{statement}
 use Rattle.treebasedbondpricer.proofs.zero.zero_numbers.Tie as tie
 

@@ -1,0 +1,254 @@
+-- `walk::roll` meets its contract. The invariant: what is left from node i on, over the row as it is, is the whole. Assumes nothing.
+use Prim.Native.Nat.{ℕ, _+_, _-_, _*_, _≤_, _<_}
+use mathlib.Core.Path.{_≡_, refl, sym, _∙_}
+use mathlib.Core.Bool.{Bool}
+use mathlib.Core.List.{List}
+use native.Mathlib.Omega.{arith}
+use mir.Facts.{toZ-ofZ}
+use lib.ListN.{length, getD, set, drop, drop-of-length-le, length-set}
+use lib.IntN.{ℤ, pos}
+use lib.Ieee.{Float, nan}
+use Rattle.floats.specs.declared.Refusal.{Refusal}
+use Rattle.floats.specs.declared.Answer.{Answer}
+use Rattle.floats.specs.declared.Answer.the-variants.{Value, Refused}
+use Rattle.floats.specs.Answers.{onAnswer}
+use Rattle.terms.specs.declared.Check.{Check}
+use Rattle.terms.specs.declared.Check.the-variants.{Passed}
+use Rattle.terms.specs.Outcomes.{Outcome, valued}
+use Rattle.bondevents.specs.declared.CallStep.{CallStep}
+use Rattle.lattice.specs.declared.reach.Reach.{Reach}
+use Rattle.backwardinduction.specs.declared.walk.Rates.{Rates}
+use Rattle.lattice.specs.Layers.{nodeFloat}
+use Rattle.lattice.specs.laws.Stored.{middlesIn}
+use Rattle.lattice.specs.laws.StoredAt.{drop-two, drop-three, middles-from}
+use Rattle.lattice.specs.laws.Bounds.{Within}
+use Rattle.lattice.specs.laws.Reaching.{reach, nothingBelow}
+use Rattle.lattice.specs.laws.Positions.{startOf, Layered, Roomy, Held, roomy-next}
+use Rattle.lattice.specs.laws.Rows.{outcomeOf, checkOf}
+use Rattle.lattice.specs.laws.Binds.{went-on, stopped-at}
+use Rattle.backwardinduction.specs.laws.WalkSteps.{valueWith, rolledAt}
+use Rattle.forwardinduction.proofs.Outcomes.{passes}
+use Rattle.floats.proofs.Laws.{answers}
+use Rattle.backwardinduction.proofs.walk.roll.Statement.{statement}
+use Rattle.backwardinduction.proofs.walk.roll.Tie as tie
+
+module _ (nodes : List ℤ) (probabilities next row₀ : List Float) (flat : Bool) (rates : Rates) (call : CallStep) (cashflow : Float) (place : ℕ) where
+  abbrev whole : Outcome (List Float)
+  whole = rolledAt rates call cashflow place flat next (startOf nodes) 0 nodes probabilities row₀
+
+  abbrev from : Reach → ℕ → List Float → Outcome (List Float)
+  from r i row = rolledAt rates call cashflow place flat next r i (drop (i * 2) nodes) (drop (i * 3) probabilities) row
+
+  record At (row : List Float) (r : Reach) (i : ℕ) : Type 0 where
+    within : i ≤ length row₀
+    same : length row ≡ length row₀
+    room : Roomy flat (length next) r (middlesIn (drop (i * 2) nodes))
+    left : from r i row ≡ whole
+
+  module _ (l : Layered flat (length next) nodes probabilities (length row₀)) where
+    start : {r : Reach} {z : ℤ} → z ≡ getD nodes 1 (pos 0) → r ≡ nothingBelow z → At row₀ r 0
+    start e f = rw (f, e) (record { within = omega arith; same = refl; room = l .roomy; left = refl })
+
+    first : {z : ℤ} → z ≡ getD nodes 1 (pos 0) → Within z
+    first e = let b : 0 * 2 + 1 < length nodes = omega (arith, l .pairs, l .some-node) in rw e (roomy-next (rw (middles-from nodes 0 b) at (l .roomy)) .within)
+
+    module _ (row : List Float) (r : Reach) (i : ℕ) (a : At row r i) (t : i < length row) where
+      inside : i < length row₀
+      inside = omega (arith, a .same)
+
+      abbrev number : ℤ
+      number = getD nodes (i * 2) (pos 0)
+
+      abbrev middle : ℤ
+      middle = getD nodes (i * 2 + 1) (pos 0)
+
+      held : {z : ℤ} → z ≡ middle → Held flat (length next) r z (middlesIn (drop ((i + 1) * 2) nodes))
+      held e = let b : i * 2 + 1 < length nodes = omega (arith, l .pairs, inside) in rw e (roomy-next (rw (middles-from nodes i b) at (a .room)))
+
+      abbrev value : ℕ → ℤ → Answer
+      value count z = valueWith rates call cashflow place flat count (nodeFloat z) (getD probabilities (i * 3) nan) (getD probabilities (i * 3 + 1) nan) (getD probabilities (i * 3 + 2) nan) next
+
+      turn : from r i row ≡ valued (value (reach r middle .count) number) λ v. from (reach r middle) (i + 1) (set row i v)
+      unfolding rolledAt
+      turn =
+          let b : i * 2 + 1 < length nodes = omega (arith, l .pairs, inside) in
+          let d : i * 3 + 2 < length probabilities = omega (arith, l .threes, inside) in
+          rw (drop-two nodes (pos 0) i b, drop-three probabilities nan i d)
+
+      module _ {s : Answer} {z m : ℤ} {after : Reach} (n : z ≡ number) (g : m ≡ middle) (k : after ≡ reach r m) (w : s ≡ value (after .count) z) where
+        stopped : {q : Refusal} (x : List Float) {t : Check} → s ≡ Refused q → t ≡ checkOf s → outcomeOf t x ≡ whole
+        unfolding onAnswer outcomeOf
+        stopped x v e = rw (e, v) (sym (turn ∙ stopped-at _ _ (rw (k, g, n) at w) v) ∙ a .left)
+
+        stepped : {v : Float} → s ≡ Value v → At (set row i v) after (i + 1)
+        stepped v =
+            rw (k, g)
+            (record {
+              within = omega (arith, inside);
+              same = length-set row i _ ∙ a .same;
+              room = held refl .rest;
+              left = sym (turn ∙ went-on _ _ (rw (k, g, n) at w) v) ∙ a .left;
+            })
+
+    done : (row : List Float) (r : Reach) (i : ℕ) → At row r i → length row ≤ i → outcomeOf Passed row ≡ whole
+    unfolding rolledAt
+    done row r i a h =
+        let b : length nodes ≤ i * 2 = omega (arith, l .pairs, a .same) in
+        passes row ∙ rw (drop-of-length-le nodes b) at (a .left)
+
+abbrev Inv-loop : tie.InvT-loop
+Inv-loop nodes probabilities next row₀ flat rates call cashflow place r₀ i₀ row r i = At nodes probabilities next row₀ flat rates call cashflow place row r i
+
+abbrev μ-loop : tie.MeasureT-loop
+μ-loop nodes probabilities next row₀ flat rates call cashflow place r₀ i₀ row r i = length row₀ - i
+
+shared-slice-copy-out-nothing-below : tie.Need-shared-slice-copy-out-nothing-below Inv-loop μ-loop
+shared-slice-copy-out-nothing-below c = omega (arith, c .before .before .before .pre .pairs, c .before .before .before .pre .threes, c .before .before .before .pre .some-node)
+
+nothing-below-requires : tie.Need-nothing-below-requires Inv-loop μ-loop
+nothing-below-requires c κs = first (c .before .before .before .before .args .nodes .now) (c .before .before .before .before .args .probabilities .now) (c .before .before .before .before .args .next .now) (c .before .before .before .before .args .row .now) (c .before .before .before .before .args .flat) (c .before .before .before .before .args .rates) (c .before .before .before .before .args .call) (c .before .before .before .before .args .cashflow) (c .before .before .before .before .args .place) (c .before .before .before .before .pre) (toZ-ofZ (record { sfits = c .nothing-below-arg .given }))
+
+loop-holds : tie.Need-loop-holds Inv-loop μ-loop
+loop-holds c = start (c .before .before .before .before .before .args .nodes .now) (c .before .before .before .before .before .args .probabilities .now) (c .before .before .before .before .before .args .next .now) (c .before .before .before .before .before .args .row .now) (c .before .before .before .before .before .args .flat) (c .before .before .before .before .before .args .rates) (c .before .before .before .before .before .args .call) (c .before .before .before .before .before .args .cashflow) (c .before .before .before .before .before .args .place) (c .before .before .before .before .before .pre) (toZ-ofZ (record { sfits = c .before .nothing-below-arg .given })) (c .nothing-below .ensures)
+
+mul-node : tie.Need-mul-node Inv-loop μ-loop
+mul-node c = omega (arith, c .before .before .before .before .before .before .before .pre .pairs, c .before .before .before .before .before .before .before .pre .threes, c .before .loop .inv .same, c .loop-test .taken, c .before .before .before .before .before .before .before .good)
+
+mul-node-2 : tie.Need-mul-node-2 Inv-loop μ-loop
+mul-node-2 c = omega (arith, c .before .before .before .before .before .before .before .pre .pairs, c .before .before .before .before .before .before .before .pre .threes, c .before .loop .inv .same, c .loop-test .taken, c .before .before .before .before .before .before .before .good)
+
+shared-slice-copy-out-node : tie.Need-shared-slice-copy-out-node Inv-loop μ-loop
+shared-slice-copy-out-node c = omega (arith, c .before .before .before .before .before .before .before .pre .pairs, c .before .before .before .before .before .before .before .pre .threes, c .before .loop .inv .same, c .loop-test .taken, c .before .before .before .before .before .before .before .good)
+
+mul-middle : tie.Need-mul-middle Inv-loop μ-loop
+mul-middle c = omega (arith, c .before .before .before .before .before .before .before .before .pre .pairs, c .before .before .before .before .before .before .before .before .pre .threes, c .before .before .loop .inv .same, c .before .loop-test .taken, c .before .before .before .before .before .before .before .before .good)
+
+add-middle : tie.Need-add-middle Inv-loop μ-loop
+add-middle c = omega (arith, c .before .before .before .before .before .before .before .before .pre .pairs, c .before .before .before .before .before .before .before .before .pre .threes, c .before .before .loop .inv .same, c .before .loop-test .taken, c .before .before .before .before .before .before .before .before .good)
+
+mul-middle-2 : tie.Need-mul-middle-2 Inv-loop μ-loop
+mul-middle-2 c = omega (arith, c .before .before .before .before .before .before .before .before .pre .pairs, c .before .before .before .before .before .before .before .before .pre .threes, c .before .before .loop .inv .same, c .before .loop-test .taken, c .before .before .before .before .before .before .before .before .good)
+
+shared-slice-copy-out-middle : tie.Need-shared-slice-copy-out-middle Inv-loop μ-loop
+shared-slice-copy-out-middle c = omega (arith, c .before .before .before .before .before .before .before .before .pre .pairs, c .before .before .before .before .before .before .before .before .pre .threes, c .before .before .loop .inv .same, c .before .loop-test .taken, c .before .before .before .before .before .before .before .before .good)
+
+reached-requires : tie.Need-reached-requires Inv-loop μ-loop
+reached-requires c κs = let h = held (c .before .before .before .before .before .before .before .before .before .args .nodes .now) (c .before .before .before .before .before .before .before .before .before .args .probabilities .now) (c .before .before .before .before .before .before .before .before .before .args .next .now) (c .before .before .before .before .before .before .before .before .before .args .row .now) (c .before .before .before .before .before .before .before .before .before .args .flat) (c .before .before .before .before .before .before .before .before .before .args .rates) (c .before .before .before .before .before .before .before .before .before .args .call) (c .before .before .before .before .before .before .before .before .before .args .cashflow) (c .before .before .before .before .before .before .before .before .before .args .place) (c .before .before .before .before .before .before .before .before .before .pre) (c .before .before .before .loop .row) (c .before .before .before .loop .r) (c .before .before .before .loop .i) (c .before .before .before .loop .inv) (c .before .before .loop-test .taken) (toZ-ofZ (record { sfits = c .middle .given })) in (omega (arith, h .counted, c .before .before .before .before .before .before .before .before .before .good), h .within)
+
+int-to-float-node-value : tie.Need-int-to-float-node-value Inv-loop μ-loop
+int-to-float-node-value c = tt
+
+mul-node-value : tie.Need-mul-node-value Inv-loop μ-loop
+mul-node-value c = omega (arith, c .before .before .before .before .before .before .before .before .before .before .before .pre .pairs, c .before .before .before .before .before .before .before .before .before .before .before .pre .threes, c .before .before .before .before .before .loop .inv .same, c .before .before .before .before .loop-test .taken, c .before .before .before .before .before .before .before .before .before .before .before .good)
+
+mul-node-value-2 : tie.Need-mul-node-value-2 Inv-loop μ-loop
+mul-node-value-2 c = omega (arith, c .before .before .before .before .before .before .before .before .before .before .before .pre .pairs, c .before .before .before .before .before .before .before .before .before .before .before .pre .threes, c .before .before .before .before .before .loop .inv .same, c .before .before .before .before .loop-test .taken, c .before .before .before .before .before .before .before .before .before .before .before .good)
+
+shared-slice-read-node-value : tie.Need-shared-slice-read-node-value Inv-loop μ-loop
+shared-slice-read-node-value c = omega (arith, c .before .before .before .before .before .before .before .before .before .before .before .before .pre .pairs, c .before .before .before .before .before .before .before .before .before .before .before .before .pre .threes, c .before .before .before .before .before .before .loop .inv .same, c .before .before .before .before .before .loop-test .taken, c .before .before .before .before .before .before .before .before .before .before .before .before .good)
+
+mul-node-value-3 : tie.Need-mul-node-value-3 Inv-loop μ-loop
+mul-node-value-3 c = omega (arith, c .before .before .before .before .before .before .before .before .before .before .before .before .pre .pairs, c .before .before .before .before .before .before .before .before .before .before .before .before .pre .threes, c .before .before .before .before .before .before .loop .inv .same, c .before .before .before .before .before .loop-test .taken, c .before .before .before .before .before .before .before .before .before .before .before .before .good)
+
+add-node-value : tie.Need-add-node-value Inv-loop μ-loop
+add-node-value c = omega (arith, c .before .before .before .before .before .before .before .before .before .before .before .before .pre .pairs, c .before .before .before .before .before .before .before .before .before .before .before .before .pre .threes, c .before .before .before .before .before .before .loop .inv .same, c .before .before .before .before .before .loop-test .taken, c .before .before .before .before .before .before .before .before .before .before .before .before .good)
+
+mul-node-value-4 : tie.Need-mul-node-value-4 Inv-loop μ-loop
+mul-node-value-4 c = omega (arith, c .before .before .before .before .before .before .before .before .before .before .before .before .pre .pairs, c .before .before .before .before .before .before .before .before .before .before .before .before .pre .threes, c .before .before .before .before .before .before .loop .inv .same, c .before .before .before .before .before .loop-test .taken, c .before .before .before .before .before .before .before .before .before .before .before .before .good)
+
+shared-slice-read-node-value-2 : tie.Need-shared-slice-read-node-value-2 Inv-loop μ-loop
+shared-slice-read-node-value-2 c = omega (arith, c .before .before .before .before .before .before .before .before .before .before .before .before .before .pre .pairs, c .before .before .before .before .before .before .before .before .before .before .before .before .before .pre .threes, c .before .before .before .before .before .before .before .loop .inv .same, c .before .before .before .before .before .before .loop-test .taken, c .before .before .before .before .before .before .before .before .before .before .before .before .before .good)
+
+mul-node-value-5 : tie.Need-mul-node-value-5 Inv-loop μ-loop
+mul-node-value-5 c = omega (arith, c .before .before .before .before .before .before .before .before .before .before .before .before .before .pre .pairs, c .before .before .before .before .before .before .before .before .before .before .before .before .before .pre .threes, c .before .before .before .before .before .before .before .loop .inv .same, c .before .before .before .before .before .before .loop-test .taken, c .before .before .before .before .before .before .before .before .before .before .before .before .before .good)
+
+add-node-value-2 : tie.Need-add-node-value-2 Inv-loop μ-loop
+add-node-value-2 c = omega (arith, c .before .before .before .before .before .before .before .before .before .before .before .before .before .pre .pairs, c .before .before .before .before .before .before .before .before .before .before .before .before .before .pre .threes, c .before .before .before .before .before .before .before .loop .inv .same, c .before .before .before .before .before .before .loop-test .taken, c .before .before .before .before .before .before .before .before .before .before .before .before .before .good)
+
+mul-node-value-6 : tie.Need-mul-node-value-6 Inv-loop μ-loop
+mul-node-value-6 c = omega (arith, c .before .before .before .before .before .before .before .before .before .before .before .before .before .pre .pairs, c .before .before .before .before .before .before .before .before .before .before .before .before .before .pre .threes, c .before .before .before .before .before .before .before .loop .inv .same, c .before .before .before .before .before .before .loop-test .taken, c .before .before .before .before .before .before .before .before .before .before .before .before .before .good)
+
+shared-slice-read-node-value-3 : tie.Need-shared-slice-read-node-value-3 Inv-loop μ-loop
+shared-slice-read-node-value-3 c = omega (arith, c .before .before .before .before .before .before .before .before .before .before .before .before .before .before .pre .pairs, c .before .before .before .before .before .before .before .before .before .before .before .before .before .before .pre .threes, c .before .before .before .before .before .before .before .before .loop .inv .same, c .before .before .before .before .before .before .before .loop-test .taken, c .before .before .before .before .before .before .before .before .before .before .before .before .before .before .good)
+
+node-value-requires : tie.Need-node-value-requires Inv-loop μ-loop
+node-value-requires c κs = let h = held (c .before .before .before .before .before .before .before .before .before .before .before .before .before .before .args .nodes .now) (c .before .before .before .before .before .before .before .before .before .before .before .before .before .before .args .probabilities .now) (c .before .before .before .before .before .before .before .before .before .before .before .before .before .before .args .next .now) (c .before .before .before .before .before .before .before .before .before .before .before .before .before .before .args .row .now) (c .before .before .before .before .before .before .before .before .before .before .before .before .before .before .args .flat) (c .before .before .before .before .before .before .before .before .before .before .before .before .before .before .args .rates) (c .before .before .before .before .before .before .before .before .before .before .before .before .before .before .args .call) (c .before .before .before .before .before .before .before .before .before .before .before .before .before .before .args .cashflow) (c .before .before .before .before .before .before .before .before .before .before .before .before .before .before .args .place) (c .before .before .before .before .before .before .before .before .before .before .before .before .before .before .pre) (c .before .before .before .before .before .before .before .before .loop .row) (c .before .before .before .before .before .before .before .before .loop .r) (c .before .before .before .before .before .before .before .before .loop .i) (c .before .before .before .before .before .before .before .before .loop .inv) (c .before .before .before .before .before .before .before .loop-test .taken) (toZ-ofZ (record { sfits = c .before .before .before .before .before .middle .given })) in rw (c .before .before .before .before .reached .ensures) (h .three, h .spot)
+
+enum-known-v : tie.Need-enum-known-v Inv-loop μ-loop
+enum-known-v c = c .match .keys1
+
+enum-told : tie.Need-enum-told Inv-loop μ-loop
+enum-told c = c .match .keys2
+
+row-refused-requires : tie.Need-row-refused-requires Inv-loop μ-loop
+row-refused-requires c κs = tt
+
+same-length : tie.Need-same-length Inv-loop μ-loop
+same-length c = c .before .before .before .before .before .before .before .before .before .before .before .before .loop .inv .same
+
+returns : tie.Need-returns Inv-loop μ-loop
+returns c = stopped (c .before .before .before .before .before .before .before .before .before .before .before .before .before .before .before .before .before .before .args .nodes .now) (c .before .before .before .before .before .before .before .before .before .before .before .before .before .before .before .before .before .before .args .probabilities .now) (c .before .before .before .before .before .before .before .before .before .before .before .before .before .before .before .before .before .before .args .next .now) (c .before .before .before .before .before .before .before .before .before .before .before .before .before .before .before .before .before .before .args .row .now) (c .before .before .before .before .before .before .before .before .before .before .before .before .before .before .before .before .before .before .args .flat) (c .before .before .before .before .before .before .before .before .before .before .before .before .before .before .before .before .before .before .args .rates) (c .before .before .before .before .before .before .before .before .before .before .before .before .before .before .before .before .before .before .args .call) (c .before .before .before .before .before .before .before .before .before .before .before .before .before .before .before .before .before .before .args .cashflow) (c .before .before .before .before .before .before .before .before .before .before .before .before .before .before .before .before .before .before .args .place) (c .before .before .before .before .before .before .before .before .before .before .before .before .before .before .before .before .before .before .pre) (c .before .before .before .before .before .before .before .before .before .before .before .before .loop .row) (c .before .before .before .before .before .before .before .before .before .before .before .before .loop .r) (c .before .before .before .before .before .before .before .before .before .before .before .before .loop .i) (c .before .before .before .before .before .before .before .before .before .before .before .before .loop .inv) (c .before .before .before .before .before .before .before .before .before .before .before .loop-test .taken) (toZ-ofZ (record { sfits = c .before .before .before .before .before .before .before .before .before .before .node .given })) (toZ-ofZ (record { sfits = c .before .before .before .before .before .before .before .before .before .middle .given })) (c .before .before .before .before .before .before .before .before .reached .ensures) (c .before .before .before .node-value .ensures) _ (c .before .enum-told .given .1) (c .row-refused .ensures)
+
+mul-row : tie.Need-mul-row Inv-loop μ-loop
+mul-row c = omega (arith, c .before .before .before .before .before .before .before .before .before .before .before .before .before .before .before .before .before .before .pre .pairs, c .before .before .before .before .before .before .before .before .before .before .before .before .before .before .before .before .before .before .pre .threes, c .before .before .before .before .before .before .before .before .before .before .before .before .loop .inv .same, c .before .before .before .before .before .before .before .before .before .before .before .loop-test .taken, c .before .before .before .before .before .before .before .before .before .before .before .before .before .before .before .before .before .before .good)
+
+slice-write-row : tie.Need-slice-write-row Inv-loop μ-loop
+slice-write-row c = search answers
+
+add-i : tie.Need-add-i Inv-loop μ-loop
+add-i c = omega (arith, c .before .before .before .before .before .before .before .before .before .before .before .loop-test .taken, c .before .before .before .before .before .before .before .before .before .before .before .before .loop .inv .same, c .before .before .before .before .before .before .before .before .before .before .before .before .before .before .before .before .before .before .good)
+
+loop-less : tie.Need-loop-less Inv-loop μ-loop
+loop-less c = omega (arith, c .before .before .before .before .before .before .before .before .before .before .before .before .before .before .before .before .before .before .pre .pairs, c .before .before .before .before .before .before .before .before .before .before .before .before .before .before .before .before .before .before .pre .threes, c .before .before .before .before .before .before .before .before .before .before .before .before .loop .inv .same, c .before .before .before .before .before .before .before .before .before .before .before .loop-test .taken, c .before .before .before .before .before .before .before .before .before .before .before .before .before .before .before .before .before .before .good)
+
+loop-again : tie.Need-loop-again Inv-loop μ-loop
+loop-again c = stepped (c .before .before .before .before .before .before .before .before .before .before .before .before .before .before .before .before .before .before .args .nodes .now) (c .before .before .before .before .before .before .before .before .before .before .before .before .before .before .before .before .before .before .args .probabilities .now) (c .before .before .before .before .before .before .before .before .before .before .before .before .before .before .before .before .before .before .args .next .now) (c .before .before .before .before .before .before .before .before .before .before .before .before .before .before .before .before .before .before .args .row .now) (c .before .before .before .before .before .before .before .before .before .before .before .before .before .before .before .before .before .before .args .flat) (c .before .before .before .before .before .before .before .before .before .before .before .before .before .before .before .before .before .before .args .rates) (c .before .before .before .before .before .before .before .before .before .before .before .before .before .before .before .before .before .before .args .call) (c .before .before .before .before .before .before .before .before .before .before .before .before .before .before .before .before .before .before .args .cashflow) (c .before .before .before .before .before .before .before .before .before .before .before .before .before .before .before .before .before .before .args .place) (c .before .before .before .before .before .before .before .before .before .before .before .before .before .before .before .before .before .before .pre) (c .before .before .before .before .before .before .before .before .before .before .before .before .loop .row) (c .before .before .before .before .before .before .before .before .before .before .before .before .loop .r) (c .before .before .before .before .before .before .before .before .before .before .before .before .loop .i) (c .before .before .before .before .before .before .before .before .before .before .before .before .loop .inv) (c .before .before .before .before .before .before .before .before .before .before .before .loop-test .taken) (toZ-ofZ (record { sfits = c .before .before .before .before .before .before .before .before .before .before .node .given })) (toZ-ofZ (record { sfits = c .before .before .before .before .before .before .before .before .before .middle .given })) (c .before .before .before .before .before .before .before .before .reached .ensures) (c .before .before .before .node-value .ensures) (c .before .v .given .1)
+
+same-length-2 : tie.Need-same-length-2 Inv-loop μ-loop
+same-length-2 c = c .before .loop .inv .same
+
+returns-2 : tie.Need-returns-2 Inv-loop μ-loop
+returns-2 c = done (c .before .before .before .before .before .before .before .args .nodes .now) (c .before .before .before .before .before .before .before .args .probabilities .now) (c .before .before .before .before .before .before .before .args .next .now) (c .before .before .before .before .before .before .before .args .row .now) (c .before .before .before .before .before .before .before .args .flat) (c .before .before .before .before .before .before .before .args .rates) (c .before .before .before .before .before .before .before .args .call) (c .before .before .before .before .before .before .before .args .cashflow) (c .before .before .before .before .before .before .before .args .place) (c .before .before .before .before .before .before .before .pre) (c .before .loop .row) (c .before .loop .r) (c .before .loop .i) (c .before .loop .inv) (c .loop-test .left)
+
+pub roll-spec : {M : Type 1} → statement M
+roll-spec =
+    tie.close
+    (tie.spec
+    Inv-loop
+    μ-loop
+    shared-slice-copy-out-nothing-below
+    nothing-below-requires
+    loop-holds
+    mul-node
+    mul-node-2
+    shared-slice-copy-out-node
+    mul-middle
+    add-middle
+    mul-middle-2
+    shared-slice-copy-out-middle
+    reached-requires
+    int-to-float-node-value
+    mul-node-value
+    mul-node-value-2
+    shared-slice-read-node-value
+    mul-node-value-3
+    add-node-value
+    mul-node-value-4
+    shared-slice-read-node-value-2
+    mul-node-value-5
+    add-node-value-2
+    mul-node-value-6
+    shared-slice-read-node-value-3
+    node-value-requires
+    enum-known-v
+    enum-told
+    row-refused-requires
+    same-length
+    returns
+    mul-row
+    slice-write-row
+    add-i
+    loop-less
+    loop-again
+    same-length-2
+    returns-2)

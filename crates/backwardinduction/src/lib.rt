@@ -1,0 +1,3 @@
+// Backward induction over the layers: the walk back.
+pub mod walk;
+pub mod walking;

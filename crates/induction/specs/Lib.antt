@@ -1,3 +1,0 @@
-pub mod Fit
-pub mod Walk
-pub mod laws
