@@ -10,10 +10,10 @@ use lib.Ieee.{nan, inf, binary64, ofBits}
 use lib.Ieee as ieee
 use Rattle.decimal.specs.declared.ReadDecimal.{ReadDecimal}
 use Rattle.decimal.specs.declared.ReadDecimal.the-variants.{Number, Malformed, TooLong}
-use Rattle.decimal.specs.declared.writing.TwoDecimals.{TwoDecimals}
-use Rattle.decimal.specs.declared.writing.TwoDecimals.the-variants.{Shown, Beyond}
+use Rattle.decimal.specs.declared.Decimals.{Decimals}
+use Rattle.decimal.specs.declared.Decimals.the-variants.{Shown, Beyond}
 use Rattle.decimal.specs.Decimal.{readDecimal}
-use Rattle.decimal.specs.Writing.{twoDecimals, hexDigits}
+use Rattle.decimal.specs.Writing.{decimalsOf, hexDigits}
 
 -- The bytes of a word of plain letters.
 abbrev pub bytes : String → List ℕ
@@ -26,11 +26,11 @@ reads word = readDecimal (bytes word)
 abbrev bits : ℕ → ReadDecimal
 bits n = Number (ofBits binary64 n)
 
-abbrev shows : ℕ → TwoDecimals
-shows n = twoDecimals (ofBits binary64 n)
+abbrev shows : ℕ → ℕ → Decimals
+shows places n = decimalsOf places (ofBits binary64 n)
 
-abbrev hundredths : Bool → ℕ → ℕ → TwoDecimals
-hundredths negative whole cents = Shown (record { negative = negative; whole = whole; cents = cents })
+abbrev parts : Bool → ℕ → ℕ → Decimals
+parts negative whole part = Shown (record { negative = negative; whole = whole; part = part })
 
 pub record Starred : Type 0 where
   pub tenth : reads "0.1" ≡ bits 0x3fb9_9999_9999_999a
@@ -57,22 +57,28 @@ pub record Starred : Type 0 where
   pub too-long : reads "100000000000000000" ≡ TooLong 17
   pub too-fine : reads "0.00000000000000000000001" ≡ TooLong 24
   -- 101.5, 2.675, which is less than it says, and -0.005, which is more.
-  pub shown : shows 0x4059_6000_0000_0000 ≡ hundredths false 101 50
-  pub under : shows 0x4005_6666_6666_6666 ≡ hundredths false 2 67
-  pub over : shows 0xbf74_7ae1_47ae_147b ≡ hundredths true 0 1
+  pub shown : shows 2 0x4059_6000_0000_0000 ≡ parts false 101 50
+  pub under : shows 2 0x4005_6666_6666_6666 ≡ parts false 2 67
+  pub over : shows 2 0xbf74_7ae1_47ae_147b ≡ parts true 0 1
   -- 0.125 and 0.375 lie halfway, and go to the even hundredth.
-  pub tie-down : shows 0x3fc0_0000_0000_0000 ≡ hundredths false 0 12
-  pub tie-up : shows 0x3fd8_0000_0000_0000 ≡ hundredths false 0 38
+  pub tie-down : shows 2 0x3fc0_0000_0000_0000 ≡ parts false 0 12
+  pub tie-up : shows 2 0x3fd8_0000_0000_0000 ≡ parts false 0 38
+  -- 101.5 and 0.00205 to four decimals, 2.5 to none, and -0.004 to two.
+  pub strike-shown : shows 4 0x4059_6000_0000_0000 ≡ parts false 101 5000
+  pub spread-shown : shows 4 0x3f60_cb29_5e9e_1b09 ≡ parts false 0 21
+  pub whole-shown : shows 0 0x4004_0000_0000_0000 ≡ parts false 2 0
+  pub nothing-shown : shows 2 0xbf70_624d_d2f1_a9fc ≡ parts true 0 0
   -- -0, the last number that is shown, and those that are not.
-  pub shown-zero : shows 0x8000_0000_0000_0000 ≡ hundredths true 0 0
-  pub last-shown : shows 0x433f_ffff_ffff_ffff ≡ hundredths false 9007199254740991 0
-  pub too-large : shows 0xc340_0000_0000_0000 ≡ Beyond
-  pub no-infinity : twoDecimals (inf true) ≡ Beyond
-  pub no-nan : twoDecimals nan ≡ Beyond
+  pub shown-zero : shows 2 0x8000_0000_0000_0000 ≡ parts true 0 0
+  pub last-shown : shows 4 0x42ff_ffff_ffff_ffff ≡ parts false 562949953421311 9375
+  pub too-large : shows 2 0xc300_0000_0000_0000 ≡ Beyond
+  pub too-many : shows 5 0x4059_6000_0000_0000 ≡ Beyond
+  pub no-infinity : decimalsOf 2 (inf true) ≡ Beyond
+  pub no-nan : decimalsOf 2 nan ≡ Beyond
   pub digits : hexDigits 0x3fb9_9999_9999_999a ≡ bytes "3fb999999999999a"
 
 pub starred : Starred
-unfolding readDecimal twoDecimals hexDigits ieee.ofBits
+unfolding readDecimal decimalsOf hexDigits ieee.ofBits
 starred =
     record {
       tenth = refl;
@@ -100,9 +106,14 @@ starred =
       over = refl;
       tie-down = refl;
       tie-up = refl;
+      strike-shown = refl;
+      spread-shown = refl;
+      whole-shown = refl;
+      nothing-shown = refl;
       shown-zero = refl;
       last-shown = refl;
       too-large = refl;
+      too-many = refl;
       no-infinity = refl;
       no-nan = refl;
       digits = refl;

@@ -1,24 +1,27 @@
--- Definitions only. A number to two decimals, and the hexadecimal digits of its bits.
+-- Definitions only. A number to at most four decimals, and the hexadecimal digits of its bits.
 use Prim.Native.Nat.{ℕ, zero, suc, _+_, _*_, _/_, _%_, _^_}
-use mathlib.Core.Bool.{Bool, cond}
+use mathlib.Core.Bool.{Bool, cond, _||_}
 use mathlib.Core.List.{List, [], _∷_}
 use lib.Dec.{leb, ltb}
 use lib.Ieee.{Float, nan, inf, fin, up, down}
 use lib.Ieee.Nearest.{closest}
-use Rattle.decimal.specs.declared.writing.Hundredths.{Hundredths}
-use Rattle.decimal.specs.declared.writing.TwoDecimals.{TwoDecimals}
-use Rattle.decimal.specs.declared.writing.TwoDecimals.the-variants.{Shown, Beyond}
+use Rattle.decimal.specs.declared.Rounded.{Rounded}
+use Rattle.decimal.specs.declared.Decimals.{Decimals}
+use Rattle.decimal.specs.declared.Decimals.the-variants.{Shown, Beyond}
 
--- Hundredths by their sign, their whole part and what is left.
-abbrev pub inHundredths : Bool → ℕ → Hundredths
-inHundredths negative hundredths = record { negative = negative; whole = hundredths / 100; cents = hundredths % 100 }
+-- Units of the last decimal by their sign, their whole part and what is left.
+abbrev pub inUnits : Bool → ℕ → ℕ → Rounded
+inUnits negative places units = record { negative = negative; whole = units / 10 ^ places; part = units % 10 ^ places }
 
--- A number below 2^53 in size is shown as the nearest hundredths of its exact value, a tie going to the even one.
-unfoldable pub twoDecimals : Float → TwoDecimals
-twoDecimals nan = Beyond
-twoDecimals (inf s) = Beyond
-twoDecimals (fin s m e) =
-    cond (leb (2 ^ 53 * down e) (m * up e)) Beyond (Shown (inHundredths s (closest (100 * (m * up e)) (down e))))
+-- A number below 2^49 in size is shown as the nearest units of the last decimal to its exact value, a tie going to the even one.
+unfoldable pub decimalsOf : ℕ → Float → Decimals
+decimalsOf places nan = Beyond
+decimalsOf places (inf s) = Beyond
+decimalsOf places (fin s m e) =
+    cond
+    (ltb 4 places || leb (2 ^ 49 * down e) (m * up e))
+    Beyond
+    (Shown (inUnits s places (closest (10 ^ places * (m * up e)) (down e))))
 
 -- 0 to 9, then a to f.
 unfoldable pub hexDigit : ℕ → ℕ

@@ -14,7 +14,7 @@ struct Quotient {
 }
 
 // A power of five.
-fn power_of_five(places: u32) -> u64
+pub fn power_of_five(places: u32) -> u64
     requires { ⌜ places ≤ 22 ⌝ }
     ensures { λ r. ⌜ r ≡ 5 ^ places ⌝ }
 {

@@ -11,3 +11,16 @@ pub enum ReadDecimal {
     Malformed(usize),
     TooLong(usize),
 }
+
+// A number to some decimals: its sign, its whole part, and what is left in units of the last decimal.
+pub struct Rounded {
+    pub negative: bool,
+    pub whole: u64,
+    pub part: u64,
+}
+
+// Beyond: of 2^49 in size or more, not finite, or to more than four decimals.
+pub enum Decimals {
+    Shown(Rounded),
+    Beyond,
+}

@@ -1,22 +1,12 @@
-// A double to two decimals, and the hexadecimal digits of its bits.
+// A double to a few decimals, and the hexadecimal digits of its bits.
 ghost use mathlib.Core.Path.{_≡_};
 ghost use Prim.Native.Nat.{_^_, _≤_, _<_};
 ghost use lib.Ieee.Nearest.{closest};
-ghost use Rattle.decimal.specs.Writing.{inHundredths, twoDecimals, hexDigit, hexDigits};
+ghost use Rattle.decimal.specs.Writing.{inUnits, decimalsOf, hexDigit, hexDigits};
+use crate::Decimals;
+use crate::Rounded;
+use crate::division::power_of_five;
 use floats::finite::not_finite;
-
-// A sign, a whole part and hundredths.
-pub struct Hundredths {
-    pub negative: bool,
-    pub whole: u64,
-    pub cents: u32,
-}
-
-// A number to two decimals. Beyond: of 2^53 in size or more, or not finite.
-pub enum TwoDecimals {
-    Shown(Hundredths),
-    Beyond,
-}
 
 // v / 2^places to the nearest whole number, a tie to the even one.
 fn closest_to(v: u64, places: u64) -> u64
@@ -35,36 +25,50 @@ fn closest_to(v: u64, places: u64) -> u64
     whole + whole % 2
 }
 
-// Hundredths by their sign, their whole part and what is left.
-fn in_hundredths(negative: bool, hundredths: u64) -> Hundredths
-    ensures { λ r. ⌜ r ≡ inHundredths negative hundredths ⌝ }
+// A power of ten.
+fn power_of_ten(places: u32) -> u64
+    requires { ⌜ places ≤ 4 ⌝ }
+    ensures { λ r. ⌜ r ≡ 10 ^ places ⌝ }
 {
-    Hundredths {
+    (1u64 << places) * power_of_five(places)
+}
+
+// Units of the last decimal by their sign, their whole part and what is left.
+fn in_units(negative: bool, places: u32, units: u64) -> Rounded
+    requires { ⌜ places ≤ 4 ⌝ }
+    ensures { λ r. ⌜ r ≡ inUnits negative places units ⌝ }
+{
+    let unit = power_of_ten(places);
+    Rounded {
         negative,
-        whole: hundredths / 100,
-        cents: (hundredths % 100) as u32,
+        whole: units / unit,
+        part: units % unit,
     }
 }
 
-// A number to two decimals, by the exponent's field of its bits.
-pub fn two_decimals(x: f64) -> TwoDecimals
-    ensures { λ r. ⌜ r ≡ twoDecimals x ⌝ }
+// A number to at most four decimals, by the exponent's field of its bits.
+pub fn decimals(x: f64, places: u32) -> Decimals
+    ensures { λ r. ⌜ r ≡ decimalsOf places x ⌝ }
 {
+    if places > 4 {
+        return Decimals::Beyond;
+    }
     if not_finite(x) {
-        return TwoDecimals::Beyond;
+        return Decimals::Beyond;
     }
     let bits = f64::to_bits(x);
     let negative = bits >= 0x8000_0000_0000_0000;
     let field = bits % 0x8000_0000_0000_0000 / 0x10_0000_0000_0000;
-    if field > 1075 {
-        return TwoDecimals::Beyond;
+    if field > 1071 {
+        return Decimals::Beyond;
     }
-    if field < 1012 {
-        return TwoDecimals::Shown(in_hundredths(negative, 0));
+    if field < 1012 - places as u64 {
+        return Decimals::Shown(in_units(negative, places, 0));
     }
     let digits = bits % 0x10_0000_0000_0000 + 0x10_0000_0000_0000;
-    let hundredths = closest_to(100 * digits, 1075 - field);
-    TwoDecimals::Shown(in_hundredths(negative, hundredths))
+    let five = power_of_five(places);
+    let units = closest_to(five * digits, 1075 - field - places as u64);
+    Decimals::Shown(in_units(negative, places, units))
 }
 
 // A hexadecimal digit's byte.
