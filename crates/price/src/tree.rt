@@ -4,8 +4,10 @@ use crate::fields::days_of;
 use crate::fields::numbers_of;
 use crate::rooms::nodes_of_250;
 use crate::rooms::nodes_of_512;
+use crate::rooms::nodes_of_million;
 use crate::rooms::probabilities_of_250;
 use crate::rooms::probabilities_of_512;
+use crate::rooms::probabilities_of_million;
 use crate::rooms::row;
 use bondanalytics::spreads::spread_from_price;
 use bondfile::singles::fields_of;
@@ -246,6 +248,22 @@ fn in_512(text: &[u8], ask: Ask) -> Reply {
     )
 }
 
+// With room for a million nodes.
+fn in_million(text: &[u8], ask: Ask) -> Reply {
+    let mut nodes = nodes_of_million();
+    let mut probabilities = probabilities_of_million();
+    let mut first = row();
+    let mut second = row();
+    with_flows(
+        text,
+        ask,
+        &mut nodes,
+        &mut probabilities,
+        &mut first,
+        &mut second,
+    )
+}
+
 // Whether a reply asks for more room.
 fn is_short(reply: Reply) -> bool {
     match reply {
@@ -254,31 +272,22 @@ fn is_short(reply: Reply) -> bool {
     }
 }
 
-// With room for 250 steps, and with room for 512 where that is too little and `more` isn't 0. It calls itself so that no
-// compiler joins the frames of the two: not every stack has room for the large one.
-fn in_rooms(text: &[u8], ask: Ask, more: u32) -> Reply {
-    if more == 0 {
+// In the smallest room, or where that is too small in one of the larger ones. It calls itself so that no compiler joins the
+// rooms' frames: not every stack holds the larger ones, and few trees need them.
+fn in_rooms(text: &[u8], ask: Ask, larger: u32) -> Reply {
+    if larger == 0 {
         return in_250(text, ask);
     }
-    let reply = in_rooms(text, ask, more - 1);
-    if more > 1 {
+    let reply = in_rooms(text, ask, larger - 1);
+    if !is_short(reply) {
         return reply;
     }
-    if is_short(reply) {
+    if larger == 1 {
         return in_512(text, ask);
     }
-    reply
-}
-
-// How often `in_rooms` calls itself. No compiler can know, and that is what counts.
-fn turns(most: u32) -> u32 {
-    if most > 512 {
-        return 1;
-    }
-    most / 251 + 1
+    in_million(text, ask)
 }
 
 pub(crate) fn asked(text: &[u8], ask: Ask) -> Reply {
-    let f = fields_of(text);
-    in_rooms(text, ask, turns(f.maximum))
+    in_rooms(text, ask, 2)
 }

@@ -1,4 +1,4 @@
--- The proof of the cycle of calls {in_rooms}: the number of calls that are left falls. Assumes nothing.
+-- The proof of the cycle of calls {in_rooms}: how many larger rooms are left falls. Assumes nothing.
 use borrow.Author.Needs.{needs}
 use Prim.Native.Nat.{ℕ, _<_}
 use borrow.Fn.Kinds.{In}
@@ -8,6 +8,7 @@ use Rattle.price.proofs.tree.in_rooms.Kinds as in-rooms-kinds
 use Rattle.price.proofs.tree.+in_rooms.Lts-in_rooms as in-rooms-lts
 use Rattle.price.proofs.tree.in_250.Reads as in-250-reads
 use Rattle.price.proofs.tree.in_512.Reads as in-512-reads
+use Rattle.price.proofs.tree.in_million.Reads as in-million-reads
 use Rattle.price.proofs.tree.is_short.Reads as is-short-reads
 use Rattle.price.proofs.tree.+in_rooms.{statement}
 use Rattle.price.proofs.tree.+in_rooms.Tie.{close}
@@ -31,6 +32,8 @@ in-rooms-in-250-requires : (t : ℕ) → in-rooms-lts.Need-in-250-requires (
   is-short-reads.Learnt,
   in-512-reads.Asked,
   in-512-reads.Learnt,
+  in-million-reads.Asked,
+  in-million-reads.Learnt,
 ) (in-rooms-at t) in-rooms.Post
 in-rooms-in-250-requires t c κs = search needs
 
@@ -43,6 +46,8 @@ in-rooms-returns : (t : ℕ) → in-rooms-lts.Need-returns (
   is-short-reads.Learnt,
   in-512-reads.Asked,
   in-512-reads.Learnt,
+  in-million-reads.Asked,
+  in-million-reads.Learnt,
 ) (in-rooms-at t) in-rooms.Post
 in-rooms-returns t c = search needs
 
@@ -55,6 +60,8 @@ in-rooms-sub-in-rooms : (t : ℕ) → in-rooms-lts.Need-sub-in-rooms (
   is-short-reads.Learnt,
   in-512-reads.Asked,
   in-512-reads.Learnt,
+  in-million-reads.Asked,
+  in-million-reads.Learnt,
 ) (in-rooms-at t) in-rooms.Post
 in-rooms-sub-in-rooms t c = search needs
 
@@ -67,20 +74,10 @@ in-rooms-in-rooms-requires : (t : ℕ) → in-rooms-lts.Need-in-rooms-requires (
   is-short-reads.Learnt,
   in-512-reads.Asked,
   in-512-reads.Learnt,
+  in-million-reads.Asked,
+  in-million-reads.Learnt,
 ) (in-rooms-at t) in-rooms.Post
 in-rooms-in-rooms-requires t c κs = search needs
-
-in-rooms-returns-2 : (t : ℕ) → in-rooms-lts.Need-returns-2 (
-  in-250-reads.Asked,
-  in-250-reads.Learnt,
-  in-rooms-below t,
-  in-rooms.Post,
-  is-short-reads.Asked,
-  is-short-reads.Learnt,
-  in-512-reads.Asked,
-  in-512-reads.Learnt,
-) (in-rooms-at t) in-rooms.Post
-in-rooms-returns-2 t c = search needs
 
 in-rooms-is-short-requires : (t : ℕ) → in-rooms-lts.Need-is-short-requires (
   in-250-reads.Asked,
@@ -91,8 +88,24 @@ in-rooms-is-short-requires : (t : ℕ) → in-rooms-lts.Need-is-short-requires (
   is-short-reads.Learnt,
   in-512-reads.Asked,
   in-512-reads.Learnt,
+  in-million-reads.Asked,
+  in-million-reads.Learnt,
 ) (in-rooms-at t) in-rooms.Post
 in-rooms-is-short-requires t c κs = search needs
+
+in-rooms-returns-2 : (t : ℕ) → in-rooms-lts.Need-returns-2 (
+  in-250-reads.Asked,
+  in-250-reads.Learnt,
+  in-rooms-below t,
+  in-rooms.Post,
+  is-short-reads.Asked,
+  is-short-reads.Learnt,
+  in-512-reads.Asked,
+  in-512-reads.Learnt,
+  in-million-reads.Asked,
+  in-million-reads.Learnt,
+) (in-rooms-at t) in-rooms.Post
+in-rooms-returns-2 t c = search needs
 
 in-rooms-in-512-requires : (t : ℕ) → in-rooms-lts.Need-in-512-requires (
   in-250-reads.Asked,
@@ -103,6 +116,8 @@ in-rooms-in-512-requires : (t : ℕ) → in-rooms-lts.Need-in-512-requires (
   is-short-reads.Learnt,
   in-512-reads.Asked,
   in-512-reads.Learnt,
+  in-million-reads.Asked,
+  in-million-reads.Learnt,
 ) (in-rooms-at t) in-rooms.Post
 in-rooms-in-512-requires t c κs = search needs
 
@@ -115,8 +130,24 @@ in-rooms-returns-3 : (t : ℕ) → in-rooms-lts.Need-returns-3 (
   is-short-reads.Learnt,
   in-512-reads.Asked,
   in-512-reads.Learnt,
+  in-million-reads.Asked,
+  in-million-reads.Learnt,
 ) (in-rooms-at t) in-rooms.Post
 in-rooms-returns-3 t c = search needs
+
+in-rooms-in-million-requires : (t : ℕ) → in-rooms-lts.Need-in-million-requires (
+  in-250-reads.Asked,
+  in-250-reads.Learnt,
+  in-rooms-below t,
+  in-rooms.Post,
+  is-short-reads.Asked,
+  is-short-reads.Learnt,
+  in-512-reads.Asked,
+  in-512-reads.Learnt,
+  in-million-reads.Asked,
+  in-million-reads.Learnt,
+) (in-rooms-at t) in-rooms.Post
+in-rooms-in-million-requires t c κs = search needs
 
 in-rooms-returns-4 : (t : ℕ) → in-rooms-lts.Need-returns-4 (
   in-250-reads.Asked,
@@ -127,6 +158,8 @@ in-rooms-returns-4 : (t : ℕ) → in-rooms-lts.Need-returns-4 (
   is-short-reads.Learnt,
   in-512-reads.Asked,
   in-512-reads.Learnt,
+  in-million-reads.Asked,
+  in-million-reads.Learnt,
 ) (in-rooms-at t) in-rooms.Post
 in-rooms-returns-4 t c = search needs
 
@@ -140,6 +173,8 @@ pub +in-rooms-spec : {M : Type 1} → statement M
   is-short-reads.Learnt,
   in-512-reads.Asked,
   in-512-reads.Learnt,
+  in-million-reads.Asked,
+  in-million-reads.Learnt,
 )
     (in-rooms-at t)
     in-rooms.Post
@@ -147,8 +182,9 @@ pub +in-rooms-spec : {M : Type 1} → statement M
     (in-rooms-returns t)
     (in-rooms-sub-in-rooms t)
     (in-rooms-in-rooms-requires t)
-    (in-rooms-returns-2 t)
     (in-rooms-is-short-requires t)
+    (in-rooms-returns-2 t)
     (in-rooms-in-512-requires t)
     (in-rooms-returns-3 t)
+    (in-rooms-in-million-requires t)
     (in-rooms-returns-4 t)
