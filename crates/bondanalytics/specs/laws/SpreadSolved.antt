@@ -26,7 +26,8 @@ use Rattle.treebasedbondpricer.specs.declared.fitted.FittedTree.{FittedTree}
 use Rattle.treebasedbondpricer.specs.declared.fitted.FittedTree.the-variants as tree
 use Rattle.treebasedbondpricer.specs.Tree.{Fitted, Lent, roomOf, zeroed}
 use Rattle.treebasedbondpricer.specs.laws.FittedIn.{FitsTree, fittedOver}
-use Rattle.treebasedbondpricer.specs.laws.Valued.{Standing, not-standing, same-row, same-calls, rootOver, rowOver}
+use Rattle.treebasedbondpricer.specs.laws.Valued.{Standing, not-standing, same-row, same-calls, rowOver}
+use Rattle.backwardinduction.specs.laws.WalkRoot.{rootOf}
 use Rattle.treebasedbondpricer.specs.laws.Entered.{grid-given, grid-refused, tree-is}
 use Rattle.interestrate.specs.declared.RateDefinition.{RateDefinition}
 use Rattle.bracketedroot.specs.declared.Root.{Root}
@@ -75,7 +76,7 @@ module _ {o : Outcome Fitted} {long wide : ℕ} {counts : List ℕ} {spacings sh
     tried-alike : (x : Float) → spreadAt dt flat target parts x ≡ walkedAt target cashflows (callsOf marks prices) (s .content) x
     unfolding spreadAt walkedAt
     tried-alike x =
-        ap (λ (row : Outcome (List At)). cond (lt one x) (refusal 36 0) (cond (beyond (float 1) x) (refusal 4 0) (andThen (rootOver row) λ y. tested (sub binary64 y target) 0)))
+        ap (λ (row : Outcome (List At)). cond (lt one x) (refusal 36 0) (cond (beyond (float 1) x) (refusal 4 0) (andThen (rootOf row) λ y. tested (sub binary64 y target) 0)))
         (sym (same-row s x cashflows (callsOf marks prices)))
 
     -- What the solver looks for over the tree.

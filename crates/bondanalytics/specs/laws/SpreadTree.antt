@@ -28,7 +28,8 @@ use Rattle.lattice.specs.Layers.{At, valueAt, Room}
 use Rattle.backwardinduction.specs.Walk.{walkFrom}
 use Rattle.lattice.specs.Lattice.{nodeCount}
 use Rattle.treebasedbondpricer.specs.Tree.{Fitted, fittedTree, latticeValue, treeValue}
-use Rattle.treebasedbondpricer.specs.laws.Valued.{rowOver, rootOver}
+use Rattle.treebasedbondpricer.specs.laws.Valued.{rowOver}
+use Rattle.backwardinduction.specs.laws.WalkRoot.{rootOf}
 use Rattle.bracketedroot.specs.declared.Root.{Root}
 use Rattle.bracketedroot.specs.declared.Root.the-variants as root
 use Rattle.bracketedroot.specs.Brackets.{bracketedRoot}
@@ -41,7 +42,7 @@ unfolding walkFrom onAnswer onOutcome sub lt
 walkedAt target cashflows calls f s =
     cond (lt one s) (refusal 36 0)
     (cond (beyond (float 1) s) (refusal 4 0)
-    (andThen (rootOver (rowOver s cashflows calls f)) λ x. tested (sub binary64 x target) 0))
+    (andThen (rootOf (rowOver s cashflows calls f)) λ x. tested (sub binary64 x target) 0))
 
 -- The root over a fitted tree; a refusal before the walk is met at the first try.
 unfoldable pub foundOver : Float → List Float → List CallStep → Outcome Fitted → Root
@@ -104,12 +105,12 @@ module _ (m : Market) (calls : CallSchedule) (room : Room) (target : Float) (pas
     -- ---- each try over the same tree
 
     module _ {f : Fitted} (has-tree : fittedTree m room (g .«maturity_time») (g .steps) ≡ given f) where
-      with-count : (o : Outcome (List At)) (n : ℕ) → onTreeValue (onOutcome (follow o λ row. given (tree.Value (valueAt (pos 0) row) n)) tree.Refused λ v. v) answer.Refused (λ x. tested (sub binary64 x target) 0) ≡ andThen (rootOver o) λ x. tested (sub binary64 x target) 0
+      with-count : (o : Outcome (List At)) (n : ℕ) → onTreeValue (onOutcome (follow o λ row. given (tree.Value (valueAt (pos 0) row) n)) tree.Refused λ v. v) answer.Refused (λ x. tested (sub binary64 x target) 0) ≡ andThen (rootOf o) λ x. tested (sub binary64 x target) 0
       unfolding onOutcome onTreeValue onAnswer
       with-count (given row) n = refl
       with-count (refused q) n = refl
 
-      tried-value : (s : Float) → within (float 1) s ≡ check.Passed → onTreeValue (treeValue (withSpread m s) calls room) answer.Refused (λ x. tested (sub binary64 x target) 0) ≡ andThen (rootOver (rowOver s (g .cashflows) (g .calls) f)) λ x. tested (sub binary64 x target) 0
+      tried-value : (s : Float) → within (float 1) s ≡ check.Passed → onTreeValue (treeValue (withSpread m s) calls room) answer.Refused (λ x. tested (sub binary64 x target) 0) ≡ andThen (rootOf (rowOver s (g .cashflows) (g .calls) f)) λ x. tested (sub binary64 x target) 0
       unfolding latticeValue
       tried-value s h =
           ap (λ (v : TreeValue). onTreeValue v answer.Refused λ x. tested (sub binary64 x target) 0)
@@ -122,7 +123,7 @@ module _ (m : Market) (calls : CallSchedule) (room : Room) (target : Float) (pas
         where
           go : (b d : Bool) → beyond (float 1) s ≡ d
               → cond b (refusal 36 0) (onTreeValue (treeValue (withSpread m s) calls room) answer.Refused λ x. tested (sub binary64 x target) 0)
-              ≡ cond b (refusal 36 0) (cond d (refusal 4 0) (andThen (rootOver (rowOver s (g .cashflows) (g .calls) f)) λ x. tested (sub binary64 x target) 0))
+              ≡ cond b (refusal 36 0) (cond d (refusal 4 0) (andThen (rootOf (rowOver s (g .cashflows) (g .calls) f)) λ x. tested (sub binary64 x target) 0))
           go true d e = refl
           go false true e = ap (λ (v : TreeValue). onTreeValue v answer.Refused λ x. tested (sub binary64 x target) 0) (no-input s (ap (single 4 0) e))
           go false false e = tried-value s (ap (single 4 0) e)

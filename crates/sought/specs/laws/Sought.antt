@@ -16,7 +16,7 @@ use Rattle.backwardinduction.specs.Walk.{walkFrom}
 use Rattle.lattice.specs.laws.Stored.{numbersIn}
 use Rattle.lattice.specs.laws.Laid.{frontNodes, layersIn, finalIn, Laid}
 use Rattle.backwardinduction.specs.laws.WalkMore.{callsOf}
-use Rattle.treebasedbondpricer.specs.laws.Valued.{rootOver}
+use Rattle.backwardinduction.specs.laws.WalkRoot.{rootOf}
 use Rattle.sought.specs.declared.Sought.{Sought}
 use Rattle.sought.specs.declared.Priced.{Priced}
 use Rattle.sought.specs.declared.Priced.the-variants.{Yield, Spread}
@@ -41,7 +41,7 @@ treeParts nodes probabilities counts spacings shifts cashflows marks prices =
 -- The root's value at a spread, or the refusal met on the way to it.
 abbrev pub rootAt : Float → Bool → TreeParts → Float → Answer
 rootAt dt flat t s =
-    rootOver
+    rootOf
     (walkFrom dt s (t .cashflows) (callsOf (t .marks) (t .prices)) 0
     (layersIn flat (t .counts) (t .spacings) (t .nodes) (t .probabilities)) (t .shifts)
     (finalIn (t .counts) (t .spacings) (t .nodes)))

@@ -20,6 +20,7 @@ use Rattle.treebasedbondpricer.specs.declared.fitted.FittedTree.{FittedT
 use Rattle.treebasedbondpricer.specs.declared.fitted.FittedTree.the-variants as tree
 use Rattle.lattice.specs.Layers.{At, valueAt}
 use Rattle.lattice.specs.Lattice.{Layer, Lattice}
+use Rattle.backwardinduction.specs.laws.WalkRoot.{rootOf}
 use Rattle.backwardinduction.specs.Walk.{walkFrom}
 use Rattle.treebasedbondpricer.specs.Tree.{Fitted}
 use Rattle.lattice.specs.Lattice.{countOf, nodeCount}
@@ -49,10 +50,6 @@ rowOver spread cashflows calls f = walkFrom (f .dt) spread cashflows calls 0 (f 
 -- Its root's value, and the node count.
 abbrev pub walked : Float → List Float → List CallStep → Fitted → Outcome TreeValue
 walked spread cashflows calls f = follow (rowOver spread cashflows calls f) λ row. given (Value (valueAt (pos 0) row) (nodeCount (f .tree)))
-
--- The walk over what stands in the slices, as an answer.
-abbrev pub rootOver : Outcome (List At) → Answer
-rootOver o = onOutcome o answer.Refused λ row. answer.Value (valueAt (pos 0) row)
 
 -- ---- a fitted tree that stands in the slices
 
@@ -93,17 +90,17 @@ module _ {o : Outcome Fitted} {one two : ℕ} {counts : List ℕ} {spacings shif
     same-count : nodeCount (s .content .tree) ≡ totalOf counts
     same-count = rw (← s .fitted .stands .layers, ← s .fitted .stands .final) (laid-nodes laid)
 
-    counted-as : (w : Outcome (List At)) (n : ℕ) → countedValue (rootOver w) n ≡ treeOf (follow w λ row. given (Value (valueAt (pos 0) row) n))
+    counted-as : (w : Outcome (List At)) (n : ℕ) → countedValue (rootOf w) n ≡ treeOf (follow w λ row. given (Value (valueAt (pos 0) row) n))
     unfolding treeOf onOutcome
     counted-as (given row) n = refl
     counted-as (refused q) n = refl
 
-    pub value-is : (spread : Float) (cashflows : List Float) (calls : List CallStep) {a : Answer} {n : ℕ} {v : TreeValue} → a ≡ rootOver (rowIn0 spread cashflows calls) → n ≡ totalOf counts → v ≡ countedValue a n → v ≡ treeOf (follow o (walked spread cashflows calls))
+    pub value-is : (spread : Float) (cashflows : List Float) (calls : List CallStep) {a : Answer} {n : ℕ} {v : TreeValue} → a ≡ rootOf (rowIn0 spread cashflows calls) → n ≡ totalOf counts → v ≡ countedValue a n → v ≡ treeOf (follow o (walked spread cashflows calls))
     value-is spread cashflows calls {a} {n} {v} e f g =
         g
         ∙ ap (λ (z : Answer). countedValue z n) e
-        ∙ ap (countedValue (rootOver (rowIn0 spread cashflows calls))) (f ∙ sym same-count)
-        ∙ ap (λ (w : Outcome (List At)). countedValue (rootOver w) (nodeCount (s .content .tree))) (sym (same-row spread cashflows calls))
+        ∙ ap (countedValue (rootOf (rowIn0 spread cashflows calls))) (f ∙ sym same-count)
+        ∙ ap (λ (w : Outcome (List At)). countedValue (rootOf w) (nodeCount (s .content .tree))) (sym (same-row spread cashflows calls))
         ∙ counted-as (rowOver spread cashflows calls (s .content)) (nodeCount (s .content .tree))
         ∙ sym (ap treeOf (follow-given o (walked spread cashflows calls) (s .is)))
 
