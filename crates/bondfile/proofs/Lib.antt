@@ -1,3 +1,0 @@
-pub mod Hunting
-pub mod Filling
-pub mod Checking

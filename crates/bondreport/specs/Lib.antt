@@ -1,8 +1,0 @@
-pub mod Columns
-pub mod Numbers
-pub mod Figures
-pub mod Lines
-pub mod Sentences
-pub mod Examples
-pub mod Order
-pub mod laws

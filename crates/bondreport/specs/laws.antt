@@ -1,4 +1,0 @@
--- The laws of the definitions.
-pub mod Comparing
-pub mod HowMany
-pub mod ReadOut
