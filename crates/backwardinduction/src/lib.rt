@@ -1,3 +1,2 @@
 // Backward induction over the layers: the walk back.
 pub mod walk;
-pub mod walking;

@@ -20,17 +20,17 @@ use Rattle.interestrate.specs.declared.FoundRate.{FoundRate}
 use Rattle.interestrate.specs.declared.FoundRate.the-variants.{Given, Refused}
 use Rattle.interestrate.specs.declared.YieldPrice.{YieldPrice}
 use Rattle.interestrate.specs.declared.YieldPrice.the-variants as price
-use Rattle.bracketedroot.specs.declared.Root.{Root}
-use Rattle.bracketedroot.specs.declared.Root.the-variants as root
+use Rattle.brackets.specs.declared.Root.{Root}
+use Rattle.brackets.specs.declared.Root.the-variants as root
 use Rattle.interestrate.specs.Rates.{rateOf, rateCheck, lowestYield}
 use Rattle.interestrate.specs.Prices.{flows, priceAndDerivative}
 use Rattle.bondanalytics.specs.Yields.{priceFromYield, solveYield, yieldFromPrice}
 use Rattle.sought.specs.Objectives.{objective, firstLower, firstUpper}
-use Rattle.bracketedroot.specs.Brackets.{bracketedRoot}
+use Rattle.brackets.specs.Brackets.{bracketedRoot}
 use Rattle.sought.specs.declared.Priced.the-variants.{Yield}
 use Rattle.sought.specs.declared.Sought.{Sought}
 use Rattle.sought.specs.laws.Sought.{TreeParts, soughtAt}
-use Rattle.bracketedroot.specs.laws.SoughtRoots.{sought-yield}
+use Rattle.brackets.specs.laws.SoughtRoots.{sought-yield}
 use Rattle.interestrate.specs.laws.Found.{foundRate, foundCheck, found-check}
 
 module _ (limit x : Float) (settlement : ℕ) (leg : Leg) (compounding code : ℕ) (f : FoundRate) {w s : Check} (e : foundRate f ≡ rateOf compounding code) (k : w ≡ foundCheck f) (h : s ≡ yieldChecks limit settlement leg x w) where

@@ -1,3 +1,1 @@
 pub mod Yields
-pub mod Spreads
-pub mod laws

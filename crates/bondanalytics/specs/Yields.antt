@@ -10,11 +10,11 @@ use Rattle.terms.specs.Entries.{priceChecks, targetChecks, yieldChecks}
 use Rattle.interestrate.specs.declared.RateDefinition.{RateDefinition}
 use Rattle.interestrate.specs.declared.YieldPrice.{YieldPrice}
 use Rattle.interestrate.specs.declared.YieldPrice.the-variants as price
-use Rattle.bracketedroot.specs.declared.Root.{Root}
-use Rattle.bracketedroot.specs.declared.Root.the-variants as root
+use Rattle.brackets.specs.declared.Root.{Root}
+use Rattle.brackets.specs.declared.Root.the-variants as root
 use Rattle.interestrate.specs.Rates.{rateOf, rateCheck, lowestYield, withCode}
 use Rattle.interestrate.specs.Prices.{flows, priceAndDerivative}
-use Rattle.bracketedroot.specs.Brackets.{bracketedRoot}
+use Rattle.brackets.specs.Brackets.{bracketedRoot}
 use Rattle.sought.specs.Objectives.{objective, firstLower, firstUpper}
 
 -- Price from yield: the price and its derivative.

@@ -1,3 +1,2 @@
-// Price from yield, yield from price, and spread from price.
-pub mod spreads;
+// Price from yield and yield from price.
 pub mod yields;

@@ -1,6 +1,8 @@
 // The entries: price from yield, and yield from price.
-use bracketedroot::Root;
 use bracketedroot::solver::bracketed_root;
+use brackets::Root;
+use entrychecks::entries::price_checks;
+use entrychecks::entries::target_checks;
 use interestrate::FoundRate;
 use interestrate::RateDefinition;
 use interestrate::YieldPrice;
@@ -11,8 +13,6 @@ use interestrate::rates::rate_of;
 use sought::Priced;
 use sought::Sought;
 use terms::Check;
-use terms::entries::price_checks;
-use terms::entries::target_checks;
 ghost use mathlib.Core.Path.{_≡_};
 ghost use mathlib.Core.List.{[]};
 ghost use lib.ListN.{length};

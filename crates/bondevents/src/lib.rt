@@ -1,11 +1,8 @@
 // Contractual cashflows and issuer calls on a uniform time grid.
-mod calls;
-mod cashflows;
-pub mod grid;
+pub mod calls;
 pub mod marks;
-mod principal;
-mod schedule;
-mod steps;
+pub mod principal;
+pub mod steps;
 
 use floats::Refusal;
 use floats::min::lesser;

@@ -1,11 +1,11 @@
 // What a bond is worth without its calls.
 use elementary::exp::exp_at;
+use entrychecks::entries::straight_checks;
 use floats::Answer;
 use floats::Refusal;
 use floats::finite::not_finite;
 use terms::Check;
 use terms::curve::factor_of;
-use terms::entries::straight_checks;
 use terms::time::year_fraction;
 ghost use mathlib.Core.Path.{_≡_};
 ghost use mathlib.Core.List.{[]};

@@ -1,9 +1,9 @@
 // bracketed_root: up to 64 widenings, then 256 halvings.
-use crate::Bracket;
-use crate::Halved;
-use crate::Root;
-use crate::Widened;
-use crate::brackets::is_small;
+use brackets::Bracket;
+use brackets::Halved;
+use brackets::Root;
+use brackets::Widened;
+use brackets::brackets::is_small;
 use floats::Answer;
 use floats::Refusal;
 use floats::max::greater;
@@ -13,7 +13,7 @@ use sought::objectives::objective;
 ghost use mathlib.Core.Path.{_≡_};
 ghost use Prim.Native.Nat.{_<_, _≤_};
 ghost use lib.ListN.{length};
-ghost use Rattle.bracketedroot.specs.Brackets.{halving, settled, widening, bracketedRoot};
+ghost use Rattle.brackets.specs.Brackets.{halving, settled, widening, bracketedRoot};
 ghost use Rattle.sought.specs.laws.Sought.{treeParts, soughtAt, Ready};
 
 // Up to 256 halvings.

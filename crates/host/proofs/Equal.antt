@@ -10,8 +10,8 @@ use Rattle.treebasedbondpricer.specs.declared.TreeValue.{TreeValue}
 use Rattle.treebasedbondpricer.specs.Tree.{Lent}
 use Rattle.treebasedbondpricer.specs.Entry.{Entered}
 use Rattle.interestrate.specs.declared.YieldPrice.{YieldPrice}
-use Rattle.bracketedroot.specs.declared.Root.{Root}
-use Rattle.bondanalytics.specs.Spreads.{Solved}
+use Rattle.brackets.specs.declared.Root.{Root}
+use Rattle.spreads.specs.Spreads.{Solved}
 use Rattle.host.specs.Handed.{Handed, HandedGrid, HandedValue, HandedTree, HandedPrice, HandedRoot, HandedSpread}
 
 pub handed-as : {a b : Answer} {result place : ℕ} {value : Float} → a ≡ b → Handed a result place value → Handed b result place value

@@ -12,11 +12,11 @@ use Rattle.terms.specs.Terms.{CallSchedule, Market}
 use Rattle.treebasedbondpricer.specs.Tree.{treeValue, Lent, roomOf, lentAfter}
 use Rattle.treebasedbondpricer.specs.Tree as tree
 use Rattle.interestrate.specs.declared.YieldPrice.{YieldPrice}
-use Rattle.bracketedroot.specs.declared.Root.{Root}
-use Rattle.bondanalytics.specs.Spreads.{spreadFromPrice}
-use Rattle.bondanalytics.specs.Spreads as spreads
+use Rattle.brackets.specs.declared.Root.{Root}
+use Rattle.spreads.specs.Spreads.{spreadFromPrice}
+use Rattle.spreads.specs.Spreads as spreads
 use Rattle.bondanalytics.specs.Yields.{priceNumber, pricePlace, priceOf, derivativeOf}
-use Rattle.bracketedroot.specs.Brackets.{rootNumber, rootPlace, rootValue, evaluationsOf}
+use Rattle.brackets.specs.Brackets.{rootNumber, rootPlace, rootValue, evaluationsOf}
 
 -- Of an elementary function and of the straight value.
 pub record Handed (answer : Answer) (result place : ℕ) (value : Float) : Type 0 where

@@ -1,6 +1,6 @@
 // Writes an answer through the references that a C caller lends, and gives its refusal number.
 
-use bracketedroot::Root;
+use brackets::Root;
 use floats::Answer;
 use interestrate::YieldPrice;
 use treebasedbondpricer::TreeValue;

@@ -2,7 +2,7 @@
 // outputs; the result is the refusal number, 0 where accepted. Outputs are 0 on a refusal.
 mod grids;
 mod handing;
-mod spreads;
+mod quotes;
 mod trees;
 
 use crate::grids::hand_grid;
@@ -137,7 +137,7 @@ pub extern "C" fn gutirapeo_grid(
         (record { perYear = yearly; maximum = maximum }))
         r (now (place .exit)) (now (maturity .exit)) (now (steps .exit)) (now (cashflows .exit)) (now (marks .exit)) (now (prices .exit)) ⌝ }
 {
-    let answer = bondevents::grid::bond_event_grid(
+    let answer = eventgrid::grid::bond_event_grid(
         settlement,
         days,
         kinds,

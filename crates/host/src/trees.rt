@@ -38,7 +38,7 @@ pub extern "C" fn gutirapeo_tree_value(
         (record { nodes = now (nodes .exit); probabilities = now (probabilities .exit); first = now («first_row» .exit); second = now («second_row» .exit) })
         r (now (place .exit)) (now (value .exit)) (now («node_count» .exit)) ⌝ }
 {
-    let answer = treebasedbondpricer::tree::tree_value(
+    let answer = treevalue::tree::tree_value(
         settlement,
         cashflow_days,
         cashflow_kinds,

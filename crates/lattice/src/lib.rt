@@ -1,9 +1,6 @@
-// The trinomial tree's layers and transitions, in lent slices.
-pub mod curved;
-pub mod flat;
-pub mod grow;
-pub mod lattice;
-pub mod layers;
+// The trinomial tree: what its layers and transitions are, and the transition of one node.
+use floats::Refusal;
+
 pub mod node;
 pub mod reach;
 pub mod refusals;
@@ -16,4 +13,21 @@ pub struct Transition {
     pub probability_down: f64,
     pub probability_middle: f64,
     pub probability_up: f64,
+}
+
+// The next layer is laid: its spacing and node count; or a refusal.
+pub enum NextLayer {
+    Laid(f64, usize),
+    Refused(Refusal),
+}
+
+// A step's new spacing and its two divisors; or a refusal.
+pub enum MadeStep {
+    Made(f64, f64, f64),
+    Refused(Refusal),
+}
+
+impl MadeStep {
+    // 2^−52: a variance at or below it is none.
+    pub const EPSILON: f64 = 2.220446049250313e-16;
 }

@@ -65,7 +65,7 @@ pub(crate) fn same(record: &[u8; 1280]) -> bool {
     let starts = eight_numbers(record, 29);
     let ends = eight_numbers(record, 33);
     let strikes = eight_floats(record, 37);
-    let answer = bondevents::grid::bond_event_grid(
+    let answer = eventgrid::grid::bond_event_grid(
         number(record, 1),
         &days[..flows],
         &kinds[..flows],

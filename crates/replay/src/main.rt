@@ -3,9 +3,9 @@
 mod entries;
 mod grids;
 mod lists;
+mod quotes;
 mod record;
 mod report;
-mod spreads;
 mod trees;
 
 use crate::record::any_nan;

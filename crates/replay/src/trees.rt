@@ -4,10 +4,10 @@
 use crate::lists::eight_bytes;
 use crate::lists::eight_floats;
 use crate::lists::eight_numbers;
+use crate::quotes;
 use crate::record::float;
 use crate::record::number;
 use crate::record::word;
-use crate::spreads;
 use treebasedbondpricer::TreeValue;
 
 // Whether an answer is the number, the place, the value and the node count that a record holds.
@@ -97,7 +97,7 @@ fn answered(
     let sigmas = eight_floats(record, 49);
     let pillars = eight_numbers(record, 55);
     let factors = eight_floats(record, 63);
-    let answer = treebasedbondpricer::tree::tree_value(
+    let answer = treevalue::tree::tree_value(
         number(record, 1),
         &days[..flows],
         &kinds[..flows],
@@ -137,7 +137,7 @@ fn replied(
     second: &mut [f64],
 ) -> bool {
     if word(record, 0) == 14 {
-        return spreads::answered(record, nodes, probabilities, first, second);
+        return quotes::answered(record, nodes, probabilities, first, second);
     }
     answered(record, nodes, probabilities, first, second)
 }

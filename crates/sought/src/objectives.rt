@@ -1,12 +1,12 @@
 // What the solver evaluates: the worth of what is priced at a tried argument, less the target.
 use crate::Priced;
 use crate::Sought;
-use backwardinduction::walking::root_value;
 use floats::Answer;
 use floats::Refusal;
 use floats::finite::not_finite;
 use interestrate::YieldPrice;
 use interestrate::prices::yield_price_and_derivative;
+use rollback::walking::root_value;
 ghost use mathlib.Core.Path.{_≡_};
 ghost use mathlib.Core.List.{[]};
 ghost use lib.ListN.{length};

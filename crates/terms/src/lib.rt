@@ -1,24 +1,19 @@
 // What a call brings: its limits, the input checks, day times and the discount curve.
 use floats::Refusal;
 
-mod calls;
-mod cashflows;
-mod counts;
+pub mod calls;
+pub mod cashflows;
+pub mod counts;
 pub mod curve;
-pub mod entries;
 pub mod fields;
-mod grid_stages;
 pub mod limits;
 pub mod lists;
-mod numbers;
-mod pillars;
-mod ranges;
-mod refusing;
-mod sigma;
-mod straight_stages;
+pub mod numbers;
+pub mod pillars;
+pub mod ranges;
+pub mod refusing;
+pub mod sigma;
 pub mod time;
-mod tree_stages;
-mod yield_stages;
 
 // What an input check finds.
 pub enum Check {

@@ -2,8 +2,6 @@
 use floats::Refusal;
 
 pub mod fitted;
-pub mod tree;
-pub mod value;
 pub mod zero;
 
 // The tree value: the root's value and the nodes of all layers, or a refusal.

@@ -10,16 +10,16 @@ use Rattle.floats.specs.declared.Answer.the-variants as answer
 use Rattle.floats.specs.Answers.{onAnswer, numberOf, placeOf}
 use Rattle.floats.specs.Extremes.{maxOf}
 use Rattle.floats.proofs.Laws.{valued}
-use Rattle.bracketedroot.specs.declared.Bracket.{Bracket}
-use Rattle.bracketedroot.specs.declared.Widened.{Widened}
-use Rattle.bracketedroot.specs.declared.Widened.the-variants as widened
-use Rattle.bracketedroot.specs.declared.Halved.{Halved}
-use Rattle.bracketedroot.specs.declared.Halved.the-variants as halved
-use Rattle.bracketedroot.specs.declared.Root.{Root}
-use Rattle.bracketedroot.specs.declared.Root.the-variants.{Found, Refused}
-use Rattle.bracketedroot.specs.Brackets.{widen, halve, onWidened, onHalved, halving, settled, widening, bracketedRoot}
+use Rattle.brackets.specs.declared.Bracket.{Bracket}
+use Rattle.brackets.specs.declared.Widened.{Widened}
+use Rattle.brackets.specs.declared.Widened.the-variants as widened
+use Rattle.brackets.specs.declared.Halved.{Halved}
+use Rattle.brackets.specs.declared.Halved.the-variants as halved
+use Rattle.brackets.specs.declared.Root.{Root}
+use Rattle.brackets.specs.declared.Root.the-variants.{Found, Refused}
+use Rattle.brackets.specs.Brackets.{widen, halve, onWidened, onHalved, halving, settled, widening, bracketedRoot}
 use Rattle.interestrate.proofs.Laws.{handed}
-use Rattle.bracketedroot.specs.laws.Evaluations.{WidenedWithin, HalvedWithin, widen-within, halve-within}
+use Rattle.brackets.specs.laws.Evaluations.{WidenedWithin, HalvedWithin, widen-within, halve-within}
 
 -- ---- the first two evaluations
 

@@ -9,8 +9,8 @@ use lib.Ieee.{Float, le}
 use Rattle.floats.specs.Answers.{plusZero}
 use Rattle.terms.specs.Outcomes.{Outcome, given, refused, follow}
 use Rattle.lattice.specs.declared.Transition.{Transition}
-use Rattle.lattice.specs.declared.grow.NextLayer.{NextLayer}
-use Rattle.lattice.specs.declared.grow.NextLayer.the-variants as next
+use Rattle.lattice.specs.declared.NextLayer.{NextLayer}
+use Rattle.lattice.specs.declared.NextLayer.the-variants as next
 use Rattle.lattice.specs.Layers.{Room}
 use Rattle.lattice.specs.Lattice.{stepOf, transitionsOf, destinations, withRoom}
 use Rattle.lattice.specs.laws.Stored.{numbersIn, pairsOf, lastPairs, threesOf}

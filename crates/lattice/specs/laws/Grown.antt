@@ -13,8 +13,8 @@ use Rattle.terms.specs.declared.Check.the-variants as check
 use Rattle.terms.specs.Outcomes.{Outcome, given, refused, onOutcome, follow}
 use Rattle.terms.specs.laws.Outcomes.{same-given, given-or-refused}
 use Rattle.hullwhite.specs.laws.Filled.{checkOf}
-use Rattle.lattice.specs.declared.grow.NextLayer.{NextLayer}
-use Rattle.lattice.specs.declared.grow.NextLayer.the-variants.{Refused}
+use Rattle.lattice.specs.declared.NextLayer.{NextLayer}
+use Rattle.lattice.specs.declared.NextLayer.the-variants.{Refused}
 use Rattle.lattice.specs.Layers.{Room, fits}
 use Rattle.lattice.specs.Transitions.{Step}
 use Rattle.lattice.specs.Lattice.{stepOf, transitionsOf, destinations, withRoom}

@@ -14,7 +14,7 @@ use Rattle.terms.specs.declared.Check.the-variants as check
 use Rattle.terms.specs.Outcomes.{Outcome, given, refused, onOutcome, follow}
 use Rattle.terms.specs.laws.Outcomes.{same-given, given-or-refused, follow-given, follow-refused, of-given, given-of}
 use Rattle.hullwhite.specs.laws.Filled.{checkOf}
-use Rattle.lattice.specs.declared.grow.NextLayer.the-variants as next
+use Rattle.lattice.specs.declared.NextLayer.the-variants as next
 use Rattle.lattice.specs.Layers.{Room}
 use Rattle.lattice.specs.Lattice.{Lattice, grown}
 use Rattle.lattice.specs.laws.Laid.{layersIn, finalIn, last-laid}

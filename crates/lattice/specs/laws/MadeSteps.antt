@@ -7,8 +7,8 @@ use Rattle.floats.specs.Answers.{two, whenFinite}
 use Rattle.rounded.specs.Root.{sqrtAt}
 use Rattle.terms.specs.Numbers.{float, epsilon}
 use Rattle.terms.specs.Outcomes.{Outcome, given, refused, valued, finiteThen, refuse}
-use Rattle.lattice.specs.declared.grow.MadeStep.{MadeStep}
-use Rattle.lattice.specs.declared.grow.MadeStep.the-variants.{Made, Refused}
+use Rattle.lattice.specs.declared.MadeStep.{MadeStep}
+use Rattle.lattice.specs.declared.MadeStep.the-variants.{Made, Refused}
 use Rattle.lattice.specs.Transitions.{Step}
 use Rattle.lattice.specs.Lattice.{spacingOf, stepOf}
 use Rattle.lattice.specs.laws.Making.{three, six, stepFrom}

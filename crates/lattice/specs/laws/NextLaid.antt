@@ -9,8 +9,8 @@ use lib.ListN.{length, getD}
 use lib.IntN.{ℤ, pos}
 use lib.Ieee.{Float}
 use Rattle.terms.specs.Outcomes.{given, refuse}
-use Rattle.lattice.specs.declared.grow.NextLayer.{NextLayer}
-use Rattle.lattice.specs.declared.grow.NextLayer.the-variants.{Laid, Refused}
+use Rattle.lattice.specs.declared.NextLayer.{NextLayer}
+use Rattle.lattice.specs.declared.NextLayer.the-variants.{Laid, Refused}
 use Rattle.lattice.specs.Layers.{Room, fits}
 use Rattle.lattice.specs.laws.Reaching.{reachAll, nothingBelow}
 use Rattle.lattice.specs.laws.Counting.{middlesFrom}

@@ -1,6 +1,6 @@
 -- `solver::settle` meets its contract. Assumes nothing.
-use Rattle.bracketedroot.specs.Brackets.{settled}
-use Rattle.bracketedroot.proofs.Laws.{left-not, taken-not}
+use Rattle.brackets.specs.Brackets.{settled}
+use Rattle.brackets.proofs.Laws.{left-not, taken-not}
 use Rattle.interestrate.proofs.Laws.{prices}
 use Rattle.bracketedroot.proofs.solver.settle.Statement.{statement}
 use Rattle.bracketedroot.proofs.solver.settle.Tie as tie

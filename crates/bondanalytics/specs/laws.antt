@@ -1,4 +1,0 @@
--- Laws of the spread behind a price.
-pub mod SpreadTree
-pub mod SpreadSolved
-pub mod SpreadPromise

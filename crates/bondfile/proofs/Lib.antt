@@ -1,0 +1,3 @@
+pub mod Hunting
+pub mod Filling
+pub mod Checking

@@ -1,0 +1,48 @@
+-- `past_spaces` meets its contract: what was passed are spaces. Assumes nothing.
+use Prim.Native.Nat.{_-_}
+use lib.ListN.{length}
+use Rattle.bondline.specs.Bytes.{isSpace}
+use Rattle.bondline.proofs.Running.{Running, running}
+use Rattle.bondline.proofs.bytes.past_spaces.Statement.{statement}
+use Rattle.bondline.proofs.bytes.past_spaces.Tie as tie
+
+abbrev Inv-loop : tie.InvT-loop
+Inv-loop text from i₀ i = Running isSpace text i₀ i
+
+abbrev μ-loop : tie.MeasureT-loop
+μ-loop text from i₀ i = length text - i
+
+loop-holds : tie.Need-loop-holds Inv-loop μ-loop
+loop-holds c = search running
+
+shared-slice-read-if1 : tie.Need-shared-slice-read-if1 Inv-loop μ-loop
+shared-slice-read-if1 c = search running
+
+returns : tie.Need-returns Inv-loop μ-loop
+returns c = search running
+
+add-i : tie.Need-add-i Inv-loop μ-loop
+add-i c = search running
+
+loop-less : tie.Need-loop-less Inv-loop μ-loop
+loop-less c = search running
+
+loop-again : tie.Need-loop-again Inv-loop μ-loop
+loop-again c = search running
+
+returns-2 : tie.Need-returns-2 Inv-loop μ-loop
+returns-2 c = search running
+
+pub past-spaces-spec : {M : Type 1} → statement M
+past-spaces-spec =
+    tie.close
+    (tie.spec
+    Inv-loop
+    μ-loop
+    loop-holds
+    shared-slice-read-if1
+    returns
+    add-i
+    loop-less
+    loop-again
+    returns-2)

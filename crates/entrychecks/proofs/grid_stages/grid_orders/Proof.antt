@@ -1,0 +1,27 @@
+-- `grid_orders` meets its contract: the checks follow one another as in the definition. Assumes nothing.
+use Rattle.terms.proofs.Laws.{sequence}
+use Rattle.entrychecks.proofs.grid_stages.grid_orders.Statement.{statement}
+use Rattle.entrychecks.proofs.grid_stages.grid_orders.Tie as tie
+
+call-order-requires : tie.Need-call-order-requires
+call-order-requires c κs = search sequence
+
+enum-told : tie.Need-enum-told
+enum-told c = search sequence
+
+enum-told-2 : tie.Need-enum-told-2
+enum-told-2 c = search sequence
+
+returns : tie.Need-returns
+returns c = search sequence
+
+any-paid-requires : tie.Need-any-paid-requires
+any-paid-requires c κs = search sequence
+
+returns-2 : tie.Need-returns-2
+returns-2 c = search sequence
+
+pub grid-orders-spec : {M : Type 1} → statement M
+grid-orders-spec =
+    tie.close
+    (tie.spec call-order-requires enum-told enum-told-2 returns any-paid-requires returns-2)

@@ -1,0 +1,49 @@
+-- `straight_numbers` meets its contract: the checks follow one another as in the definition. Assumes nothing.
+use Rattle.terms.proofs.Laws.{sequence}
+use Rattle.entrychecks.proofs.straight_stages.straight_numbers.Statement.{statement}
+use Rattle.entrychecks.proofs.straight_stages.straight_numbers.Tie as tie
+
+spread-range-requires : tie.Need-spread-range-requires
+spread-range-requires c κs = search sequence
+
+enum-told : tie.Need-enum-told
+enum-told c = search sequence
+
+enum-told-2 : tie.Need-enum-told-2
+enum-told-2 c = search sequence
+
+returns : tie.Need-returns
+returns c = search sequence
+
+all-within-requires : tie.Need-all-within-requires
+all-within-requires c κs = search sequence
+
+enum-told-3 : tie.Need-enum-told-3
+enum-told-3 c = search sequence
+
+enum-told-4 : tie.Need-enum-told-4
+enum-told-4 c = search sequence
+
+returns-2 : tie.Need-returns-2
+returns-2 c = search sequence
+
+factor-range-requires : tie.Need-factor-range-requires
+factor-range-requires c κs = search sequence
+
+returns-3 : tie.Need-returns-3
+returns-3 c = search sequence
+
+pub straight-numbers-spec : {M : Type 1} → statement M
+straight-numbers-spec =
+    tie.close
+    (tie.spec
+    spread-range-requires
+    enum-told
+    enum-told-2
+    returns
+    all-within-requires
+    enum-told-3
+    enum-told-4
+    returns-2
+    factor-range-requires
+    returns-3)

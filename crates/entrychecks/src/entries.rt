@@ -1,0 +1,271 @@
+// The input checks of each entry: in number order, inside one number by single fields, cashflows, calls, sigma, pillars. Each entry checks only what it takes.
+
+use crate::grid_stages::grid_counts;
+use crate::grid_stages::grid_days;
+use crate::grid_stages::grid_numbers;
+use crate::grid_stages::grid_orders;
+use crate::straight_stages::straight_counts;
+use crate::straight_stages::straight_days;
+use crate::straight_stages::straight_numbers;
+use crate::straight_stages::straight_orders;
+use crate::tree_stages::model_counts;
+use crate::tree_stages::tree_days;
+use crate::tree_stages::tree_fields;
+use crate::tree_stages::tree_numbers;
+use crate::tree_stages::tree_orders;
+use crate::yield_stages::yield_days;
+use crate::yield_stages::yield_numbers;
+use terms::Check;
+use terms::cashflows::any_paid;
+use terms::counts::leg_count;
+use terms::limits::PillarEntries;
+use terms::limits::Target;
+use terms::limits::Yields;
+ghost use mathlib.Core.Path.{_≡_};
+ghost use Rattle.terms.specs.Terms.{Leg, CallSchedule, SigmaSchedule, Pillars, Bond, TimeGrid, HullWhite, Market};
+ghost use Rattle.terms.specs.Entries.{gridChecks, marketChecks, treeChecks, spreadChecks, straightChecks, yieldChecks, priceChecks, targetChecks};
+
+// What the grid checks.
+pub fn grid_checks(
+    settlement: u32,
+    days: &[u32],
+    kinds: &[u8],
+    amounts: &[f64],
+    units: f64,
+    starts: &[u32],
+    ends: &[u32],
+    strikes: &[f64],
+    yearly: u32,
+    maximum: u32,
+) -> Check
+    ensures { λ r. ⌜ r ≡ gridChecks settlement (record { leg = record { days = now (days .entry); kinds = now (kinds .entry); amounts = now (amounts .entry) }; units = units }) (record { starts = now (starts .entry); ends = now (ends .entry); strikes = now (strikes .entry) }) (record { perYear = yearly; maximum = maximum }) ⌝ }
+{
+    let a = grid_counts(yearly, maximum, days, kinds, amounts, starts, ends, strikes);
+    let Check::Passed = a else {
+        return a;
+    };
+    let b = grid_days(settlement, days, kinds, starts, ends);
+    let Check::Passed = b else {
+        return b;
+    };
+    let c = grid_numbers(units, amounts, strikes);
+    let Check::Passed = c else {
+        return c;
+    };
+    grid_orders(settlement, days, starts, ends)
+}
+
+// What the straight value checks.
+pub fn straight_checks(
+    settlement: u32,
+    days: &[u32],
+    kinds: &[u8],
+    amounts: &[f64],
+    spread: f64,
+    pillars: &[u32],
+    factors: &[f64],
+) -> Check
+    ensures { λ r. ⌜ r ≡ straightChecks settlement (record { days = now (days .entry); kinds = now (kinds .entry); amounts = now (amounts .entry) }) spread (record { days = now (pillars .entry); factors = now (factors .entry) }) ⌝ }
+{
+    let a = straight_counts(days, kinds, amounts, pillars, factors);
+    let Check::Passed = a else {
+        return a;
+    };
+    let b = straight_days(settlement, days, kinds, pillars);
+    let Check::Passed = b else {
+        return b;
+    };
+    let c = straight_numbers(spread, amounts, factors);
+    let Check::Passed = c else {
+        return c;
+    };
+    straight_orders(settlement, days, pillars)
+}
+
+// What both yield entries check, with the limit of the yield or the target, and the check of the rate definition.
+fn yield_checks(
+    limit: f64,
+    settlement: u32,
+    days: &[u32],
+    kinds: &[u8],
+    amounts: &[f64],
+    x: f64,
+    rate: Check,
+) -> Check
+    ensures { λ r. ⌜ r ≡ yieldChecks limit settlement (record { days = now (days .entry); kinds = now (kinds .entry); amounts = now (amounts .entry) }) x rate ⌝ }
+{
+    let a = leg_count(days, kinds, amounts);
+    let Check::Passed = a else {
+        return a;
+    };
+    let b = yield_days(settlement, days, kinds);
+    let Check::Passed = b else {
+        return b;
+    };
+    let c = yield_numbers(limit, x, amounts);
+    let Check::Passed = c else {
+        return c;
+    };
+    let d = any_paid(settlement, days);
+    let Check::Passed = d else {
+        return d;
+    };
+    rate
+}
+
+// What price from yield checks.
+pub fn price_checks(
+    settlement: u32,
+    days: &[u32],
+    kinds: &[u8],
+    amounts: &[f64],
+    given: f64,
+    rate: Check,
+) -> Check
+    ensures { λ r. ⌜ r ≡ priceChecks settlement (record { days = now (days .entry); kinds = now (kinds .entry); amounts = now (amounts .entry) }) given rate ⌝ }
+{
+    yield_checks(Yields::GIVEN, settlement, days, kinds, amounts, given, rate)
+}
+
+// What yield from price checks.
+pub fn target_checks(
+    settlement: u32,
+    days: &[u32],
+    kinds: &[u8],
+    amounts: &[f64],
+    target: f64,
+    rate: Check,
+) -> Check
+    ensures { λ r. ⌜ r ≡ targetChecks settlement (record { days = now (days .entry); kinds = now (kinds .entry); amounts = now (amounts .entry) }) target rate ⌝ }
+{
+    yield_checks(Target::MOST, settlement, days, kinds, amounts, target, rate)
+}
+
+// What the tree value and spread from price check, with the limit of the spread or the target.
+fn market_checks(
+    limit: f64,
+    settlement: u32,
+    days: &[u32],
+    kinds: &[u8],
+    amounts: &[f64],
+    units: f64,
+    starts: &[u32],
+    ends: &[u32],
+    strikes: &[f64],
+    yearly: u32,
+    maximum: u32,
+    alpha: f64,
+    times: &[f64],
+    sigmas: &[f64],
+    x: f64,
+    pillars: &[u32],
+    factors: &[f64],
+) -> Check
+    ensures { λ r. ⌜ r ≡ marketChecks limit (record { settlement = settlement; bond = record { leg = record { days = now (days .entry); kinds = now (kinds .entry); amounts = now (amounts .entry) }; units = units }; controls = record { perYear = yearly; maximum = maximum }; model = record { alpha = alpha; sigma = record { times = now (times .entry); sigmas = now (sigmas .entry) } }; spread = x; pillars = record { days = now (pillars .entry); factors = now (factors .entry) } }) (record { starts = now (starts .entry); ends = now (ends .entry); strikes = now (strikes .entry) }) ⌝ }
+{
+    let a = grid_counts(yearly, maximum, days, kinds, amounts, starts, ends, strikes);
+    let Check::Passed = a else {
+        return a;
+    };
+    let b = model_counts(times, sigmas, pillars, factors);
+    let Check::Passed = b else {
+        return b;
+    };
+    let c = tree_days(settlement, days, kinds, starts, ends, pillars);
+    let Check::Passed = c else {
+        return c;
+    };
+    let d = tree_fields(limit, units, alpha, x);
+    let Check::Passed = d else {
+        return d;
+    };
+    let e = tree_numbers(amounts, strikes, times, sigmas, factors);
+    let Check::Passed = e else {
+        return e;
+    };
+    tree_orders(settlement, days, starts, ends, times, pillars)
+}
+
+// What the tree value checks.
+pub fn tree_checks(
+    settlement: u32,
+    days: &[u32],
+    kinds: &[u8],
+    amounts: &[f64],
+    units: f64,
+    starts: &[u32],
+    ends: &[u32],
+    strikes: &[f64],
+    yearly: u32,
+    maximum: u32,
+    alpha: f64,
+    times: &[f64],
+    sigmas: &[f64],
+    spread: f64,
+    pillars: &[u32],
+    factors: &[f64],
+) -> Check
+    ensures { λ r. ⌜ r ≡ treeChecks (record { settlement = settlement; bond = record { leg = record { days = now (days .entry); kinds = now (kinds .entry); amounts = now (amounts .entry) }; units = units }; controls = record { perYear = yearly; maximum = maximum }; model = record { alpha = alpha; sigma = record { times = now (times .entry); sigmas = now (sigmas .entry) } }; spread = spread; pillars = record { days = now (pillars .entry); factors = now (factors .entry) } }) (record { starts = now (starts .entry); ends = now (ends .entry); strikes = now (strikes .entry) }) ⌝ }
+{
+    market_checks(
+        PillarEntries::SPREAD,
+        settlement,
+        days,
+        kinds,
+        amounts,
+        units,
+        starts,
+        ends,
+        strikes,
+        yearly,
+        maximum,
+        alpha,
+        times,
+        sigmas,
+        spread,
+        pillars,
+        factors,
+    )
+}
+
+// What spread from price checks: a target stands where the spread stood.
+pub fn spread_checks(
+    settlement: u32,
+    days: &[u32],
+    kinds: &[u8],
+    amounts: &[f64],
+    units: f64,
+    starts: &[u32],
+    ends: &[u32],
+    strikes: &[f64],
+    yearly: u32,
+    maximum: u32,
+    alpha: f64,
+    times: &[f64],
+    sigmas: &[f64],
+    target: f64,
+    pillars: &[u32],
+    factors: &[f64],
+) -> Check
+    ensures { λ r. ⌜ r ≡ spreadChecks (record { settlement = settlement; bond = record { leg = record { days = now (days .entry); kinds = now (kinds .entry); amounts = now (amounts .entry) }; units = units }; controls = record { perYear = yearly; maximum = maximum }; model = record { alpha = alpha; sigma = record { times = now (times .entry); sigmas = now (sigmas .entry) } }; spread = target; pillars = record { days = now (pillars .entry); factors = now (factors .entry) } }) (record { starts = now (starts .entry); ends = now (ends .entry); strikes = now (strikes .entry) }) ⌝ }
+{
+    market_checks(
+        Target::MOST,
+        settlement,
+        days,
+        kinds,
+        amounts,
+        units,
+        starts,
+        ends,
+        strikes,
+        yearly,
+        maximum,
+        alpha,
+        times,
+        sigmas,
+        target,
+        pillars,
+        factors,
+    )
+}

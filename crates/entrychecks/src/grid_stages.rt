@@ -1,0 +1,96 @@
+// The checks of the grid, in stages: each stage is one number, or two that belong together.
+
+use terms::Check;
+use terms::calls::call_days;
+use terms::calls::call_order;
+use terms::calls::strike_range;
+use terms::cashflows::any_paid;
+use terms::cashflows::leg_days;
+use terms::counts::call_count;
+use terms::counts::leg_count;
+use terms::fields::settings;
+use terms::fields::settlement_day;
+use terms::fields::units_range;
+use terms::limits::Cashflows;
+use terms::numbers::all_within;
+ghost use mathlib.Core.Path.{_≡_};
+ghost use mathlib.Core.List.{[]};
+ghost use Prim.Native.Nat.{_≤_};
+ghost use lib.ListN.{length};
+ghost use Rattle.terms.specs.Terms.{CallSchedule, Leg, TimeGrid};
+ghost use Rattle.terms.specs.laws.Stages.{Tells, gridCounts, gridDays, gridNumbers, gridOrders};
+ghost use Rattle.terms.specs.laws.TermChecks.{LegCounted};
+ghost use Rattle.terms.specs.laws.CallChecks.{CallCounted};
+
+// 1 and 2: settings and counts.
+pub fn grid_counts(
+    yearly: u32,
+    maximum: u32,
+    days: &[u32],
+    kinds: &[u8],
+    amounts: &[f64],
+    starts: &[u32],
+    ends: &[u32],
+    strikes: &[f64],
+) -> Check
+    ensures { λ r. ⌜ Tells r (gridCounts (record { perYear = yearly; maximum = maximum }) (record { days = now (days .entry); kinds = now (kinds .entry); amounts = now (amounts .entry) }) (record { starts = now (starts .entry); ends = now (ends .entry); strikes = now (strikes .entry) })) (LegCounted (record { days = now (days .entry); kinds = now (kinds .entry); amounts = now (amounts .entry) }) × CallCounted (record { starts = now (starts .entry); ends = now (ends .entry); strikes = now (strikes .entry) })) ⌝ }
+{
+    let a = settings(yearly, maximum);
+    let Check::Passed = a else {
+        return a;
+    };
+    let b = leg_count(days, kinds, amounts);
+    let Check::Passed = b else {
+        return b;
+    };
+    call_count(starts, ends, strikes)
+}
+
+// 3: days and kinds.
+pub fn grid_days(settlement: u32, days: &[u32], kinds: &[u8], starts: &[u32], ends: &[u32]) -> Check
+    requires { ⌜ length (now days) ≤ 256 ⌝ }
+    requires { ⌜ length (now starts) ≤ 64 ⌝ }
+    requires { ⌜ length (now kinds) ≡ length (now days) ⌝ }
+    requires { ⌜ length (now ends) ≡ length (now starts) ⌝ }
+    ensures { λ r. ⌜ r ≡ gridDays settlement (record { days = now (days .entry); kinds = now (kinds .entry); amounts = [] }) (record { starts = now (starts .entry); ends = now (ends .entry); strikes = [] }) ⌝ }
+{
+    let a = settlement_day(settlement);
+    let Check::Passed = a else {
+        return a;
+    };
+    let b = leg_days(days, kinds);
+    let Check::Passed = b else {
+        return b;
+    };
+    call_days(starts, ends)
+}
+
+// 4: numbers and their ranges.
+pub fn grid_numbers(units: f64, amounts: &[f64], strikes: &[f64]) -> Check
+    requires { ⌜ length (now amounts) ≤ 256 ⌝ }
+    requires { ⌜ length (now strikes) ≤ 64 ⌝ }
+    ensures { λ r. ⌜ r ≡ gridNumbers units (record { days = []; kinds = []; amounts = now (amounts .entry) }) (record { starts = []; ends = []; strikes = now (strikes .entry) }) ⌝ }
+{
+    let a = units_range(units);
+    let Check::Passed = a else {
+        return a;
+    };
+    let b = all_within(Cashflows::AMOUNT, amounts);
+    let Check::Passed = b else {
+        return b;
+    };
+    strike_range(strikes)
+}
+
+// 5 and 7: a call that ends before it starts, and nothing paid.
+pub fn grid_orders(settlement: u32, days: &[u32], starts: &[u32], ends: &[u32]) -> Check
+    requires { ⌜ length (now starts) ≤ 64 ⌝ }
+    requires { ⌜ length (now ends) ≡ length (now starts) ⌝ }
+    ensures { λ r. ⌜ r ≡ gridOrders settlement (record { days = now (days .entry); kinds = []; amounts = [] }) (record { starts = now (starts .entry); ends = now (ends .entry); strikes = [] }) ⌝ }
+{
+    let a = call_order(starts, ends);
+    let Check::Passed = a else {
+        return a;
+    };
+    any_paid(settlement, days)
+}

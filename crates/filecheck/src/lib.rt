@@ -1,0 +1,2 @@
+// The first thing wrong with a file.
+pub mod check;

@@ -1,0 +1,2 @@
+// The value of a fitted tree: grid, tree and walk back.
+pub mod value;

@@ -1,0 +1,42 @@
+-- `step_of` meets its contract: by the test, then by the case of the spacing. Assumes nothing.
+use mathlib.Core.Path.{sym, _∙_}
+use Rattle.floats.specs.Answers.{onAnswer}
+use Rattle.lattice.specs.laws.MadeSteps.{step-is}
+use Rattle.layers.proofs.grow.step_of.Statement.{statement}
+use Rattle.layers.proofs.grow.step_of.Tie as tie
+
+returns : tie.Need-returns
+returns c = record { step = λ spacing decay. rw (← step-is spacing decay (c .before .args .variance) (c .before .args .place), c .if1 .taken) }
+
+spacing-of-requires : tie.Need-spacing-of-requires
+spacing-of-requires c κs = tt
+
+enum-known-found : tie.Need-enum-known-found
+enum-known-found c = c .match .keys1
+
+divisors-requires : tie.Need-divisors-requires
+divisors-requires c κs = tt
+
+enum-known-found-2 : tie.Need-enum-known-found-2
+enum-known-found-2 c = c .match .keys2
+
+returns-2 : tie.Need-returns-2
+unfolding onAnswer
+returns-2 c =
+    record { step = λ spacing decay. rw (← step-is spacing decay (c .before .before .before .before .before .before .args .variance) (c .before .before .before .before .before .before .args .place), c .before .before .before .before .before .if1 .left, sym (c .before .before .before .before .spacing-of .ensures) ∙ c .before .before .found .given .1) (c .divisors .ensures .step spacing decay) }
+
+returns-3 : tie.Need-returns-3
+unfolding onAnswer
+returns-3 c = record { step = λ spacing decay. rw (← step-is spacing decay (c .before .before .before .before .before .args .variance) (c .before .before .before .before .before .args .place), c .before .before .before .before .if1 .left, sym (c .before .before .before .spacing-of .ensures) ∙ c .before .found2 .given .1) }
+
+pub step-of-spec : {M : Type 1} → statement M
+step-of-spec =
+    tie.close
+    (tie.spec
+    returns
+    spacing-of-requires
+    enum-known-found
+    divisors-requires
+    enum-known-found-2
+    returns-2
+    returns-3)

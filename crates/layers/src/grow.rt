@@ -1,0 +1,206 @@
+// Growing the tree by one layer in the lent slices.
+
+use crate::layers::count_next;
+use crate::layers::fill;
+use crate::layers::spread;
+use floats::Answer;
+use floats::Refusal;
+use floats::finite::not_finite;
+use lattice::MadeStep;
+use lattice::NextLayer;
+use rounded::sqrt::sqrt_at;
+use terms::Check;
+ghost use mathlib.Core.Path.{_≡_};
+ghost use Prim.Native.Nat.{_+_, _*_, _^_, _<_, _≤_};
+ghost use lib.ListN.{length};
+ghost use Rattle.lattice.specs.Layers.{fits};
+ghost use Rattle.lattice.specs.Lattice.{spacingOf};
+ghost use Rattle.lattice.specs.laws.Stored.{numbersIn};
+ghost use Rattle.lattice.specs.laws.Bounds.{AllWithin};
+ghost use Rattle.lattice.specs.laws.Counting.{middlesFrom};
+ghost use Rattle.lattice.specs.laws.Making.{stepFrom};
+ghost use Rattle.lattice.specs.laws.Middles.{Upright};
+ghost use Rattle.lattice.specs.laws.Laid.{frontNodes};
+ghost use Rattle.lattice.specs.laws.Growing.{Front, GrownLayer, grownNext, roomLeft};
+ghost use Rattle.lattice.specs.laws.MadeSteps.{StepMade, DivisorsMade};
+ghost use Rattle.lattice.specs.laws.NextLaid.{roomOf, LaidNext};
+ghost use Rattle.lattice.specs.laws.Grown.{grownFrom};
+
+// sqrt(variance × 3).
+pub fn spacing_of(variance: f64, place: u32) -> Answer
+    ensures { λ r. ⌜ r ≡ spacingOf variance place ⌝ }
+{
+    let x = variance * 3.0;
+    if not_finite(x) {
+        return Answer::Refused(Refusal {
+            number: Refusal::NOT_FINITE,
+            place,
+        });
+    }
+    sqrt_at(x, place)
+}
+
+// The two divisors beside the new spacing.
+fn divisors(variance: f64, new_spacing: f64, place: u32) -> MadeStep
+    ensures { λ r. ⌜ DivisorsMade variance «new_spacing» place r ⌝ }
+{
+    let not_finite_here = Refusal {
+        number: Refusal::NOT_FINITE,
+        place,
+    };
+    let denominator = variance * 6.0;
+    if not_finite(denominator) {
+        return MadeStep::Refused(not_finite_here);
+    }
+    let scale = new_spacing * 2.0;
+    if not_finite(scale) {
+        return MadeStep::Refused(not_finite_here);
+    }
+    MadeStep::Made(new_spacing, denominator, scale)
+}
+
+// 22, then the new spacing and the two divisors.
+fn step_of(variance: f64, place: u32) -> MadeStep
+    ensures { λ r. ⌜ StepMade variance place r ⌝ }
+{
+    if variance <= MadeStep::EPSILON {
+        return MadeStep::Refused(Refusal {
+            number: Refusal::NO_VARIANCE,
+            place,
+        });
+    }
+    let found = spacing_of(variance, place);
+    match found {
+        Answer::Value(new_spacing) => divisors(variance, new_spacing, place),
+        Answer::Refused(refusal) => MadeStep::Refused(refusal),
+    }
+}
+
+// Whether a layer of `next` nodes behind `count` others fits slices and rows of these lengths.
+pub fn has_room(
+    nodes: usize,
+    probabilities: usize,
+    one: usize,
+    two: usize,
+    count: usize,
+    next: usize,
+) -> bool
+    requires { ⌜ count + next < 2 ^ 62 ⌝ }
+    ensures { λ r. ⌜ r ≡ fits (roomOf nodes probabilities one two) (count + next) next ⌝ }
+{
+    let all = count + next;
+    if nodes < 2 * all {
+        return false;
+    }
+    if probabilities < 3 * all {
+        return false;
+    }
+    if one < next {
+        return false;
+    }
+    if two < next {
+        return false;
+    }
+    true
+}
+
+// The next layer of one whose middles are there: counted, its room tried, then laid behind it.
+fn lay_next(
+    spacing: f64,
+    step: u32,
+    count: usize,
+    nodes: &mut [i32],
+    probabilities: usize,
+    one: usize,
+    two: usize,
+) -> NextLayer
+    requires { ⌜ (0 < count) × (2 * count ≤ length (now nodes)) × AllWithin (middlesFrom (now nodes) 0 count) × (step + 1 < 2 ^ 32) ⌝ }
+    ensures { λ r. ⌜ LaidNext (roomOf (length (now (nodes .entry))) probabilities one two) spacing step count r (now (nodes .entry)) (now (nodes .exit)) ⌝ }
+{
+    let reached = count_next(count, nodes);
+    let next = reached.count;
+    if has_room(nodes.len(), probabilities, one, two, count, next) {
+        spread(count, nodes);
+        return NextLayer::Laid(spacing, next);
+    }
+    NextLayer::Refused(Refusal {
+        number: Refusal::NO_ROOM,
+        place: step + 1,
+    })
+}
+
+// The layer in front by a step that is made.
+fn grow_by(
+    spacing: f64,
+    decay: f64,
+    new_spacing: f64,
+    denominator: f64,
+    scale: f64,
+    step: u32,
+    count: usize,
+    nodes: &mut [i32],
+    probabilities: &mut [f64],
+    one: usize,
+    two: usize,
+) -> NextLayer
+    requires { ⌜ (Front count spacing decay (now nodes) (now probabilities)) × (Upright (stepFrom spacing decay «new_spacing» denominator scale step)) × (step + 1 < 2 ^ 32) ⌝ }
+    ensures { λ r. ⌜ GrownLayer (grownFrom (roomLeft (now (nodes .entry)) (now (probabilities .entry)) one two) (stepFrom spacing decay «new_spacing» denominator scale step) (numbersIn (frontNodes count (now (nodes .entry))))) count r (now (nodes .entry)) (now (nodes .exit)) (now (probabilities .entry)) (now (probabilities .exit)) ⌝ }
+{
+    let filled = fill(
+        spacing,
+        decay,
+        new_spacing,
+        denominator,
+        scale,
+        step,
+        count,
+        nodes,
+        probabilities,
+    );
+    if let Check::Refused(refusal) = filled {
+        return NextLayer::Refused(refusal);
+    }
+    lay_next(
+        new_spacing,
+        step,
+        count,
+        nodes,
+        probabilities.len(),
+        one,
+        two,
+    )
+}
+
+// The layer of `count` nodes in front gets its middles and probabilities, and the next one is laid behind it. `one` and `two` are the rows' lengths.
+pub fn grow(
+    spacing: f64,
+    decay: f64,
+    variance: f64,
+    step: u32,
+    count: usize,
+    nodes: &mut [i32],
+    probabilities: &mut [f64],
+    one: usize,
+    two: usize,
+) -> NextLayer
+    requires { ⌜ (Front count spacing decay (now nodes) (now probabilities)) × (step + 1 < 2 ^ 32) ⌝ }
+    ensures { λ r. ⌜ GrownLayer (grownNext (roomLeft (now (nodes .entry)) (now (probabilities .entry)) one two) decay spacing (numbersIn (frontNodes count (now (nodes .entry)))) step variance) count r (now (nodes .entry)) (now (nodes .exit)) (now (probabilities .entry)) (now (probabilities .exit)) ⌝ }
+{
+    let made = step_of(variance, step);
+    match made {
+        MadeStep::Made(new_spacing, denominator, scale) => grow_by(
+            spacing,
+            decay,
+            new_spacing,
+            denominator,
+            scale,
+            step,
+            count,
+            nodes,
+            probabilities,
+            one,
+            two,
+        ),
+        MadeStep::Refused(refusal) => NextLayer::Refused(refusal),
+    }
+}

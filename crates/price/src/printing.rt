@@ -1,0 +1,30 @@
+// Lines on standard output.
+use crate::fields::bytes_of;
+use bondreport::columns::used;
+use floats::Refusal;
+use reportlines::lines::refused_line;
+use reportlines::sentences::what_to_do;
+
+pub(crate) fn say(text: &[u8]) {
+    io::write_all(1, text);
+}
+
+// A line of the report, without the blanks at its end.
+pub(crate) fn print(line: [u8; 80]) {
+    let n = used(line);
+    say(bytes_of(&line, n));
+    say(b"\n");
+}
+
+fn small(line: usize) -> u32 {
+    if line > 65537 {
+        return 0;
+    }
+    line as u32
+}
+
+// A refusal of the pricer, the file's line where there is one, and what to do.
+pub(crate) fn refuse(q: Refusal, line: usize) {
+    print(refused_line(q.number, small(line)));
+    print(what_to_do(q.number));
+}

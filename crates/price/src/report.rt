@@ -1,0 +1,173 @@
+// The report on a bond file.
+use crate::fields::PILLAR;
+use crate::fields::QUOTE;
+use crate::fields::YIELD;
+use crate::fields::days_of;
+use crate::fields::line_of;
+use crate::fields::numbers_of;
+use crate::messages::is_good;
+use crate::origin::line_behind;
+use crate::pricing::straight;
+use crate::pricing::yielded;
+use crate::printing::print;
+use crate::printing::refuse;
+use crate::printing::say;
+use crate::tree::Ask;
+use crate::tree::Reply;
+use crate::tree::asked;
+use bondfile::singles::fields_of;
+use bondfile::singles::first_of;
+use bondfile::stored::calls_of;
+use bondline::Entry;
+use bondreport::order::at_rank;
+use bondreport::order::call_at;
+use brackets::Root;
+use filecheck::check::checked;
+use floats::Answer;
+use reportlines::lines::call_heading;
+use reportlines::lines::call_line;
+use reportlines::lines::count_line;
+use reportlines::lines::curve_line;
+use reportlines::lines::no_calls;
+use reportlines::lines::no_pillar;
+use reportlines::lines::number_line;
+
+// The calls as they are read out, in whatever order they were typed.
+fn calls(starts: &[u32], ends: &[u32], strikes: &[f64]) {
+    let mut k = 0;
+    while k < starts.len() {
+        let i = at_rank(starts, ends, strikes, k);
+        let call = call_at(starts, ends, strikes, i);
+        print(call_line(call.start, call.end, call.strike));
+        k += 1;
+    }
+}
+
+fn call_list(text: &[u8]) {
+    let mut starts = [0u32; 64];
+    let mut ends = [0u32; 64];
+    let mut strikes = [0.0; 64];
+    let mut lines = [0usize; 64];
+    let n = calls_of(text, &mut starts, &mut ends, &mut strikes, &mut lines);
+    if n == 0 {
+        print(no_calls());
+        return;
+    }
+    print(call_heading());
+    calls(
+        days_of(&starts, n),
+        days_of(&ends, n),
+        numbers_of(&strikes, n),
+    );
+}
+
+// The day of the first pillar.
+fn curve_date(text: &[u8]) {
+    let Entry::Pillar(day, _) = first_of(text, PILLAR) else {
+        print(no_pillar());
+        return;
+    };
+    print(curve_line(day));
+}
+
+fn head(text: &[u8]) {
+    call_list(text);
+    curve_date(text);
+    let f = fields_of(text);
+    print(number_line(b"Spread", f.spread, 4));
+    say(b"\n");
+}
+
+// What the bond is worth without its calls, and what they are worth; whether that is accepted.
+fn straight_part(text: &[u8], quiet: bool, value: f64) -> bool {
+    match straight(text) {
+        Answer::Refused(q) => {
+            refuse(q, 0);
+            false
+        }
+        Answer::Value(x) => {
+            if quiet {
+                return true;
+            }
+            print(number_line(b"Straight value", x, 2));
+            print(number_line(b"Calls are worth", x - value, 2));
+            true
+        }
+    }
+}
+
+fn yield_part(text: &[u8], quiet: bool) -> bool {
+    let Entry::Yield(price, compounding, frequency) = first_of(text, YIELD) else {
+        return true;
+    };
+    match yielded(text, price, compounding, frequency) {
+        Root::Refused(q, _) => {
+            refuse(q, line_of(text, YIELD, 0));
+            false
+        }
+        Root::Found(x, n) => {
+            if quiet {
+                return true;
+            }
+            print(number_line(b"Yield", x, 4));
+            print(count_line(b"Yield tries", n as u64));
+            true
+        }
+    }
+}
+
+fn quote_part(text: &[u8], quiet: bool) -> bool {
+    let Entry::Quote(price) = first_of(text, QUOTE) else {
+        return true;
+    };
+    match asked(text, Ask::Spread(price)) {
+        Reply::Refused(q) => {
+            refuse(q, line_of(text, QUOTE, 0));
+            false
+        }
+        Reply::Found(x, n) => {
+            if quiet {
+                return true;
+            }
+            print(number_line(b"Quoted spread", x, 4));
+            print(count_line(b"Spreads tried", n));
+            true
+        }
+    }
+}
+
+fn value_part(text: &[u8], quiet: bool, value: f64, nodes: u64) -> bool {
+    if !quiet {
+        print(number_line(b"Value", value, 2));
+        print(count_line(b"Nodes", nodes));
+    }
+    let a = straight_part(text, quiet, value);
+    let b = yield_part(text, quiet);
+    let c = quote_part(text, quiet);
+    a && b && c
+}
+
+// Whether all that the file asks for is accepted.
+fn priced(text: &[u8], quiet: bool) -> bool {
+    match asked(text, Ask::Value) {
+        Reply::Refused(q) => {
+            refuse(q, line_behind(text, q));
+            false
+        }
+        Reply::Found(x, n) => value_part(text, quiet, x, n),
+    }
+}
+
+// The whole report; or, where it is to be quiet, `ok` or the refusals alone.
+pub(crate) fn report(text: &[u8], quiet: bool) {
+    if !is_good(checked(text)) {
+        return;
+    }
+    if !quiet {
+        head(text);
+    }
+    let good = priced(text, quiet);
+    if quiet && good {
+        say(b"ok\n");
+    }
+}

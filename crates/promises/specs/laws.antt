@@ -1,0 +1,12 @@
+-- Theorems about what the entries answer, over the definitions of the crates below.
+pub mod Cells
+pub mod Narrowing
+pub mod Converges
+pub mod Numbers
+pub mod ElementaryNumbers
+pub mod GridNumbers
+pub mod LatticeNumbers
+pub mod WalkNumbers
+pub mod TreeNumbers
+pub mod SpreadPromise
+pub mod SpreadNumbers

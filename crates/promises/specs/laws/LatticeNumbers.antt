@@ -1,0 +1,97 @@
+-- What the variances, the transitions and the layers refuse with has a number of at most 27. Assumes nothing.
+use Prim.Native.Nat.{ℕ, zero, suc}
+use mathlib.Core.List.{List, [], _∷_}
+use lib.IntN.{ℤ}
+use lib.Ieee.{Float}
+use Rattle.terms.specs.Terms.{HullWhite}
+use Rattle.hullwhite.specs.Variance.{weight, withPiece, pieces, varianceOver, stepVariance, variancesFrom}
+use Rattle.lattice.specs.Layers.{Room}
+use Rattle.lattice.specs.Transitions.{Step, clamped, probabilities, transitionOf}
+use Rattle.lattice.specs.Lattice.{transitionsOf, stepOf, grown, flat, curved, lattice}
+use Rattle.brackets.specs.laws.Cases.{Holds}
+use Rattle.promises.specs.laws.Numbers.{AnswerWithin, OutcomeWithin, numbers}
+use Rattle.promises.specs.laws.ElementaryNumbers.{exp-number, expM1-number, sqrt-number}
+
+-- ---- variances
+
+weight-number : (alpha lower upper end : Float) (place : ℕ) → Holds (AnswerWithin 27) (weight alpha lower upper end place)
+weight-number alpha lower upper end place = search (exp-number, expM1-number, numbers) depth 24
+
+piece-number : (alpha lower upper end sigma total : Float) (place : ℕ) → Holds (AnswerWithin 27) (withPiece alpha lower upper end sigma total place)
+unfolding withPiece
+piece-number alpha lower upper end sigma total place = search (weight-number, numbers) depth 24
+
+pieces-number : (times sigmas : List Float) (alpha start end lower total : Float) (place : ℕ) → Holds (AnswerWithin 27) (pieces alpha start end lower times sigmas total place)
+unfolding pieces
+pieces-number (next ∷ times) (sigma ∷ sigmas) alpha start end lower total place =
+    let later = pieces-number times sigmas in
+    search (piece-number, numbers)
+pieces-number [] (sigma ∷ sigmas) alpha start end lower total place = piece-number alpha lower end end sigma total place
+pieces-number (next ∷ times) [] alpha start end lower total place = search numbers
+pieces-number [] [] alpha start end lower total place = search numbers
+
+variance-number : (alpha : Float) (times sigmas : List Float) (start end : Float) (place : ℕ) → Holds (AnswerWithin 27) (varianceOver alpha times sigmas start end place)
+unfolding varianceOver
+variance-number alpha (first ∷ times) sigmas start end place = pieces-number times sigmas alpha start end start _ place
+variance-number alpha [] sigmas start end place = search numbers
+
+step-variance-number : (model : HullWhite) (dt : Float) (k : ℕ) → Holds (AnswerWithin 27) (stepVariance model dt k)
+unfolding stepVariance
+step-variance-number model dt k = search (variance-number, numbers)
+
+pub variances-number : (model : HullWhite) (dt : Float) (count k : ℕ) → Holds (OutcomeWithin 27) (variancesFrom model dt count k)
+unfolding variancesFrom
+variances-number model dt zero k = search numbers
+variances-number model dt (suc count) k =
+    let later = variances-number model dt count (suc k) in
+    search (step-variance-number, numbers)
+
+-- ---- transitions
+
+clamped-number : (middle : ℤ) (down mid up : Float) (place : ℕ) → Holds (OutcomeWithin 27) (clamped middle down mid up place)
+unfolding clamped
+clamped-number middle down mid up place = search numbers depth 24
+
+probabilities-number : (s : Step) (middle : ℤ) (error : Float) → Holds (OutcomeWithin 27) (probabilities s middle error)
+unfolding probabilities
+probabilities-number s middle error = search (clamped-number, numbers) depth 24
+
+transition-number : (s : Step) (node : ℤ) → Holds (OutcomeWithin 27) (transitionOf s node)
+unfolding transitionOf
+transition-number s node = search (probabilities-number, numbers) depth 24
+
+transitions-number : (s : Step) (nodes : List ℤ) → Holds (OutcomeWithin 27) (transitionsOf s nodes)
+unfolding transitionsOf
+transitions-number s [] = search numbers
+transitions-number s (n ∷ ns) =
+    let later = transitions-number s ns in
+    search (transition-number, numbers)
+
+-- ---- layers
+
+step-number : (spacing decay variance : Float) (k : ℕ) → Holds (OutcomeWithin 27) (stepOf spacing decay variance k)
+unfolding stepOf
+step-number spacing decay variance k = search (sqrt-number, numbers) depth 24
+
+grown-number : (variances : List Float) (room : Room) (decay spacing : Float) (before : ℕ) (nodes : List ℤ) (k : ℕ) → Holds (OutcomeWithin 27) (grown room decay spacing before nodes k variances)
+unfolding grown
+grown-number [] room decay spacing before nodes k = search numbers
+grown-number (v ∷ vs) room decay spacing before nodes k =
+    let later = grown-number vs in
+    search (step-number, transitions-number, numbers)
+
+flat-number : (left : ℕ) (room : Room) (k : ℕ) → Holds (OutcomeWithin 27) (flat room k left)
+unfolding flat
+flat-number zero room k = search numbers
+flat-number (suc left) room k =
+    let later = flat-number left in
+    search numbers
+
+curved-number : (room : Room) (alpha dt : Float) (variances : List Float) → Holds (OutcomeWithin 27) (curved room alpha dt variances)
+unfolding curved
+curved-number room alpha dt [] = search numbers
+curved-number room alpha dt (v ∷ vs) = search (exp-number, sqrt-number, grown-number, numbers)
+
+pub lattice-number : (room : Room) (alpha dt : Float) (variances : List Float) → Holds (OutcomeWithin 27) (lattice room alpha dt variances)
+unfolding lattice
+lattice-number room alpha dt variances = search (flat-number, curved-number, numbers)

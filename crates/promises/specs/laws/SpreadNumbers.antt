@@ -1,0 +1,87 @@
+-- What spread from price refuses with is at most 27, or 29, or 36. Assumes nothing.
+use Prim.Native.Nat.{ℕ, _≤_}
+use mathlib.Core.Path.{_≡_, refl, subst}
+use mathlib.Core.Logic.{_⊎_, inl, inr}
+use native.Mathlib.Omega.{arith}
+use lib.Dec.{T}
+use lib.Ieee.{Float, binary64, ofBits, ofInt, sub, neg, lt, le}
+use Rattle.floats.specs.declared.Refusal.{Refusal}
+use Rattle.floats.specs.declared.Answer.{Answer}
+use Rattle.floats.specs.declared.Answer.the-variants as answer
+use Rattle.floats.specs.Answers.{one, notFinite, tested}
+use Rattle.terms.specs.declared.Check.{Check}
+use Rattle.terms.specs.declared.Check.the-variants as check
+use Rattle.terms.specs.Numbers.{float, targetLimit}
+use Rattle.terms.specs.Terms.{CallSchedule, Market, withSpread}
+use Rattle.terms.specs.Checks.{onCheck}
+use Rattle.terms.specs.Entries.{treeChecks, spreadChecks}
+use Rattle.terms.specs.laws.Limits.{one-finite}
+use Rattle.terms.specs.laws.Ranges.{PlusMinus}
+use Rattle.terms.specs.laws.TermChecks.{within-passed}
+use Rattle.terms.specs.laws.EntryChecks.{tree-market}
+use Rattle.lattice.specs.Layers.{Room}
+use Rattle.treebasedbondpricer.specs.declared.TreeValue.{TreeValue}
+use Rattle.treebasedbondpricer.specs.declared.TreeValue.the-variants as tree
+use Rattle.treebasedbondpricer.specs.Tree.{treeValue}
+use Rattle.brackets.specs.declared.Root.the-variants.{Refused}
+use Rattle.brackets.specs.Brackets.{rootNumber}
+use Rattle.brackets.specs.laws.Cases.{Holds, of-cond}
+use Rattle.sought.specs.Objectives.{firstLower, firstUpper}
+use Rattle.spreads.specs.Spreads.{onTreeValue, spreadObjective, solveSpread, spreadFromPrice}
+use Rattle.promises.specs.laws.Converges.{Settles, converges}
+use Rattle.promises.specs.laws.Numbers.{on-check}
+use Rattle.promises.specs.laws.GridNumbers.{checks-number}
+use Rattle.promises.specs.laws.TreeNumbers.{tree-numbers}
+
+-- A spread that is found has number 0.
+abbrev Among : ℕ → Type 0
+Among n = (n ≤ 27) ⊎ ((n ≡ 29) ⊎ (n ≡ 36))
+
+-- A tried spread with a value is within ±1.
+abbrev Tried : Float → Answer → Type 0
+Tried s (answer.Value y) = PlusMinus (float 1) s
+Tried s (answer.Refused r) = Among (r .number)
+
+-- What has a value has passed its checks.
+passed : (c : Check) (v : TreeValue) (x : Float) (n : ℕ) → onCheck c tree.Refused v ≡ tree.Value x n → c ≡ check.Passed
+unfolding onCheck
+passed check.Passed v x n e = refl
+passed (check.Refused r) v x n e = cc
+
+module _ (m : Market) (calls : CallSchedule) (room : Room) where
+  abbrev difference : Float → Answer
+  difference = spreadObjective m calls room (m .spread)
+
+  valued : (s x : Float) (n : ℕ) → treeValue (withSpread m s) calls room ≡ tree.Value x n → PlusMinus (float 1) s
+  unfolding treeValue
+  valued s x n e = within-passed (float 1) s one-finite (tree-market (withSpread m s) calls (passed (treeChecks (withSpread m s) calls) _ x n e) .spread)
+
+  tried : (s : Float) → Holds (Tried s) (difference s)
+  unfolding spreadObjective onTreeValue
+  tried s = of-cond (lt one s) _ _ (λ t. record { it = inr (inr refl) }) (λ t. over (treeValue (withSpread m s) calls room) refl)
+    where
+      over : (v : TreeValue) → treeValue (withSpread m s) calls room ≡ v → Holds (Tried s) (onTreeValue v answer.Refused λ x. tested (sub binary64 x (m .spread)) 0)
+      over (tree.Value x n) e = of-cond (notFinite (sub binary64 x (m .spread))) _ _ (λ t. record { it = inl (omega arith) }) (λ t. record { it = valued s x n e })
+      over (tree.Refused q) e = record { it = inl (tree-numbers (withSpread m s) calls room q e) }
+
+  tried-within : (s y : Float) → difference s ≡ answer.Value y → T (le (neg one) s) × T (le s one)
+  unfolding ofBits ofInt
+  tried-within s y e = let p = subst (Tried s) e (tried s .it) in (p .at-least, p .at-most)
+
+  tried-number : (s : Float) (r : Refusal) → difference s ≡ answer.Refused r → Among (r .number)
+  tried-number s r e = subst (Tried s) e (tried s .it)
+
+  solved : Settles Among (solveSpread m calls room (m .spread))
+  solved = converges Among (inl (omega arith)) (inl (omega arith)) (inr (inl refl)) difference tried-within tried-number firstLower firstUpper (neg one)
+
+  spread-number : Settles Among (spreadFromPrice m calls room)
+  unfolding spreadFromPrice spreadChecks
+  spread-number = on-check {P = Settles Among} (spreadChecks m calls) _ _ (checks-number targetLimit m calls) (λ r l. record { it = inl l }) (record { it = solved }) .it
+
+-- A refusal is at most 27, or 29, or 36.
+pub spread-numbers : (m : Market) (calls : CallSchedule) (room : Room) (q : Refusal) (n : ℕ) → spreadFromPrice m calls room ≡ Refused q n → (q .number ≤ 27) ⊎ ((q .number ≡ 29) ⊎ (q .number ≡ 36))
+spread-numbers m calls room q n e = subst (Settles Among) e (spread-number m calls room)
+
+-- 30 is never given: every spread that has a value lies within ±1, where halving a bracket reaches 1e-14 in time.
+pub spread-never-30 : (m : Market) (calls : CallSchedule) (room : Room) → rootNumber (spreadFromPrice m calls room) ≡ 30 → ⊥
+spread-never-30 m calls room e = elim (spread-number m calls room) [ inl h ↦ omega arith | inr (inl h) ↦ omega arith | inr (inr h) ↦ omega arith ]

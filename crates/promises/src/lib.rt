@@ -1,0 +1,1 @@
+// No function: theorems about what the entries answer stand in specs.

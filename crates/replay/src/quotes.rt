@@ -1,0 +1,84 @@
+// Spread from price, kind 14: the lists of a tree value, and the target where its spread stands.
+
+use crate::lists::eight_bytes;
+use crate::lists::eight_floats;
+use crate::lists::eight_numbers;
+use crate::record::float;
+use crate::record::number;
+use brackets::Root;
+
+// Whether an answer is the number, the place, the spread and the tries that a record holds.
+fn is_answer(answer: Root, number: u32, place: u32, spread: f64, tried: u32) -> bool {
+    match answer {
+        Root::Found(x, n) => number == 0 && place == 0 && x == spread && n == tried,
+        Root::Refused(refusal, n) => refusal.number == number
+            && refusal.place == place
+            && spread == 0.0
+            && n == tried,
+    }
+}
+
+// Whether the inputs that a record holds are answered with what it holds; no list may be longer than its places.
+pub(crate) fn answered(
+    record: &[u8; 1280],
+    nodes: &mut [i32],
+    probabilities: &mut [f64],
+    first: &mut [f64],
+    second: &mut [f64],
+) -> bool {
+    let flows = number(record, 2) as usize;
+    let entries = number(record, 28) as usize;
+    let levels = number(record, 44) as usize;
+    let points = number(record, 54) as usize;
+    if flows > 8 {
+        return false;
+    }
+    if entries > 4 {
+        return false;
+    }
+    if levels > 4 {
+        return false;
+    }
+    if points > 8 {
+        return false;
+    }
+    let days = eight_numbers(record, 3);
+    let kinds = eight_bytes(record, 11);
+    let amounts = eight_floats(record, 19);
+    let starts = eight_numbers(record, 29);
+    let ends = eight_numbers(record, 33);
+    let strikes = eight_floats(record, 37);
+    let times = eight_floats(record, 45);
+    let sigmas = eight_floats(record, 49);
+    let pillars = eight_numbers(record, 55);
+    let factors = eight_floats(record, 63);
+    let answer = spreads::spreads::spread_from_price(
+        number(record, 1),
+        &days[..flows],
+        &kinds[..flows],
+        &amounts[..flows],
+        float(record, 27),
+        &starts[..entries],
+        &ends[..entries],
+        &strikes[..entries],
+        number(record, 41),
+        number(record, 42),
+        float(record, 43),
+        &times[..levels],
+        &sigmas[..levels],
+        float(record, 53),
+        &pillars[..points],
+        &factors[..points],
+        nodes,
+        probabilities,
+        first,
+        second,
+    );
+    is_answer(
+        answer,
+        number(record, 80),
+        number(record, 81),
+        float(record, 82),
+        number(record, 84),
+    )
+}

@@ -1,0 +1,23 @@
+-- `lines::curve_line` meets its contract. Assumes nothing.
+use borrow.Author.Needs.{needs}
+use Rattle.reportlines.proofs.lines.curve_line.Statement.{statement}
+use Rattle.reportlines.proofs.lines.curve_line.Tie as tie
+
+blank-requires : tie.Need-blank-requires
+blank-requires c κs = search needs
+
+slice-aggregate-put : tie.Need-slice-aggregate-put
+slice-aggregate-put c = search needs
+
+put-requires : tie.Need-put-requires
+put-requires c κs = search needs
+
+put-date-requires : tie.Need-put-date-requires
+put-date-requires c κs = search needs
+
+returns : tie.Need-returns
+returns c = cc
+
+pub curve-line-spec : {M : Type 1} → statement M
+curve-line-spec =
+    tie.close (tie.spec blank-requires slice-aggregate-put put-requires put-date-requires returns)

@@ -1,0 +1,2 @@
+// The walk back over all layers.
+pub mod walking;

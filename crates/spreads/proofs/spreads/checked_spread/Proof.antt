@@ -1,0 +1,55 @@
+-- `checked_spread` meets its contract: the grid, then the root (`SpreadSolved`). Assumes nothing.
+use Rattle.treebasedbondpricer.specs.laws.Entered.{steps-of-grid}
+use Rattle.spreads.specs.laws.SpreadSolved.{root-unchecked, root-checked}
+use borrow.Author.Needs.{needs}
+use Rattle.spreads.proofs.spreads.checked_spread.Statement.{statement}
+use Rattle.spreads.proofs.spreads.checked_spread.Tie as tie
+
+event-grid-requires : tie.Need-event-grid-requires
+event-grid-requires c κs = search needs
+
+enum-told : tie.Need-enum-told
+enum-told c = c .match .keys1
+
+enum-told-2 : tie.Need-enum-told-2
+enum-told-2 c = c .match .keys2
+
+unchecked-root-requires : tie.Need-unchecked-root-requires
+unchecked-root-requires c κs = tt
+
+returns : tie.Need-returns
+returns c = root-unchecked _ _ _ (c .before .before .before .event-grid .ensures) (c .before .enum-told2 .given .1) (c .unchecked-root .ensures)
+
+solve-grid-requires : tie.Need-solve-grid-requires
+solve-grid-requires c κs = steps-of-grid _ _ _ _ (c .before .before .before .before .before .before .before .event-grid .ensures) (c .before .before .before .before .before .enum-told .given .1) (c .before .before .before .before .before .before .before .before .before .before .before .before .before .before .before .before .before .before .before .before .before .pre .0 .0) (c .before .before .before .before .before .before .before .before .before .before .before .before .before .before .before .before .before .before .before .before .before .pre .0 .1)
+
+same-length : tie.Need-same-length
+same-length c = c .before .before .before .before .before .before .before .solve-grid .kept .1 .1 .1 .1 .1 .1 .1 .1 .0
+
+same-length-2 : tie.Need-same-length-2
+same-length-2 c = c .before .before .before .before .before .before .before .solve-grid .kept .1 .1 .1 .1 .1 .1 .1 .1 .1 .0
+
+same-length-3 : tie.Need-same-length-3
+same-length-3 c = c .before .before .before .before .before .before .before .solve-grid .kept .1 .1 .1 .1 .1 .1 .1 .1 .1 .1 .0
+
+same-length-4 : tie.Need-same-length-4
+same-length-4 c = c .before .before .before .before .before .before .before .solve-grid .kept .1 .1 .1 .1 .1 .1 .1 .1 .1 .1 .1 .0
+
+returns-2 : tie.Need-returns-2
+returns-2 c = root-checked _ _ _ (c .before .before .before .before .before .before .before .before .before .before .before .before .before .before .before .event-grid .ensures) (c .before .before .before .before .before .before .before .before .before .before .before .before .before .enum-told .given .1) (c .before .before .before .before .before .before .before .solve-grid .ensures)
+
+pub checked-spread-spec : {M : Type 1} → statement M
+checked-spread-spec =
+    tie.close
+    (tie.spec
+    event-grid-requires
+    enum-told
+    enum-told-2
+    unchecked-root-requires
+    returns
+    solve-grid-requires
+    same-length
+    same-length-2
+    same-length-3
+    same-length-4
+    returns-2)

@@ -1,0 +1,3 @@
+-- Laws of the spread behind a price.
+pub mod SpreadTree
+pub mod SpreadSolved

@@ -1,0 +1,2 @@
+// Spread from price.
+pub mod spreads;

@@ -1,0 +1,314 @@
+// Spread from price: the tree is fitted once, and each spread that is tried walks back over it.
+use bondevents::BondEventGrid;
+use bondevents::marks::marks_of;
+use bondevents::marks::prices_of;
+use bracketedroot::solver::bracketed_root;
+use brackets::Root;
+use entrychecks::entries::spread_checks;
+use eventgrid::grid::event_grid;
+use interestrate::Compounding;
+use interestrate::RateDefinition;
+use sought::Priced;
+use sought::Sought;
+use terms::Check;
+use treebasedbondpricer::fitted::FittedTree;
+use treebasedbondpricer::fitted::fitted_tree;
+use treebasedbondpricer::zero::zero_floats;
+use treebasedbondpricer::zero::zero_numbers;
+ghost use mathlib.Core.Path.{_≡_};
+ghost use Prim.Native.Nat.{_+_, _<_, _≤_};
+ghost use lib.ListN.{length};
+ghost use lib.Ieee.{binary64, div};
+ghost use Rattle.terms.specs.Numbers.{float};
+ghost use Rattle.terms.specs.Outcomes.{finiteThen};
+ghost use Rattle.hullwhite.specs.laws.Filled.{modelOf};
+ghost use Rattle.treebasedbondpricer.specs.Entry.{marketOf, callsIn};
+ghost use Rattle.lattice.specs.laws.Growing.{roomLeft};
+ghost use Rattle.backwardinduction.specs.laws.WalkMore.{callsOf};
+ghost use Rattle.treebasedbondpricer.specs.laws.FittedIn.{fittedOver};
+ghost use Rattle.spreads.specs.Spreads.{Solved};
+ghost use Rattle.spreads.specs.laws.SpreadTree.{foundOver};
+ghost use Rattle.spreads.specs.laws.SpreadSolved.{foundFor, unfitRoot, uncheckedRoot};
+
+// What is refused before the walk is met at the first try.
+fn unfit_root(tree: FittedTree) -> Root
+    ensures { λ r. ⌜ r ≡ unfitRoot tree ⌝ }
+{
+    match tree {
+        FittedTree::Fitted(_, _) => Root::Found(0.0, 0),
+        FittedTree::Refused(refusal) => Root::Refused(refusal, 1),
+    }
+}
+
+// A check's refusal, with the tries that were made.
+fn unchecked_root(check: Check, tried: u32) -> Root
+    ensures { λ r. ⌜ r ≡ uncheckedRoot check tried ⌝ }
+{
+    match check {
+        Check::Passed => Root::Found(0.0, 0),
+        Check::Refused(refusal) => Root::Refused(refusal, tried),
+    }
+}
+
+// Fit once, then the root. Counts, spacings and shifts have room for the steps.
+fn solve_over(
+    settlement: u32,
+    maturity: f64,
+    steps: u32,
+    cashflows: &[f64],
+    marks: &[u8],
+    prices: &[f64],
+    alpha: f64,
+    times: &[f64],
+    sigmas: &[f64],
+    target: f64,
+    days: &[u32],
+    factors: &[f64],
+    counts: &mut [usize],
+    spacings: &mut [f64],
+    shifts: &mut [f64],
+    nodes: &mut [i32],
+    probabilities: &mut [f64],
+    first: &mut [f64],
+    second: &mut [f64],
+) -> Root
+    requires { ⌜ (0 < steps) × (steps ≤ 512) × (length (now cashflows) ≡ 513) × (length (now marks) ≡ 513) × (length (now prices) ≡ 513) ⌝ }
+    requires { ⌜ (length (now counts) ≡ steps + 1) × (length (now spacings) ≡ steps) × (length (now shifts) ≡ steps) ⌝ }
+    ensures { λ r. ⌜ r ≡ foundOver target (now (cashflows .entry)) (callsOf (now (marks .entry)) (now (prices .entry))) (finiteThen (div binary64 maturity (float steps)) 0 λ dt. fittedOver settlement (modelOf alpha (now (times .entry)) (now (sigmas .entry))) (record { days = now (days .entry); factors = now (factors .entry) }) (roomLeft (now (nodes .entry)) (now (probabilities .entry)) (length (now (first .entry))) (length (now (second .entry)))) steps dt) ⌝ }
+{
+    let f = fitted_tree(
+        settlement,
+        maturity,
+        steps,
+        alpha,
+        times,
+        sigmas,
+        days,
+        factors,
+        counts,
+        spacings,
+        shifts,
+        nodes,
+        probabilities,
+        first,
+        second,
+    );
+    let FittedTree::Fitted(dt, flat) = f else {
+        return unfit_root(f);
+    };
+    let sought = Sought {
+        priced: Priced::Spread,
+        rate: RateDefinition {
+            compounding: Compounding::Simple,
+        },
+        settlement: 0,
+        target,
+        dt,
+        flat,
+    };
+    bracketed_root(
+        sought,
+        &[],
+        &[],
+        nodes,
+        probabilities,
+        counts,
+        spacings,
+        shifts,
+        cashflows,
+        marks,
+        prices,
+        first,
+        second,
+        Sought::LOWER,
+        Sought::UPPER,
+        Sought::LOWEST_SPREAD,
+    )
+}
+
+// The root over a grid.
+fn solve_grid(
+    settlement: u32,
+    grid: BondEventGrid,
+    alpha: f64,
+    times: &[f64],
+    sigmas: &[f64],
+    target: f64,
+    days: &[u32],
+    factors: &[f64],
+    nodes: &mut [i32],
+    probabilities: &mut [f64],
+    first: &mut [f64],
+    second: &mut [f64],
+) -> Root
+    requires { ⌜ (0 < grid .steps) × (grid .steps ≤ 512) ⌝ }
+    ensures { λ r. ⌜ r ≡ foundOver target (grid .cashflows) (grid .calls) (finiteThen (div binary64 (grid .«maturity_time») (float (grid .steps))) 0 λ dt. fittedOver settlement (modelOf alpha (now (times .entry)) (now (sigmas .entry))) (record { days = now (days .entry); factors = now (factors .entry) }) (roomLeft (now (nodes .entry)) (now (probabilities .entry)) (length (now (first .entry))) (length (now (second .entry)))) (grid .steps) dt) ⌝ }
+{
+    let maturity = grid.maturity_time;
+    let steps = grid.steps;
+    let cashflows = grid.cashflows;
+    let calls = grid.calls;
+    let marks = marks_of(calls);
+    let prices = prices_of(calls);
+    let mut counts = [0usize; 513];
+    let mut spacings = [0.0; 512];
+    let mut shifts = [0.0; 512];
+    let n = steps as usize;
+    solve_over(
+        settlement,
+        maturity,
+        steps,
+        &cashflows,
+        &marks,
+        &prices,
+        alpha,
+        times,
+        sigmas,
+        target,
+        days,
+        factors,
+        &mut counts[..n + 1],
+        &mut spacings[..n],
+        &mut shifts[..n],
+        nodes,
+        probabilities,
+        first,
+        second,
+    )
+}
+
+// The grid of checked terms, then the root.
+fn checked_spread(
+    settlement: u32,
+    days: &[u32],
+    kinds: &[u8],
+    amounts: &[f64],
+    units: f64,
+    starts: &[u32],
+    ends: &[u32],
+    strikes: &[f64],
+    yearly: u32,
+    maximum: u32,
+    alpha: f64,
+    times: &[f64],
+    sigmas: &[f64],
+    target: f64,
+    pillars: &[u32],
+    factors: &[f64],
+    nodes: &mut [i32],
+    probabilities: &mut [f64],
+    first: &mut [f64],
+    second: &mut [f64],
+) -> Root
+    requires { ⌜ (1 ≤ maximum) × (maximum ≤ 512) ⌝ }
+    requires { ⌜ (length (now days) ≤ 256) × (length (now kinds) ≡ length (now days)) × (length (now amounts) ≡ length (now days)) ⌝ }
+    requires { ⌜ (length (now ends) ≡ length (now starts)) × (length (now strikes) ≡ length (now starts)) ⌝ }
+    ensures { λ r. ⌜ r ≡ foundFor (marketOf settlement (now (days .entry)) (now (kinds .entry)) (now (amounts .entry)) units yearly maximum alpha (now (times .entry)) (now (sigmas .entry)) target (now (pillars .entry)) (now (factors .entry))) (callsIn (now (starts .entry)) (now (ends .entry)) (now (strikes .entry))) (roomLeft (now (nodes .entry)) (now (probabilities .entry)) (length (now (first .entry))) (length (now (second .entry)))) ⌝ }
+{
+    let answer = event_grid(
+        settlement,
+        days,
+        kinds,
+        amounts,
+        units,
+        starts,
+        ends,
+        strikes,
+        yearly,
+        maximum,
+    );
+    let check = answer.check;
+    let Check::Passed = check else {
+        return unchecked_root(check, 1);
+    };
+    let grid = answer.grid;
+    solve_grid(
+        settlement,
+        grid,
+        alpha,
+        times,
+        sigmas,
+        target,
+        pillars,
+        factors,
+        nodes,
+        probabilities,
+        first,
+        second,
+    )
+}
+
+// The spread at which the tree value is the target, and the number of spreads tried. The lent slices are untouched after an input refusal, else all zero.
+pub fn spread_from_price(
+    settlement: u32,
+    cashflow_days: &[u32],
+    cashflow_kinds: &[u8],
+    cashflow_amounts: &[f64],
+    units: f64,
+    call_starts: &[u32],
+    call_ends: &[u32],
+    call_strikes: &[f64],
+    steps_per_year: u32,
+    max_steps: u32,
+    alpha: f64,
+    sigma_times: &[f64],
+    sigmas: &[f64],
+    target: f64,
+    pillar_days: &[u32],
+    pillar_factors: &[f64],
+    nodes: &mut [i32],
+    probabilities: &mut [f64],
+    first_row: &mut [f64],
+    second_row: &mut [f64],
+) -> Root
+    ensures { λ r. ⌜ Solved (marketOf settlement (now («cashflow_days» .entry)) (now («cashflow_kinds» .entry)) (now («cashflow_amounts» .entry)) units «steps_per_year» «max_steps» alpha (now («sigma_times» .entry)) (now (sigmas .entry)) target (now («pillar_days» .entry)) (now («pillar_factors» .entry))) (callsIn (now («call_starts» .entry)) (now («call_ends» .entry)) (now («call_strikes» .entry))) r (record { nodes = now (nodes .entry); probabilities = now (probabilities .entry); first = now («first_row» .entry); second = now («second_row» .entry) }) (record { nodes = now (nodes .exit); probabilities = now (probabilities .exit); first = now («first_row» .exit); second = now («second_row» .exit) }) ⌝ }
+{
+    let check = spread_checks(
+        settlement,
+        cashflow_days,
+        cashflow_kinds,
+        cashflow_amounts,
+        units,
+        call_starts,
+        call_ends,
+        call_strikes,
+        steps_per_year,
+        max_steps,
+        alpha,
+        sigma_times,
+        sigmas,
+        target,
+        pillar_days,
+        pillar_factors,
+    );
+    let Check::Passed = check else {
+        return unchecked_root(check, 0);
+    };
+    let root = checked_spread(
+        settlement,
+        cashflow_days,
+        cashflow_kinds,
+        cashflow_amounts,
+        units,
+        call_starts,
+        call_ends,
+        call_strikes,
+        steps_per_year,
+        max_steps,
+        alpha,
+        sigma_times,
+        sigmas,
+        target,
+        pillar_days,
+        pillar_factors,
+        nodes,
+        probabilities,
+        first_row,
+        second_row,
+    );
+    zero_numbers(nodes);
+    zero_floats(probabilities);
+    zero_floats(first_row);
+    zero_floats(second_row);
+    root
+}

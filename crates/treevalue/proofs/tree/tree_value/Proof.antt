@@ -1,0 +1,80 @@
+-- `tree_value` meets its contract: the checks, the value, and the slices left all zero (`Entered`). Assumes nothing.
+use mathlib.Core.Path.{refl, sym, _∙_}
+use Rattle.terms.specs.laws.EntryChecks.{tree-grid}
+use Rattle.bondevents.proofs.Grids.{settled, leg-sized, calls-sized}
+use Rattle.treebasedbondpricer.specs.laws.Entered.{entered-refused, entered-zeroed}
+use Rattle.treevalue.proofs.tree.tree_value.Statement.{statement}
+use Rattle.treevalue.proofs.tree.tree_value.Tie as tie
+
+tree-checks-requires : tie.Need-tree-checks-requires
+tree-checks-requires c κs = tt
+
+enum-told : tie.Need-enum-told
+enum-told c = c .match .keys1
+
+enum-told-2 : tie.Need-enum-told-2
+enum-told-2 c = c .match .keys2
+
+unchecked-requires : tie.Need-unchecked-requires
+unchecked-requires c κs = tt
+
+returns : tie.Need-returns
+returns c = entered-refused _ _ (c .before .before .before .tree-checks .ensures) _ (c .before .enum-told2 .given .1) (c .unchecked .ensures)
+
+checked-value-requires : tie.Need-checked-value-requires
+checked-value-requires c κs =
+    let checks = tree-grid _ _ (sym (c .before .before .before .before .before .before .tree-checks .ensures) ∙ c .before .before .before .before .enum-told .given .1) in
+    let passed = sym checks in
+    let steps = settled _ _ _ _ passed refl in
+    let leg = leg-sized _ _ _ _ passed refl in
+    let calls = calls-sized _ _ _ _ passed refl .entries in
+    ((steps .some-steps, steps .few-steps), ((leg .few, leg .kinds-too, leg .amounts-too), (calls .ends-too, calls .strikes-too)))
+
+zero-numbers-requires : tie.Need-zero-numbers-requires
+zero-numbers-requires c κs = tt
+
+zero-floats-requires : tie.Need-zero-floats-requires
+zero-floats-requires c κs = tt
+
+zero-floats-requires-2 : tie.Need-zero-floats-requires-2
+zero-floats-requires-2 c κs = tt
+
+zero-floats-requires-3 : tie.Need-zero-floats-requires-3
+zero-floats-requires-3 c κs = tt
+
+same-length : tie.Need-same-length
+same-length c = c .before .before .before .before .before .before .before .before .before .before .before .before .before .zero-numbers .kept .0 ∙ c .before .before .before .before .before .before .before .before .before .before .before .before .before .before .before .before .before .before .before .before .before .before .checked-value .kept .1 .1 .1 .1 .1 .1 .1 .1 .1 .1 .1 .1 .1 .1 .1 .1 .0
+
+same-length-2 : tie.Need-same-length-2
+same-length-2 c = c .before .before .before .before .before .before .before .before .before .before .zero-floats .kept .0 ∙ c .before .before .before .before .before .before .before .before .before .before .before .before .before .before .before .before .before .before .before .before .before .before .checked-value .kept .1 .1 .1 .1 .1 .1 .1 .1 .1 .1 .1 .1 .1 .1 .1 .1 .1 .0
+
+same-length-3 : tie.Need-same-length-3
+same-length-3 c = c .before .before .before .before .before .before .zero-floats2 .kept .0 ∙ c .before .before .before .before .before .before .before .before .before .before .before .before .before .before .before .before .before .before .before .before .before .before .checked-value .kept .1 .1 .1 .1 .1 .1 .1 .1 .1 .1 .1 .1 .1 .1 .1 .1 .1 .1 .0
+
+same-length-4 : tie.Need-same-length-4
+same-length-4 c = c .before .before .zero-floats3 .kept .0 ∙ c .before .before .before .before .before .before .before .before .before .before .before .before .before .before .before .before .before .before .before .before .before .before .checked-value .kept .1 .1 .1 .1 .1 .1 .1 .1 .1 .1 .1 .1 .1 .1 .1 .1 .1 .1 .1 .0
+
+returns-2 : tie.Need-returns-2
+returns-2 c =
+    let kept = c .before .before .before .before .before .before .before .before .before .before .before .before .before .before .before .before .before .before .before .before .before .before .checked-value .kept in
+    entered-zeroed _ _ (c .before .before .before .before .before .before .before .before .before .before .before .before .before .before .before .before .before .before .before .before .before .before .before .before .before .before .before .before .before .tree-checks .ensures) _ (c .before .before .before .before .before .before .before .before .before .before .before .before .before .before .before .before .before .before .before .before .before .before .before .before .before .before .before .enum-told .given .1) (c .before .before .before .before .before .before .before .before .before .before .before .before .before .before .before .before .before .before .before .before .before .before .checked-value .ensures) (c .before .before .before .before .before .before .before .before .before .before .before .before .before .zero-numbers .ensures) (c .before .before .before .before .before .before .before .before .before .before .zero-floats .ensures) (c .before .before .before .before .before .before .zero-floats2 .ensures) (c .before .before .zero-floats3 .ensures) (kept .1 .1 .1 .1 .1 .1 .1 .1 .1 .1 .1 .1 .1 .1 .1 .1 .0) (kept .1 .1 .1 .1 .1 .1 .1 .1 .1 .1 .1 .1 .1 .1 .1 .1 .1 .0) (kept .1 .1 .1 .1 .1 .1 .1 .1 .1 .1 .1 .1 .1 .1 .1 .1 .1 .1 .0) (kept .1 .1 .1 .1 .1 .1 .1 .1 .1 .1 .1 .1 .1 .1 .1 .1 .1 .1 .1 .0)
+
+pub tree-value-spec : {M : Type 1} → statement M
+tree-value-spec =
+    tie.close
+    (tie.spec
+    tree-checks-requires
+    enum-told
+    enum-told-2
+    unchecked-requires
+    returns
+    checked-value-requires
+    zero-numbers-requires
+    zero-floats-requires
+    zero-floats-requires-2
+    zero-floats-requires-3
+    same-length
+    same-length-2
+    same-length-3
+    same-length-4
+    returns-2)

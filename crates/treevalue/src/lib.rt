@@ -1,0 +1,2 @@
+// The tree value entry: checks, value, and the lent slices zeroed.
+pub mod tree;
