@@ -1,5 +1,6 @@
 // Refusal 3: settlement, cashflows, calls, pillars.
 use crate::Whose;
+use terms::limits::Cashflows;
 use terms::limits::Day;
 ghost use mathlib.Core.Path.{_≡_};
 ghost use Rattle.places.specs.Places.{cashflowDayWrong, callDayWrong, whoseDay};
@@ -17,13 +18,13 @@ fn cashflow_day_wrong(place: usize, days: &[u32], kinds: &[u8]) -> bool
     if Day::LAST < days[place] {
         return true;
     }
-    if 1 < kinds[place] {
+    if Cashflows::LAST_KIND < kinds[place] {
         return true;
     }
-    if place == 0 {
-        return false;
+    if 0 < place {
+        return days[place] < days[place - 1];
     }
-    days[place] < days[place - 1]
+    false
 }
 
 // A call's start or end is no day.

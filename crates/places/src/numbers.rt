@@ -1,37 +1,26 @@
 // Refusal 4: units, alpha, spread, amounts, strikes, sigma, factors.
 use crate::Whose;
+use terms::limits::CallEntries;
+use terms::limits::Cashflows;
+use terms::limits::PillarEntries;
+use terms::limits::SigmaEntries;
+use terms::limits::Units;
 use terms::lists::number_at;
+use terms::numbers::not_above_at;
+use terms::numbers::not_up_to_at;
+use terms::ranges::not_above;
+use terms::ranges::not_within;
 ghost use mathlib.Core.Path.{_≡_};
-ghost use Rattle.places.specs.Places.{outsideOf, noStrike, beyondAt, strikeWrong, sigmaWrong, whoseField, whoseNumber};
+ghost use Rattle.places.specs.Places.{amountWrong, strikeWrong, upToWrong, sigmaWrong, whoseField, whoseNumber};
 
-// Outside the limits, both of which are inside.
-fn outside(low: f64, high: f64, x: f64) -> bool
-    ensures { λ r. ⌜ r ≡ outsideOf low high x ⌝ }
+// An amount isn't within ±1e12.
+fn amount_wrong(place: usize, amounts: &[f64]) -> bool
+    ensures { λ r. ⌜ r ≡ amountWrong place (now (amounts .entry)) ⌝ }
 {
-    if x < low {
-        return true;
-    }
-    high < x
-}
-
-// Not above 0 and up to 1,000,000.
-fn no_strike(x: f64) -> bool
-    ensures { λ r. ⌜ r ≡ noStrike x ⌝ }
-{
-    if x <= 0.0 {
-        return true;
-    }
-    1000000.0 < x
-}
-
-// A list's number is outside the limits.
-fn beyond_at(place: usize, low: f64, high: f64, xs: &[f64]) -> bool
-    ensures { λ r. ⌜ r ≡ beyondAt place low high (now (xs .entry)) ⌝ }
-{
-    if xs.len() <= place {
+    if amounts.len() <= place {
         return false;
     }
-    outside(low, high, number_at(xs, place))
+    not_within(Cashflows::AMOUNT, number_at(amounts, place))
 }
 
 // A strike isn't above 0 and up to 1,000,000.
@@ -41,39 +30,40 @@ fn strike_wrong(place: usize, strikes: &[f64]) -> bool
     if strikes.len() <= place {
         return false;
     }
-    no_strike(number_at(strikes, place))
+    not_above_at(CallEntries::STRIKE, strikes, place)
+}
+
+// A number isn't 0 to limit.
+fn up_to_wrong(place: usize, limit: f64, xs: &[f64]) -> bool
+    ensures { λ r. ⌜ r ≡ upToWrong place limit (now (xs .entry)) ⌝ }
+{
+    if xs.len() <= place {
+        return false;
+    }
+    not_up_to_at(limit, xs, place)
 }
 
 // A sigma's time isn't 0 to 600, or the sigma isn't 0 to 10.
 fn sigma_wrong(place: usize, times: &[f64], sigmas: &[f64]) -> bool
     ensures { λ r. ⌜ r ≡ sigmaWrong place (now (times .entry)) (now (sigmas .entry)) ⌝ }
 {
-    if beyond_at(place, 0.0, 600.0, times) {
+    if up_to_wrong(place, SigmaEntries::TIME, times) {
         return true;
     }
-    beyond_at(place, 0.0, 10.0, sigmas)
+    up_to_wrong(place, SigmaEntries::SIGMA, sigmas)
 }
 
 // Which single field it is.
 pub fn whose_field(units: f64, alpha: f64, spread: f64) -> Whose
     ensures { λ r. ⌜ r ≡ whoseField units alpha spread ⌝ }
 {
-    if units <= 0.0 {
+    if not_above(Units::MOST, units) {
         return Whose::Units;
     }
-    if 1000000000000.0 < units {
-        return Whose::Units;
-    }
-    if alpha < -10.0 {
+    if not_within(SigmaEntries::ALPHA, alpha) {
         return Whose::Alpha;
     }
-    if 10.0 < alpha {
-        return Whose::Alpha;
-    }
-    if spread < -1.0 {
-        return Whose::Spread;
-    }
-    if 1.0 < spread {
+    if not_within(PillarEntries::SPREAD, spread) {
         return Whose::Spread;
     }
     Whose::Nobody
@@ -89,7 +79,7 @@ pub fn whose_number(
 ) -> Whose
     ensures { λ r. ⌜ r ≡ whoseNumber place (now (amounts .entry)) (now (strikes .entry)) (now (times .entry)) (now (sigmas .entry)) ⌝ }
 {
-    if beyond_at(place, -1000000000000.0, 1000000000000.0, amounts) {
+    if amount_wrong(place, amounts) {
         return Whose::Cashflow;
     }
     if strike_wrong(place, strikes) {

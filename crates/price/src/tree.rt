@@ -1,4 +1,4 @@
-// The tree value, and the spread behind a quote, in rooms of two sizes.
+// The tree value, and the spread behind a quote, in rooms of three sizes.
 use crate::fields::bytes_of;
 use crate::fields::days_of;
 use crate::fields::numbers_of;

@@ -7,13 +7,13 @@ use floats::finite::not_finite;
 use interestrate::YieldPrice;
 use interestrate::prices::yield_price_and_derivative;
 use rollback::walking::root_value;
+use terms::limits::PillarEntries;
+use terms::ranges::not_within;
 ghost use mathlib.Core.Path.{_≡_};
 ghost use mathlib.Core.List.{[]};
 ghost use lib.ListN.{length};
 ghost use lib.Ieee.{binary64, sub};
 ghost use Rattle.floats.specs.Answers.{tested};
-ghost use Rattle.terms.specs.Numbers.{float};
-ghost use Rattle.terms.specs.Checks.{beyond};
 ghost use Rattle.sought.specs.Objectives.{objective};
 ghost use Rattle.sought.specs.laws.Sought.{treeParts, spreadAt, soughtAt, Walkable, Ready};
 
@@ -43,19 +43,6 @@ fn at_yield(sought: Sought, days: &[u32], amounts: &[f64], y: f64) -> Answer
     }
 }
 
-// A spread that isn't finite or lies outside ±1.
-fn not_spread(spread: f64) -> bool
-    ensures { λ r. ⌜ r ≡ beyond (float 1) spread ⌝ }
-{
-    if not_finite(spread) {
-        return true;
-    }
-    if spread < -1.0 {
-        return true;
-    }
-    1.0 < spread
-}
-
 // The root's value less target at a spread.
 fn at_spread(
     sought: Sought,
@@ -80,7 +67,7 @@ fn at_spread(
             place: 0,
         });
     }
-    if not_spread(spread) {
+    if not_within(PillarEntries::SPREAD, spread) {
         return Answer::Refused(Refusal {
             number: Refusal::NUMBER,
             place: 0,

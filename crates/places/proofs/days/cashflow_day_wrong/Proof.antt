@@ -30,10 +30,6 @@ returns-4 : tie.Need-returns-4
 unfolding cashflowDayWrong
 returns-4 c = search tests depth 12
 
-returns-5 : tie.Need-returns-5
-unfolding cashflowDayWrong
-returns-5 c = search tests depth 12
-
 mul-result : tie.Need-mul-result
 mul-result c = search needs
 
@@ -48,6 +44,10 @@ mul-result-2 c = search needs
 
 shared-slice-read-result-2 : tie.Need-shared-slice-read-result-2
 shared-slice-read-result-2 c = search needs
+
+returns-5 : tie.Need-returns-5
+unfolding cashflowDayWrong
+returns-5 c = search tests depth 12
 
 returns-6 : tie.Need-returns-6
 unfolding cashflowDayWrong
@@ -64,10 +64,10 @@ cashflow-day-wrong-spec =
     returns-3
     shared-slice-read-if4
     returns-4
-    returns-5
     mul-result
     shared-slice-read-result
     sub-result
     mul-result-2
     shared-slice-read-result-2
+    returns-5
     returns-6)

@@ -1,4 +1,5 @@
 -- `objectives::at_spread` meets its contract. Assumes nothing.
+use lib.Ieee.{ofInt, ofBits}
 use Rattle.sought.specs.laws.Sought.{spreadAt}
 use Rattle.interestrate.proofs.Laws.{prices}
 use Rattle.sought.proofs.objectives.at_spread.Statement.{statement}
@@ -8,11 +9,11 @@ returns : tie.Need-returns
 unfolding spreadAt
 returns c = search prices
 
-not-spread-requires : tie.Need-not-spread-requires
-not-spread-requires c κs = search prices
+not-within-requires : tie.Need-not-within-requires
+not-within-requires c κs = search prices
 
 returns-2 : tie.Need-returns-2
-unfolding spreadAt
+unfolding spreadAt ofInt ofBits
 returns-2 c = search prices
 
 root-value-requires : tie.Need-root-value-requires
@@ -31,7 +32,7 @@ same-length-2 : tie.Need-same-length-2
 same-length-2 c = search prices
 
 returns-3 : tie.Need-returns-3
-unfolding spreadAt
+unfolding spreadAt ofInt ofBits
 returns-3 c = search prices
 
 above-target-requires : tie.Need-above-target-requires
@@ -44,7 +45,7 @@ same-length-4 : tie.Need-same-length-4
 same-length-4 c = search prices
 
 returns-4 : tie.Need-returns-4
-unfolding spreadAt
+unfolding spreadAt ofInt ofBits
 returns-4 c = search prices
 
 pub at-spread-spec : {M : Type 1} → statement M
@@ -52,7 +53,7 @@ at-spread-spec =
     tie.close
     (tie.spec
     returns
-    not-spread-requires
+    not-within-requires
     returns-2
     root-value-requires
     enum-known-a

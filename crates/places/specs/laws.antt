@@ -1,0 +1,3 @@
+-- Whoever is blamed is at fault.
+pub mod Refusing
+pub mod Blamed
