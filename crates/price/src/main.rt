@@ -1,9 +1,6 @@
 // Prices bonds from bond files: those that are named, or standard input. Behind the word --check only `ok` or the
 // refusals are written.
-mod fields;
 mod messages;
-mod origin;
-mod pricing;
 mod printing;
 mod report;
 mod rooms;

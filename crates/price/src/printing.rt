@@ -1,6 +1,6 @@
 // Lines on standard output.
-use crate::fields::bytes_of;
 use bondreport::columns::used;
+use filebond::parts::bytes_of;
 use floats::Refusal;
 use reportlines::lines::refused_line;
 use reportlines::sentences::what_to_do;

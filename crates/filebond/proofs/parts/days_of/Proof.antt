@@ -1,13 +1,16 @@
--- `price::fields::days_of` is safe: no part is longer than the list. Assumes nothing.
+-- `parts::days_of` meets its contract. Assumes nothing.
+use Prim.Native.Nat.{_≤_}
 use native.Mathlib.Omega.{arith}
+use lib.ListN.{length}
 use mathlib.Core.Path.{sym}
 use lib.Seq.{length-take-le}
+use Rattle.filebond.specs.laws.Held.{whole}
 use borrow.Author.Needs.{needs}
-use Rattle.price.proofs.fields.days_of.Statement.{statement}
-use Rattle.price.proofs.fields.days_of.Tie as tie
+use Rattle.filebond.proofs.parts.days_of.Statement.{statement}
+use Rattle.filebond.proofs.parts.days_of.Tie as tie
 
 returns : tie.Need-returns
-returns c = search needs
+returns c = let h : length (c .before .args .xs .now) ≤ c .before .args .n = omega (arith, c .if1 .taken) in whole _ _ h
 
 slice-aggregate-result : tie.Need-slice-aggregate-result
 slice-aggregate-result c = sym (length-take-le _ _ (omega (arith, c .before .if1 .left)))

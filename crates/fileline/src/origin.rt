@@ -1,29 +1,36 @@
 // The file's line that a refusal of the tree value is about.
-use crate::fields::ALPHA;
-use crate::fields::CALL;
-use crate::fields::CASHFLOW;
-use crate::fields::PILLAR;
-use crate::fields::SETTLEMENT;
-use crate::fields::SIGMA;
-use crate::fields::SPREAD;
-use crate::fields::STEPS;
-use crate::fields::UNITS;
-use crate::fields::bytes_of;
-use crate::fields::days_of;
-use crate::fields::line_of;
-use crate::fields::numbers_of;
+use crate::lines::ALPHA;
+use crate::lines::CALL;
+use crate::lines::CASHFLOW;
+use crate::lines::PILLAR;
+use crate::lines::SETTLEMENT;
+use crate::lines::SIGMA;
+use crate::lines::SPREAD;
+use crate::lines::STEPS;
+use crate::lines::UNITS;
+use crate::lines::line_of;
 use bondfile::singles::fields_of;
 use bondfile::stored::calls_of;
 use bondfile::stored::cashflows_of;
 use bondfile::stored::sigmas_of;
+use filebond::parts::bytes_of;
+use filebond::parts::days_of;
+use filebond::parts::numbers_of;
 use floats::Refusal;
 use places::Whose;
 use places::days::whose_day;
 use places::numbers::whose_field;
 use places::numbers::whose_number;
 use places::refused::whose_order;
+ghost use mathlib.Core.Path.{_≡_};
+ghost use Rattle.filebond.specs.Bond.{legOf, callsOf, sigmaOf, marketOf};
+ghost use Rattle.places.specs.Places.{whoseNumber};
+ghost use Rattle.places.specs.Blame.{blamedDay, blamedNumber, blamed};
+ghost use Rattle.fileline.specs.Lines.{lineBehind};
 
-fn of_day(text: &[u8], place: usize) -> Whose {
+fn of_day(text: &[u8], place: usize) -> Whose
+    ensures { λ r. ⌜ r ≡ blamedDay (marketOf (now (text .entry))) (callsOf (now (text .entry))) place ⌝ }
+{
     let mut days = [0u32; 256];
     let mut kinds = [0u8; 256];
     let mut amounts = [0.0; 256];
@@ -45,7 +52,9 @@ fn of_day(text: &[u8], place: usize) -> Whose {
 }
 
 // Of the lists' numbers: cashflows and calls are handed on, sigma entries are read here.
-fn of_market(text: &[u8], place: usize, amounts: &[f64], strikes: &[f64]) -> Whose {
+fn of_market(text: &[u8], place: usize, amounts: &[f64], strikes: &[f64]) -> Whose
+    ensures { λ r. ⌜ r ≡ whoseNumber place (now (amounts .entry)) (now (strikes .entry)) (sigmaOf (now (text .entry)) .times) (sigmaOf (now (text .entry)) .sigmas) ⌝ }
+{
     let mut times = [0.0; 64];
     let mut sigmas = [0.0; 64];
     let mut lines = [0usize; 64];
@@ -59,7 +68,9 @@ fn of_market(text: &[u8], place: usize, amounts: &[f64], strikes: &[f64]) -> Who
     )
 }
 
-fn of_entry(text: &[u8], place: usize) -> Whose {
+fn of_entry(text: &[u8], place: usize) -> Whose
+    ensures { λ r. ⌜ r ≡ whoseNumber place (legOf (now (text .entry)) .amounts) (callsOf (now (text .entry)) .strikes) (sigmaOf (now (text .entry)) .times) (sigmaOf (now (text .entry)) .sigmas) ⌝ }
+{
     let mut days = [0u32; 256];
     let mut kinds = [0u8; 256];
     let mut amounts = [0.0; 256];
@@ -78,7 +89,9 @@ fn of_entry(text: &[u8], place: usize) -> Whose {
 }
 
 // Single fields come first.
-fn of_number(text: &[u8], place: usize) -> Whose {
+fn of_number(text: &[u8], place: usize) -> Whose
+    ensures { λ r. ⌜ r ≡ blamedNumber (marketOf (now (text .entry))) (callsOf (now (text .entry))) place ⌝ }
+{
     let f = fields_of(text);
     let field = whose_field(f.units, f.alpha, f.spread);
     match field {
@@ -87,7 +100,9 @@ fn of_number(text: &[u8], place: usize) -> Whose {
     }
 }
 
-fn whose(text: &[u8], number: u32, place: usize) -> Whose {
+fn whose(text: &[u8], number: u32, place: usize) -> Whose
+    ensures { λ r. ⌜ r ≡ blamed (marketOf (now (text .entry))) (callsOf (now (text .entry))) (record { number = number; place = place }) ⌝ }
+{
     if number == Refusal::DAY {
         return of_day(text, place);
     }
@@ -98,7 +113,9 @@ fn whose(text: &[u8], number: u32, place: usize) -> Whose {
 }
 
 // The line, or 0 where the refusal is about no line.
-pub(crate) fn line_behind(text: &[u8], q: Refusal) -> usize {
+pub fn line_behind(text: &[u8], q: Refusal) -> usize
+    ensures { λ r. ⌜ r ≡ lineBehind (now (text .entry)) q ⌝ }
+{
     let place = q.place as usize;
     match whose(text, q.number, place) {
         Whose::Nobody => 0,

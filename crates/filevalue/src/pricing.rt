@@ -1,17 +1,21 @@
-// The straight value and the yield.
-use crate::fields::bytes_of;
-use crate::fields::days_of;
-use crate::fields::numbers_of;
+// The straight value and the yield of a file's bond.
 use bondanalytics::yields::yield_from_price;
 use bondfile::singles::fields_of;
 use bondfile::stored::cashflows_of;
 use bondfile::stored::pillars_of;
 use bondpricer::straight_value;
 use brackets::Root;
+use filebond::parts::bytes_of;
+use filebond::parts::days_of;
+use filebond::parts::numbers_of;
 use floats::Answer;
+ghost use mathlib.Core.Path.{_≡_};
+ghost use Rattle.filevalue.specs.Values.{straightOf, yieldOf};
 
 // What the bond is worth without its calls.
-pub(crate) fn straight(text: &[u8]) -> Answer {
+pub fn straight(text: &[u8]) -> Answer
+    ensures { λ r. ⌜ r ≡ straightOf (now (text .entry)) ⌝ }
+{
     let mut days = [0u32; 256];
     let mut kinds = [0u8; 256];
     let mut amounts = [0.0; 256];
@@ -33,7 +37,9 @@ pub(crate) fn straight(text: &[u8]) -> Answer {
 }
 
 // The yield at a price.
-pub(crate) fn yielded(text: &[u8], price: f64, compounding: u32, frequency: u32) -> Root {
+pub fn yielded(text: &[u8], price: f64, compounding: u32, frequency: u32) -> Root
+    ensures { λ r. ⌜ r ≡ yieldOf (now (text .entry)) compounding frequency price ⌝ }
+{
     let mut days = [0u32; 256];
     let mut kinds = [0u8; 256];
     let mut amounts = [0.0; 256];

@@ -1,0 +1,2 @@
+pub mod Bond
+pub mod laws

@@ -1,0 +1,2 @@
+// The bond that a file says.
+pub mod parts;

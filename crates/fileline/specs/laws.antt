@@ -1,0 +1,2 @@
+-- What the line means.
+pub mod Behind

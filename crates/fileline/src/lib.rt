@@ -1,0 +1,3 @@
+// The line of a file that a refusal is about.
+pub mod lines;
+pub mod origin;

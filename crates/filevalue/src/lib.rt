@@ -1,0 +1,17 @@
+// What a bond file is worth: the straight value, the yield, the tree value and the spread behind a quote.
+use floats::Refusal;
+
+pub mod pricing;
+pub mod tree;
+
+// What the tree is asked: the value, or the spread behind a quote.
+pub enum Ask {
+    Value,
+    Spread(f64),
+}
+
+// A value and its nodes, or a spread and its tries.
+pub enum Reply {
+    Found(f64, u64),
+    Refused(Refusal),
+}
