@@ -58,7 +58,8 @@ uint32_t gutirapeo_midpoint(double a, double b, uint32_t *place, double *value);
 /* The bond's entries.
  *
  * A list comes as parallel arrays, each with its length. Days are whole, 0 to 200,000; a cashflow's kind is
- * 0 for a coupon and 1 for a redemption. Refusals found in the input:
+ * 0 for a coupon and 1 for a redemption. A redemption on or before settlement is repaid and counts nowhere as
+ * principal. Refusals found in the input:
  *   1   a grid setting outside its range
  *   2   a list's count outside its limits, or parallel arrays of unequal length
  *   3   a day out of range, cashflow days falling, a kind that isn't 0 or 1

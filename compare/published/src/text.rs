@@ -67,8 +67,10 @@ impl Scalar for Tested {
     }
 }
 
-fn leg_of(leg: &Flows) -> Leg<DualFwd> {
+/// The leg without redemptions on or before settlement: repaid principal counts nowhere.
+fn leg_of(settlement: u32, leg: &Flows) -> Leg<DualFwd> {
     let flows = (0..leg.days.len())
+        .filter(|&i| leg.kinds[i] != 1 || leg.days[i] > settlement)
         .map(|i| match leg.kinds[i] {
             1 => CashflowType::Redemption(Redemption { day: leg.days[i], amount: leg.amounts[i] }),
             _ => CashflowType::Coupon,
@@ -92,7 +94,7 @@ fn schedule(calls: &Calls) -> Vec<CallScheduleEntry> {
 
 fn events(settlement: u32, leg: &Flows, units: f64, calls: &Calls, settings: (u32, u32)) -> Result<BondEventGrid<Tested>> {
     let controls = TimeGridConfiguration { steps_per_year: settings.0 as usize, max_steps: settings.1 as usize };
-    bond_event_grid(&leg_of(leg), units, &schedule(calls), &paid(settlement, leg, Tested), Date(settlement), controls)
+    bond_event_grid(&leg_of(settlement, leg), units, &schedule(calls), &paid(settlement, leg, Tested), Date(settlement), controls)
 }
 
 /// Maturity time, steps, cashflows and call prices; nothing where the text refuses.
@@ -140,7 +142,7 @@ pub fn straight(settlement: u32, leg: &Flows, spread: f64, pillars: &Pillars) ->
     let valuation = BondValuation {
         curve: &Curve { settlement, pillars },
         cashflows: &paid(settlement, leg, Tested),
-        leg: &leg_of(leg),
+        leg: &leg_of(settlement, leg),
         units: 1.0,
         calls: &[],
         reference_date: Date(settlement),

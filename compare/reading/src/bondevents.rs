@@ -49,7 +49,8 @@ impl Axis {
 
 fn call_price(axis: &Axis, leg: &Leg, units: f64, start: u32, end: u32, strike: f64, step: u32) -> Answer {
     let mut principal = 0.0;
-    for i in 0..leg.days.len() {
+    // Repaid principal is gone: redemptions on or before settlement count nowhere.
+    for i in (0..leg.days.len()).filter(|&i| leg.days[i] > axis.settlement) {
         let after = if start == end {
             leg.days[i] > start
         } else {

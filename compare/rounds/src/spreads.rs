@@ -165,6 +165,9 @@ fn examples(counts: &mut Counts) {
         let agree = if inside { tried > 0 } else { number(&answer) == 4 && tried == 0 };
         counts.readings.case(number(&answer), agree, || format!("105 for {target:e} gives {answer:?} after {tried}"));
     }
+    // 6, which a quick round's random terms may miss.
+    let (answer, tried) = counts.compare(&Terms { sigma: Sigma { times: vec![1.0, 1.0], sigmas: vec![0.0, 0.0] }, ..bond(105.0) }, 105.0, least, true);
+    counts.readings.case(number(&answer), tried == 0 && answer.is_err_and(|r| (r.number, r.place) == (6, 1)), || format!("equal sigma times give {answer:?} after {tried}"));
     // The target comes before every amount.
     let (answer, _) = counts.compare(&Terms { leg: Leg { days: vec![365, 365], kinds: vec![0, 1], amounts: vec![5.0, f64::NAN] }, ..bond(105.0) }, f64::NAN, least, true);
     counts.readings.case(number(&answer), answer.is_err_and(|r| (r.number, r.place) == (4, 0)), || format!("two numbers that aren't finite give {answer:?}"));

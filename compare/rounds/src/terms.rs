@@ -23,7 +23,12 @@ pub fn leg(random: &mut Random, settlement: u32) -> Leg {
         _ => whole(random, 1, 8),
     };
     let reach = pick(random, &[40, 400, 1500, 4000, 11000]);
-    let mut days: Vec<u32> = (0..count).map(|_| settlement.saturating_sub(200) + whole(random, 0, reach)).collect();
+    let mut days: Vec<u32> = (0..count)
+        .map(|_| match random.below(12) {
+            0 => settlement,
+            _ => settlement.saturating_sub(200) + whole(random, 0, reach),
+        })
+        .collect();
     days.sort_unstable();
     let last = days.len() - 1;
     if days[last] <= settlement && random.below(20) > 0 {

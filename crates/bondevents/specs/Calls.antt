@@ -50,10 +50,14 @@ redemptions counted [] kinds amounts total = total
 abbrev pub counted : Leg → (ℕ → Bool) → Float
 counted leg after = redemptions after (leg .days) (leg .kinds) (leg .amounts) plusZero
 
--- Principal: discrete, redemptions after the call day; window, redemptions whose clamped step exceeds this step.
+-- A redemption's step is its day's. One on or before settlement is repaid and counts nowhere: its step is 0, which exceeds none.
+abbrev pub redemptionStepOf : Axis → ℕ → ℕ
+redemptionStepOf a day = cond (ltb (a .settlement) day) (stepOf a day) 0
+
+-- Principal: discrete, redemptions after the call day; window, redemptions whose step exceeds this step.
 unfoldable pub principal : Axis → Leg → Entry → ℕ → Float
 unfolding redemptions
-principal a leg e step = cond (discrete e) (counted leg λ day. ltb (e .start) day) (counted leg λ day. ltb step (stepOf a day))
+principal a leg e step = cond (discrete e) (counted leg λ day. ltb (e .start) day) (counted leg λ day. ltb step (redemptionStepOf a day))
 
 -- 20: no principal at an eligible step. Price: strike × principal/units.
 unfoldable pub callPrice : Axis → Bond → Entry → ℕ → Answer

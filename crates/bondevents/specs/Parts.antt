@@ -19,8 +19,8 @@ use Rattle.bondevents.specs.declared.CallStep.{CallStep}
 use Rattle.bondevents.specs.declared.CallsAnswer.{CallsAnswer}
 use Rattle.bondevents.specs.declared.BondEventGrid.{BondEventGrid}
 use Rattle.bondevents.specs.declared.EventGrid.{EventGrid}
-use Rattle.bondevents.specs.Steps.{Axis, stepOf}
-use Rattle.bondevents.specs.Calls.{Entry, newStep, keepLowest, gridTime, redemptions}
+use Rattle.bondevents.specs.Steps.{Axis}
+use Rattle.bondevents.specs.Calls.{Entry, newStep, keepLowest, gridTime, redemptions, redemptionStepOf}
 use Rattle.bondevents.specs.Grid.{zeroGrid}
 
 -- What the parallel parameters of the code make together.
@@ -54,12 +54,12 @@ overPrices eligible price zero step cs = given cs
 
 -- The principal of a window at a step: redemptions whose step exceeds it.
 abbrev pub principalAfter : Axis → Leg → ℕ → Float
-principalAfter a leg step = redemptions (λ day. ltb step (stepOf a day)) (leg .days) (leg .kinds) (leg .amounts) plusZero
+principalAfter a leg step = redemptions (λ day. ltb step (redemptionStepOf a day)) (leg .days) (leg .kinds) (leg .amounts) plusZero
 
--- A table of each cashflow's step.
+-- A table of the step that each cashflow has as a redemption.
 pub record FlowSteps (a : Axis) (days table : List ℕ) : Type 0 where
   pub size : length table ≡ 256
-  pub at : (i : ℕ) → i < length days → getD table i 0 ≡ stepOf a (getD days i 0)
+  pub at : (i : ℕ) → i < length days → getD table i 0 ≡ redemptionStepOf a (getD days i 0)
 
 -- A table of a window's principal at each of the count steps from 0 on.
 pub record Principals (a : Axis) (leg : Leg) (count : ℕ) (table : List Float) : Type 0 where

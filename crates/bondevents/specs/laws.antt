@@ -8,3 +8,4 @@ pub mod MadeLists
 pub mod Reordering
 pub mod Grids
 pub mod GridAnswers
+pub mod Repaid

@@ -97,6 +97,21 @@ number-20 : treeValue (market 100 (leg (465 ∷ 830 ∷ 830 ∷ []) (0 ∷ 0 ∷
 unfolding treeValue paidInto rawStep curveOver onOutcome onCheck lowest onAnswer rounded ieee.ofBits ieee.add ieee.sub ieee.mul ieee.div ieee.neg ieee.lt ieee.le ieee.ofInt ieee.toSigned
 number-20 = refl
 
+-- Repaid principal is gone: a window over settlement has nothing else to call.
+repaid-20 : treeValue (market 100 (leg (100 ∷ 465 ∷ []) (1 ∷ 0 ∷ []) ((float 40) ∷ (float 60) ∷ [])) (float 100) (steps 2 512) (float 0) ((float 0) ∷ []) ((float 0) ∷ []) (float 0) (pillars (100 ∷ 465 ∷ []) ((float 1) ∷ (float 1) ∷ []))) (calls (90 ∷ []) (200 ∷ []) ((float 100) ∷ [])) (room 6 9 1 1) ≡ tree.Refused (record { number = 20; place = 0 })
+unfolding treeValue paidInto rawStep curveOver onOutcome onCheck lowest onAnswer rounded ieee.ofBits ieee.add ieee.sub ieee.mul ieee.div ieee.neg ieee.lt ieee.le ieee.ofInt ieee.toSigned
+repaid-20 = refl
+
+-- What is left is called: 60 at 99, and not 100 at 99.
+repaid-part : treeValue (market 100 (leg (100 ∷ 465 ∷ []) (1 ∷ 1 ∷ []) ((float 40) ∷ (float 60) ∷ [])) (float 100) (steps 2 512) (float 0) ((float 0) ∷ []) ((float 0) ∷ []) (float 0) (pillars (100 ∷ 465 ∷ []) ((float 1) ∷ (float 1) ∷ []))) (calls (90 ∷ []) (200 ∷ []) ((float 99) ∷ [])) (room 6 9 1 1) ≡ tree.Value (ofBits binary64 0x404db33333333333) 3
+unfolding treeValue paidInto rawStep curveOver onOutcome onCheck lowest onAnswer rounded ieee.ofBits ieee.add ieee.sub ieee.mul ieee.div ieee.neg ieee.lt ieee.le ieee.ofInt ieee.toSigned
+repaid-part = refl
+
+-- A repaid amount below 0 goes too; with it no principal would be left.
+repaid-negative : treeValue (market 100 (leg (100 ∷ 465 ∷ []) (1 ∷ 1 ∷ []) ((ofBits binary64 0xc069000000000000) ∷ (float 100) ∷ [])) (float 100) (steps 2 512) (float 0) ((float 0) ∷ []) ((float 0) ∷ []) (float 0) (pillars (100 ∷ 465 ∷ []) ((float 1) ∷ (float 1) ∷ []))) (calls (90 ∷ []) (200 ∷ []) ((float 99) ∷ [])) (room 6 9 1 1) ≡ tree.Value (float 99) 3
+unfolding treeValue paidInto rawStep curveOver onOutcome onCheck lowest onAnswer rounded ieee.ofBits ieee.add ieee.sub ieee.mul ieee.div ieee.neg ieee.lt ieee.le ieee.ofInt ieee.toSigned
+repaid-negative = refl
+
 number-21 : treeValue (market 100 (leg (465 ∷ 830 ∷ 830 ∷ []) (0 ∷ 0 ∷ 1 ∷ []) ((float 5) ∷ (float 5) ∷ (float 100) ∷ [])) (float 100) (steps 2 512) (ofBits binary64 0x3fb999999999999a) ((float 0) ∷ (float 1) ∷ []) ((ofBits binary64 0x3f847ae147ae147b) ∷ (ofBits binary64 0x3f889374bc6a7efa) ∷ []) (ofBits binary64 0x3f747ae147ae147b) (pillars (100 ∷ 465 ∷ 900 ∷ []) ((float 1) ∷ (ofBits binary64 0x3fef0a3d70a3d70a) ∷ (ofBits binary64 0x3fedc28f5c28f5c3) ∷ []))) (calls (465 ∷ []) (465 ∷ []) ((float 101) ∷ [])) (room 64 11 9 9) ≡ tree.Refused (record { number = 21; place = 1 })
 unfolding treeValue paidInto rawStep curveOver onOutcome onCheck lowest onAnswer rounded ieee.ofBits ieee.add ieee.sub ieee.mul ieee.div ieee.neg ieee.lt ieee.le ieee.ofInt ieee.toSigned
 number-21 = refl

@@ -23,6 +23,7 @@ pub record Thinned (x : Float) (second : CallSchedule) (answer : TreeValue) : Ty
   pub otherwise : (StrikeAbove second → ⊥) → NoLowerOr27 x answer
 
 -- Any call list that the tree value accepts, and any second one made from it by reordering entries, dropping any and raising any strikes, all else the same and each working slice as long.
+-- The rule doesn't lean on which redemptions count as principal: with the repaid ones gone (bondevents, Repaid.antt) the call list may still be reordered or thinned without lowering the value.
 abbrev pub CallListRule : Type 0
 CallListRule =
     (m : Market) (room : Room) (first second : CallSchedule) (x : Float) (n : ℕ)

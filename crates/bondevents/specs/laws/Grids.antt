@@ -28,7 +28,7 @@ use Rattle.bondevents.specs.laws.Reordering.{reordered-same}
 abbrev pub gridOf : Axis → Bond → List CallStep → BondEventGrid
 gridOf a bond cs = record { «maturity_time» = a .maturity; steps = a .steps; cashflows = stepCashflows a (bond .leg); calls = cs }
 
-grid-is : (settlement : ℕ) (bond : Bond) (calls : CallSchedule) (controls : TimeGrid)
+pub grid-is : (settlement : ℕ) (bond : Bond) (calls : CallSchedule) (controls : TimeGrid)
     → eventGrid settlement bond calls controls
     ≡ follow (callSteps (axisOf settlement (bond .leg) controls) bond calls) (λ cs. given (gridOf (axisOf settlement (bond .leg) controls) bond cs))
 grid-is settlement bond calls controls = unfold eventGrid in refl

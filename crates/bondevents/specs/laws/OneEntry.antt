@@ -72,6 +72,11 @@ module _ (a : Axis) (bond : Bond) (e : Entry) (k : ℕ) (c : CallStep) where
             | inr (q, p) ↦ (g, p ∙ (let s = sym (valued-refused (callPrice a bond e k) (λ price. given (keepLowest c price)) p) ∙ sym (at-taken g) ∙ h in cc))
           ]
 
+at-same : (a : Axis) (bond other : Bond) (e : Entry) (k : ℕ) (c : CallStep) → callPrice a other e k ≡ callPrice a bond e k
+    → atStep a other e k c ≡ atStep a bond e k c
+unfolding atStep
+at-same a bond other e k c h = rw h
+
 -- ---- all the steps
 
 -- Of count steps from step on, those that have a place in the row are taken; the rest of the row stays.
@@ -210,3 +215,25 @@ with-refused a bond e cs r n h = go (ltb (e .end) (a .settlement)) refl
     go false s =
         let w = over-refused a bond e (a .steps) 0 cs r (sym (with-walked a bond e cs s) ∙ h) in
         (w .at, record { not-skipped = s; tried = w .in-count; placed = omega (arith, w .in-row); is-eligible = rw zero-add at (w .reach) }, rw zero-add at (w .refuses))
+
+-- ---- two bonds
+
+module _ (a : Axis) (bond other : Bond) (e : Entry) where
+  over-same : ((k : ℕ) → callPrice a other e k ≡ callPrice a bond e k) → (count step : ℕ) (cs : List CallStep)
+      → overSteps a other e count step cs ≡ overSteps a bond e count step cs
+  over-same h zero step cs = over-none a other e step cs ∙ sym (over-none a bond e step cs)
+  over-same h (suc count) step [] = over-nil a other e count step ∙ sym (over-nil a bond e count step)
+  over-same h (suc count) step (c ∷ cs) =
+      over-cons a other e count step c cs
+      ∙ ap (λ (o : Outcome CallStep). follow o (λ c'. follow (overSteps a other e count (suc step) cs) (λ cs'. given (c' ∷ cs')))) (at-same a bond other e step c (h step))
+      ∙ ap (λ (o : Outcome (List CallStep)). follow (atStep a bond e step c) (λ c'. follow o (λ cs'. given (c' ∷ cs')))) (over-same h count (suc step) cs)
+      ∙ sym (over-cons a bond e count step c cs)
+
+  -- An entry leaves the same of two bonds that give it the same prices, where it isn't skipped.
+  pub with-same : (ltb (e .end) (a .settlement) ≡ false → (k : ℕ) → callPrice a other e k ≡ callPrice a bond e k)
+      → (cs : List CallStep) → withEntry a other e cs ≡ withEntry a bond e cs
+  with-same h cs = go (ltb (e .end) (a .settlement)) refl
+    where
+      go : (b : Bool) → ltb (e .end) (a .settlement) ≡ b → withEntry a other e cs ≡ withEntry a bond e cs
+      go true s = with-skipped a other e cs s ∙ sym (with-skipped a bond e cs s)
+      go false s = with-walked a other e cs s ∙ over-same (h s) (a .steps) 0 cs ∙ sym (with-walked a bond e cs s)

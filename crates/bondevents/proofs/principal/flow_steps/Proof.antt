@@ -3,14 +3,14 @@ use Prim.Native.Nat.{_-_, _≤_}
 use borrow.Author.Needs.{needs}
 use native.Mathlib.Omega.{arith}
 use lib.ListN.{length, getD}
-use Rattle.bondevents.specs.Steps.{stepOf}
+use Rattle.bondevents.specs.Calls.{redemptionStepOf}
 use Rattle.bondevents.specs.Parts.{axisAt}
 use Rattle.bondevents.proofs.Filling.{Filling, begin, more}
 use Rattle.bondevents.proofs.principal.flow_steps.Statement.{statement}
 use Rattle.bondevents.proofs.principal.flow_steps.Tie as tie
 
 abbrev Inv-loop : tie.InvT-loop
-Inv-loop settlement maturity steps days table₀ i₀ table i = (i ≤ length days) × Filling (λ k. stepOf (axisAt settlement maturity steps) (getD days k 0)) 0 256 i table
+Inv-loop settlement maturity steps days table₀ i₀ table i = (i ≤ length days) × Filling (λ k. redemptionStepOf (axisAt settlement maturity steps) (getD days k 0)) 0 256 i table
 
 abbrev μ-loop : tie.MeasureT-loop
 μ-loop settlement maturity steps days table₀ i₀ table i = length days - i
@@ -18,14 +18,14 @@ abbrev μ-loop : tie.MeasureT-loop
 loop-holds : tie.Need-loop-holds Inv-loop μ-loop
 loop-holds c = search (begin, more, needs)
 
-mul-step-of : tie.Need-mul-step-of Inv-loop μ-loop
-mul-step-of c = search (begin, more, needs)
+mul-redemption-step-of : tie.Need-mul-redemption-step-of Inv-loop μ-loop
+mul-redemption-step-of c = search (begin, more, needs)
 
-shared-slice-read-step-of : tie.Need-shared-slice-read-step-of Inv-loop μ-loop
-shared-slice-read-step-of c = search (begin, more, needs)
+shared-slice-read-redemption-step-of : tie.Need-shared-slice-read-redemption-step-of Inv-loop μ-loop
+shared-slice-read-redemption-step-of c = search (begin, more, needs)
 
-step-of-requires : tie.Need-step-of-requires Inv-loop μ-loop
-step-of-requires c κs = search (begin, more, needs)
+redemption-step-of-requires : tie.Need-redemption-step-of-requires Inv-loop μ-loop
+redemption-step-of-requires c κs = search (begin, more, needs)
 
 mul-table : tie.Need-mul-table Inv-loop μ-loop
 mul-table c = search (begin, more, needs)
@@ -40,7 +40,7 @@ loop-less : tie.Need-loop-less Inv-loop μ-loop
 loop-less c = search (begin, more, needs)
 
 loop-again : tie.Need-loop-again Inv-loop μ-loop
-loop-again c = (omega arith, more _ 0 256 _ _ (c .before .before .before .loop .inv .1) (omega arith) (c .step-of .ensures))
+loop-again c = (omega arith, more _ 0 256 _ _ (c .before .before .before .loop .inv .1) (omega arith) (c .redemption-step-of .ensures))
 
 returns : tie.Need-returns Inv-loop μ-loop
 returns c =
@@ -54,9 +54,9 @@ flow-steps-spec =
     Inv-loop
     μ-loop
     loop-holds
-    mul-step-of
-    shared-slice-read-step-of
-    step-of-requires
+    mul-redemption-step-of
+    shared-slice-read-redemption-step-of
+    redemption-step-of-requires
     mul-table
     array-write-table
     add-i

@@ -1,19 +1,16 @@
--- `bondevents::principal::principal_after` meets its contract: the loop's invariant is `Counting`, for the days whose step exceeds this one. Assumes nothing.
+-- `bondevents::principal::principal_after` meets its contract: the loop's invariant is `Counting`, over the table, for the steps that exceed this one. Assumes nothing.
 use Prim.Native.Nat.{_-_}
 use lib.ListN.{length}
-use lib.Ieee.{nan}
 use lib.Dec.{ltb}
-use Rattle.bondevents.specs.Steps.{stepOf}
-use Rattle.bondevents.specs.Parts.{axisAt}
-use Rattle.bondevents.proofs.Counting.{Counting, turn, reached, counting}
+use Rattle.bondevents.proofs.Counting.{Counting, counting}
 use Rattle.bondevents.proofs.principal.principal_after.Statement.{statement}
 use Rattle.bondevents.proofs.principal.principal_after.Tie as tie
 
 abbrev Inv-loop : tie.InvT-loop
-Inv-loop settlement maturity steps days kinds amounts reached step total₀ i₀ total i = Counting (λ day. ltb step (stepOf (axisAt settlement maturity steps) day)) days kinds amounts total i
+Inv-loop kinds amounts reached step total₀ i₀ total i = Counting (ltb step) reached kinds amounts total i
 
 abbrev μ-loop : tie.MeasureT-loop
-μ-loop settlement maturity steps days kinds amounts reached step total₀ i₀ total i = length days - i
+μ-loop kinds amounts reached step total₀ i₀ total i = length kinds - i
 
 loop-holds : tie.Need-loop-holds Inv-loop μ-loop
 loop-holds c = search counting
@@ -43,10 +40,7 @@ loop-less : tie.Need-loop-less Inv-loop μ-loop
 loop-less c = search counting
 
 loop-again : tie.Need-loop-again Inv-loop μ-loop
-loop-again c =
-    let start = c .before .before .before .before .before .before .before .before .before in
-    let flow = start .pre .1 .at (c .before .before .before .before .before .loop .i) (c .before .before .before .before .loop-test .taken) in
-    turn _ _ _ _ _ _ nan (c .before .before .before .before .before .loop .inv) (c .before .before .before .before .loop-test .taken) (c .with-redemption .ensures) (reached (start .args .step) flow)
+loop-again c = search counting
 
 returns : tie.Need-returns Inv-loop μ-loop
 returns c = search counting

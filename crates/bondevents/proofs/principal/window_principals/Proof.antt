@@ -4,6 +4,7 @@ use native.Mathlib.Omega.{arith}
 use borrow.Author.Needs.{needs}
 use lib.Ieee.{nan}
 use Rattle.bondevents.specs.Parts.{axisAt, FlowSteps, principalAfter}
+use Rattle.bondevents.proofs.Counting.{from-steps}
 use Rattle.bondevents.proofs.Filling.{Filling, begin, more}
 use Rattle.bondevents.proofs.principal.window_principals.Statement.{statement}
 use Rattle.bondevents.proofs.principal.window_principals.Tie as tie
@@ -41,7 +42,7 @@ loop-less c = search (begin, more, needs)
 loop-again : tie.Need-loop-again Inv-loop μ-loop
 loop-again c =
     let inv = c .before .before .before .loop .inv in
-    (omega arith, inv .1, more _ nan 513 _ _ (inv .2) (omega arith) (c .principal-after .ensures))
+    (omega arith, inv .1, more _ nan 513 _ _ (inv .2) (omega arith) (from-steps _ _ _ _ (inv .1) (search needs) (omega arith) (c .principal-after .ensures)))
 
 returns : tie.Need-returns Inv-loop μ-loop
 returns c =
