@@ -100,7 +100,7 @@ uint32_t gutirapeo_grid(uint32_t settlement,
  *   21  a layer doesn't fit into what is lent (the place is the layer)
  *   22  no variance on this step, but on others
  *   23  a node beyond 1,000,000 either way
- *   24  a probability below -1e-12
+ *   24  a probability below -1e-12: never given, since no input leads to it
  *   25  a discount factor at or below 0
  *   26  exp or ln outside its range
  *   27  a result that isn't finite (place 0 where it is a call price)

@@ -28,7 +28,7 @@ advice =
     ∷ about 21 (bytes "The tree finds no room: ask for fewer steps.")
     ∷ about 22 (bytes "Some steps have no variance and others do: look at sigmas of 0.")
     ∷ about 23 (bytes "The volatilities of neighbouring steps are too far apart.")
-    ∷ about 24 (bytes "A probability is below 0: report it, since it was never met.")
+    ∷ about 24 (bytes "A probability is below 0: this is never given, so report it.")
     ∷ about 25 (bytes "A discount factor is at or below 0: look at the curve.")
     ∷ about 26 (bytes "The inputs are far from any market's: look at rates and spread.")
     ∷ about 27 (bytes "A result is too large: the inputs are far from any market's.")

@@ -42,4 +42,5 @@ pub mod LayersMore
 pub mod Layering
 pub mod Rooted
 pub mod Spots
+pub mod Shares
 pub mod Proper

@@ -1,3 +1,4 @@
 pub mod Examples
 pub mod Tried
+pub mod Probabilities
 pub mod laws

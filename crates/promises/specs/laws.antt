@@ -10,3 +10,4 @@ pub mod WalkNumbers
 pub mod TreeNumbers
 pub mod SpreadPromise
 pub mod SpreadNumbers
+pub mod ProbabilityPromise

@@ -22,7 +22,7 @@ pub fn what_to_do(number: u32) -> [u8; 80]
         21 => text_line(b"The tree finds no room: ask for fewer steps."),
         22 => text_line(b"Some steps have no variance and others do: look at sigmas of 0."),
         23 => text_line(b"The volatilities of neighbouring steps are too far apart."),
-        24 => text_line(b"A probability is below 0: report it, since it was never met."),
+        24 => text_line(b"A probability is below 0: this is never given, so report it."),
         25 => text_line(b"A discount factor is at or below 0: look at the curve."),
         26 => text_line(b"The inputs are far from any market's: look at rates and spread."),
         27 => text_line(b"A result is too large: the inputs are far from any market's."),

@@ -1,4 +1,4 @@
--- The probabilities of a tree: finite and not below 0, whatever the terms. Assumes nothing.
+-- The probabilities of a tree: finite and between 0 and 1, whatever the terms. Assumes nothing.
 use Prim.Native.Nat.{ℕ, zero, suc, _+_}
 use mathlib.Core.Path.{_≡_, refl, ap}
 use mathlib.Core.Bool.{_||_}
@@ -6,11 +6,13 @@ use mathlib.Core.List.{List, [], _∷_}
 use lib.ListN.{length}
 use lib.Dec.{T}
 use lib.IntN.{ℤ}
-use lib.Ieee.{Float, binary64, add, sub, mul, div, le, ofBits, toSigned}
+use lib.Ieee.{Float, binary64, add, sub, mul, div, le, ofBits, fits, toSigned}
+use lib.Ieee.Bits.{ofBits-fits}
+use lib.Ieee.Fits.{add-fits, sub-fits}
 use lib.Ieee.Scale.{finite}
-use Rattle.floats.specs.laws.Order.{number-of-finite}
-use Rattle.floats.specs.laws.Signs.{add-above, div-above}
-use Rattle.floats.specs.laws.Extremes.{max-finite, le-max-right}
+use Rattle.floats.specs.laws.Order.{number-of-finite, le-trans}
+use Rattle.floats.specs.laws.Signs.{div-above}
+use Rattle.floats.specs.laws.Extremes.{max-keeps, max-finite, le-max-right}
 use Rattle.floats.specs.Extremes.{maxOf}
 use Rattle.floats.specs.Answers.{plusZero, one, two}
 use Rattle.floats.specs.Whole.{roundAt}
@@ -19,15 +21,20 @@ use Rattle.elementary.specs.laws.Values.{Above}
 use Rattle.terms.specs.Outcomes.{given}
 use Rattle.terms.specs.laws.Outcomes.{Gives, gives, nothing, given-of, gives-follow, gives-valued, gives-finite, gives-cond, gives-known}
 use Rattle.lattice.specs.declared.Transition.{Transition}
-use Rattle.lattice.specs.Layers.{Room, fits, nodeFloat}
+use Rattle.lattice.specs.Layers.{Room, nodeFloat}
+use Rattle.lattice.specs.Layers as layers
 use Rattle.lattice.specs.Transitions.{Step, sixth, twoThirds, tooLow, tooFar, clamped, probabilities, transitionOf}
 use Rattle.lattice.specs.Lattice.{Layer, Lattice, transitionsOf, destinations, spacingOf, stepOf, grown, rootLayer, allFlat, flatLayer, flat, decayOf, curved, lattice}
+use Rattle.lattice.specs.laws.Shares.{Amount, sum-amount, left-part, right-part, share-at-most-one}
 
--- The three probabilities of a transition, each finite and not below 0.
+-- The three probabilities of a transition, each finite, not below 0 and not above 1.
 pub record Weighted (t : Transition) : Type 0 where
   pub down : Above (t .«probability_down»)
   pub middle : Above (t .«probability_middle»)
   pub up : Above (t .«probability_up»)
+  pub down-most : T (le (t .«probability_down») one)
+  pub middle-most : T (le (t .«probability_middle») one)
+  pub up-most : T (le (t .«probability_up») one)
 
 -- Every element has it.
 pub data Each {A : Type 0} (P : A → Type 0) : List A → Type 0 where
@@ -38,12 +45,13 @@ pub data Each {A : Type 0} (P : A → Type 0) : List A → Type 0 where
 abbrev pub Proper : List Layer → Type 0
 Proper = Each λ (l : Layer). Each Weighted (l .transitions)
 
-clamp-weight : (x : Float) → T (finite x) → Above (maxOf x plusZero)
+clamp-amount : (x : Float) → T (finite x) → T (fits binary64 x) → Amount (maxOf x plusZero)
 unfolding ofBits
-clamp-weight x h = record { is-finite = max-finite x plusZero h tt; above = le-max-right x plusZero (number-of-finite x h) tt }
-
-sum-weight : (x y : Float) → Above x → Above y → T (finite (add binary64 x y)) → Above (add binary64 x y)
-sum-weight x y p q h = record { is-finite = h; above = add-above binary64 x y (p .is-finite) (q .is-finite) (p .above) (q .above) }
+clamp-amount x f h =
+    record {
+      weight = record { is-finite = max-finite x plusZero f tt; above = le-max-right x plusZero (number-of-finite x f) tt };
+      held = max-keeps (λ (y : Float). T (fits binary64 y)) x plusZero h (ofBits-fits binary64 0);
+    }
 
 share-weight : (x y : Float) → Above x → Above y → T (finite (div binary64 x y)) → Above (div binary64 x y)
 share-weight x y p q h =
@@ -54,23 +62,34 @@ share-weight x y p q h =
           (positive-of-div binary64 x y (q .is-finite) (q .above) h);
     }
 
-clamped-weighted : (n : ℤ) (down mid up : Float) (place : ℕ) → T (finite down) → T (finite mid) → T (finite up) → Gives Weighted (clamped n down mid up place)
+clamped-weighted : (n : ℤ) (down mid up : Float) (place : ℕ) → T (finite down) → T (finite mid) → T (finite up) → T (fits binary64 down) → T (fits binary64 mid) → T (fits binary64 up) → Gives Weighted (clamped n down mid up place)
 unfolding clamped
-clamped-weighted n down mid up place f g h =
+clamped-weighted n down mid up place f g h f' g' h' =
     let d = maxOf down plusZero in
     let m = maxOf mid plusZero in
     let u = maxOf up plusZero in
-    let D = clamp-weight down f in
-    let M = clamp-weight mid g in
-    let U = clamp-weight up h in
-    gives-finite (add binary64 d m) _ _ λ part.
-    gives-finite (add binary64 (add binary64 d m) u) _ _ λ total.
-    let W = sum-weight (add binary64 d m) u (sum-weight d m D M part) U total in
-    let w = add binary64 (add binary64 d m) u in
+    let D = clamp-amount down f f' in
+    let M = clamp-amount mid g g' in
+    let U = clamp-amount up h h' in
+    let part = add binary64 d m in
+    let w = add binary64 part u in
+    gives-finite part _ _ λ fp.
+    gives-finite w _ _ λ fw.
+    let P = sum-amount d m D M fp in
+    let W = sum-amount part u P U fw .weight in
+    let pw = left-part part u P U in
     gives-finite (div binary64 d w) _ _ λ pd.
     gives-finite (div binary64 m w) _ _ λ pm.
     gives-finite (div binary64 u w) _ _ λ pu.
-    gives (record { down = share-weight d w D W pd; middle = share-weight m w M W pm; up = share-weight u w U W pu })
+    gives
+    (record {
+      down = share-weight d w (D .weight) W pd;
+      middle = share-weight m w (M .weight) W pm;
+      up = share-weight u w (U .weight) W pu;
+      down-most = share-at-most-one d w (D .weight) W (le-trans d part w (left-part d m D M) pw) pd;
+      middle-most = share-at-most-one m w (M .weight) W (le-trans m part w (right-part d m D M) pw) pm;
+      up-most = share-at-most-one u w (U .weight) W (right-part part u P U) pu;
+    })
 
 probabilities-weighted : (s : Step) (n : ℤ) (error : Float) → Gives Weighted (probabilities s n error)
 unfolding probabilities
@@ -89,7 +108,8 @@ probabilities-weighted s n error =
     gives-finite (mul binary64 term two) _ _ λ _.
     gives-finite mid _ _ λ g.
     gives-finite up _ _ λ h.
-    gives-cond (tooLow down || (tooLow mid || tooLow up)) _ _ nothing (clamped-weighted n down mid up (s .place) f g h)
+    gives-cond (tooLow down || (tooLow mid || tooLow up)) _ _ nothing
+    (clamped-weighted n down mid up (s .place) f g h (sub-fits binary64 a skew) (sub-fits binary64 twoThirds (mul binary64 term two)) (add-fits binary64 a skew))
 
 transition-weighted : (s : Step) (n : ℤ) → Gives Weighted (transitionOf s n)
 unfolding transitionOf
@@ -131,13 +151,13 @@ grown-proper room decay spacing before nodes k [] = gives (no-layers nodes)
 grown-proper room decay spacing before nodes k (v ∷ vs) =
     gives-known (stepOf spacing decay v k) _ λ s _.
     gives-follow _ _ (transitions-weighted s nodes) λ ts w.
-    gives-cond (fits room (before + length nodes + length (destinations ts)) (length (destinations ts))) _ _
+    gives-cond (layers.fits room (before + length nodes + length (destinations ts)) (length (destinations ts))) _ _
     (gives-follow _ _ (grown-proper room decay (s .newSpacing) (before + length nodes) (destinations ts) (suc k) vs) λ rest p. gives (one-layer-more _ rest w p))
     nothing
 
 flat-weighted : Each Weighted (flatLayer .transitions)
 unfolding ofBits le
-flat-weighted = more (record { down = zero-weight; middle = one-weight; up = zero-weight }) none
+flat-weighted = more (record { down = zero-weight; middle = one-weight; up = zero-weight; down-most = tt; middle-most = tt; up-most = tt }) none
   where
     zero-weight : Above plusZero
     zero-weight = record { is-finite = tt; above = tt }
@@ -147,9 +167,9 @@ flat-weighted = more (record { down = zero-weight; middle = one-weight; up = zer
 
 flat-proper : (room : Room) (k left : ℕ) → Gives (ProperTree left) (flat room k left)
 unfolding flat
-flat-proper room k zero = gives-cond (fits room (k + 1) 1) _ _ (gives (no-layers rootLayer)) nothing
+flat-proper room k zero = gives-cond (layers.fits room (k + 1) 1) _ _ (gives (no-layers rootLayer)) nothing
 flat-proper room k (suc left) =
-    gives-cond (fits room (k + 1) 1) _ _ (gives-follow _ _ (flat-proper room (suc k) left) λ rest p. gives (one-layer-more flatLayer rest flat-weighted p)) nothing
+    gives-cond (layers.fits room (k + 1) 1) _ _ (gives-follow _ _ (flat-proper room (suc k) left) λ rest p. gives (one-layer-more flatLayer rest flat-weighted p)) nothing
 
 curved-proper : (room : Room) (alpha dt : Float) (variances : List Float) → Gives (ProperTree (length variances)) (curved room alpha dt variances)
 unfolding curved
@@ -157,14 +177,14 @@ curved-proper room alpha dt [] = gives (no-layers rootLayer)
 curved-proper room alpha dt (v ∷ vs) =
     gives-valued (decayOf alpha dt) _ λ decay.
     gives-valued (spacingOf v 0) _ λ spacing.
-    gives-cond (fits room 1 1) _ _ (grown-proper room decay spacing 0 rootLayer 0 (v ∷ vs)) nothing
+    gives-cond (layers.fits room 1 1) _ _ (grown-proper room decay spacing 0 rootLayer 0 (v ∷ vs)) nothing
 
 lattice-proper : (room : Room) (alpha dt : Float) (variances : List Float) → Gives (ProperTree (length variances)) (lattice room alpha dt variances)
 unfolding lattice
 lattice-proper room alpha dt variances =
     gives-cond (allFlat variances) _ _ (flat-proper room 0 (length variances)) (curved-proper room alpha dt variances)
 
--- Whatever tree the variances give, every probability in it is finite and not below 0.
+-- Whatever tree the variances give, every probability in it is finite and between 0 and 1.
 pub proper-of-lattice : (room : Room) (alpha dt : Float) (variances : List Float) (t : Lattice) → lattice room alpha dt variances ≡ given t → Proper (t .layers)
 proper-of-lattice room alpha dt variances t e = given-of (lattice-proper room alpha dt variances) e .proper
 

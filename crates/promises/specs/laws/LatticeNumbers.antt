@@ -1,4 +1,4 @@
--- What the variances, the transitions and the layers refuse with has a number of at most 27. Assumes nothing.
+-- What the variances, the transitions and the layers refuse with has a number of at most 27 that isn't 24. Assumes nothing.
 use Prim.Native.Nat.{ℕ, zero, suc}
 use mathlib.Core.List.{List, [], _∷_}
 use lib.IntN.{ℤ}
@@ -6,10 +6,12 @@ use lib.Ieee.{Float}
 use Rattle.terms.specs.Terms.{HullWhite}
 use Rattle.hullwhite.specs.Variance.{weight, withPiece, pieces, varianceOver, stepVariance, variancesFrom}
 use Rattle.lattice.specs.Layers.{Room}
-use Rattle.lattice.specs.Transitions.{Step, clamped, probabilities, transitionOf}
+use Rattle.lattice.specs.Transitions.{Step, transitionOf}
 use Rattle.lattice.specs.Lattice.{transitionsOf, stepOf, grown, flat, curved, lattice}
+use Rattle.terms.specs.Outcomes.{Outcome}
+use Rattle.chances.specs.laws.NeverTooLow.{Only23Or27, was-given, too-far, not-finite, SpacedStep, transition-only, made-spaced}
 use Rattle.brackets.specs.laws.Cases.{Holds}
-use Rattle.promises.specs.laws.Numbers.{AnswerWithin, OutcomeWithin, numbers}
+use Rattle.promises.specs.laws.Numbers.{AnswerWithin, OutcomeWithin, then-known, numbers}
 use Rattle.promises.specs.laws.ElementaryNumbers.{exp-number, expM1-number, sqrt-number}
 
 -- ---- variances
@@ -48,24 +50,22 @@ variances-number model dt (suc count) k =
 
 -- ---- transitions
 
-clamped-number : (middle : ℤ) (down mid up : Float) (place : ℕ) → Holds (OutcomeWithin 27) (clamped middle down mid up place)
-unfolding clamped
-clamped-number middle down mid up place = search numbers depth 24
+-- a step that is made never meets 24
+transition-number : (s : Step) → SpacedStep s → (node : ℤ) → Holds (OutcomeWithin 27) (transitionOf s node)
+transition-number s sp node = go (transition-only s sp node)
+  where
+    go : {A : Type 0} {o : Outcome A} → Only23Or27 o → Holds (OutcomeWithin 27) o
+    go was-given = search numbers
+    go too-far = search numbers
+    go not-finite = search numbers
 
-probabilities-number : (s : Step) (middle : ℤ) (error : Float) → Holds (OutcomeWithin 27) (probabilities s middle error)
-unfolding probabilities
-probabilities-number s middle error = search (clamped-number, numbers) depth 24
-
-transition-number : (s : Step) (node : ℤ) → Holds (OutcomeWithin 27) (transitionOf s node)
-unfolding transitionOf
-transition-number s node = search (probabilities-number, numbers) depth 24
-
-transitions-number : (s : Step) (nodes : List ℤ) → Holds (OutcomeWithin 27) (transitionsOf s nodes)
+transitions-number : (s : Step) → SpacedStep s → (nodes : List ℤ) → Holds (OutcomeWithin 27) (transitionsOf s nodes)
 unfolding transitionsOf
-transitions-number s [] = search numbers
-transitions-number s (n ∷ ns) =
-    let later = transitions-number s ns in
-    search (transition-number, numbers)
+transitions-number s sp [] = search numbers
+transitions-number s sp (n ∷ ns) =
+    let now = transition-number s sp n in
+    let later = transitions-number s sp ns in
+    search numbers
 
 -- ---- layers
 
@@ -78,7 +78,9 @@ unfolding grown
 grown-number [] room decay spacing before nodes k = search numbers
 grown-number (v ∷ vs) room decay spacing before nodes k =
     let later = grown-number vs in
-    search (step-number, transitions-number, numbers)
+    then-known (stepOf spacing decay v k) _ (step-number spacing decay v k) λ s e.
+    let now = transitions-number s (made-spaced spacing decay v k s e) nodes in
+    search numbers
 
 flat-number : (left : ℕ) (room : Room) (k : ℕ) → Holds (OutcomeWithin 27) (flat room k left)
 unfolding flat

@@ -1,4 +1,4 @@
--- What spread from price refuses with is at most 27, or 29, or 36. Assumes nothing.
+-- What spread from price refuses with is at most 27 and not 24, or 29, or 36. Assumes nothing.
 use Prim.Native.Nat.{ℕ, _≤_}
 use mathlib.Core.Path.{_≡_, refl, subst}
 use mathlib.Core.Logic.{_⊎_, inl, inr}
@@ -29,13 +29,13 @@ use Rattle.brackets.specs.laws.Cases.{Holds, of-cond}
 use Rattle.sought.specs.Objectives.{firstLower, firstUpper}
 use Rattle.spreads.specs.Spreads.{onTreeValue, spreadObjective, solveSpread, spreadFromPrice}
 use Rattle.promises.specs.laws.Converges.{Settles, converges}
-use Rattle.promises.specs.laws.Numbers.{on-check}
+use Rattle.promises.specs.laws.Numbers.{Allowed, allowed, on-check}
 use Rattle.promises.specs.laws.GridNumbers.{checks-number}
-use Rattle.promises.specs.laws.TreeNumbers.{tree-numbers}
+use Rattle.promises.specs.laws.TreeNumbers.{tree-allowed}
 
 -- A spread that is found has number 0.
 abbrev Among : ℕ → Type 0
-Among n = (n ≤ 27) ⊎ ((n ≡ 29) ⊎ (n ≡ 36))
+Among n = Allowed 27 n ⊎ ((n ≡ 29) ⊎ (n ≡ 36))
 
 -- A tried spread with a value is within ±1.
 abbrev Tried : Float → Answer → Type 0
@@ -61,8 +61,8 @@ module _ (m : Market) (calls : CallSchedule) (room : Room) where
   tried s = of-cond (lt one s) _ _ (λ t. record { it = inr (inr refl) }) (λ t. over (treeValue (withSpread m s) calls room) refl)
     where
       over : (v : TreeValue) → treeValue (withSpread m s) calls room ≡ v → Holds (Tried s) (onTreeValue v answer.Refused λ x. tested (sub binary64 x (m .spread)) 0)
-      over (tree.Value x n) e = of-cond (notFinite (sub binary64 x (m .spread))) _ _ (λ t. record { it = inl (omega arith) }) (λ t. record { it = valued s x n e })
-      over (tree.Refused q) e = record { it = inl (tree-numbers (withSpread m s) calls room q e) }
+      over (tree.Value x n) e = of-cond (notFinite (sub binary64 x (m .spread))) _ _ (λ t. record { it = inl (allowed 27 27 refl refl) }) (λ t. record { it = valued s x n e })
+      over (tree.Refused q) e = record { it = inl (tree-allowed (withSpread m s) calls room q e) }
 
   tried-within : (s y : Float) → difference s ≡ answer.Value y → T (le (neg one) s) × T (le s one)
   unfolding ofBits ofInt
@@ -72,7 +72,7 @@ module _ (m : Market) (calls : CallSchedule) (room : Room) where
   tried-number s r e = subst (Tried s) e (tried s .it)
 
   solved : Settles Among (solveSpread m calls room (m .spread))
-  solved = converges Among (inl (omega arith)) (inl (omega arith)) (inr (inl refl)) difference tried-within tried-number firstLower firstUpper (neg one)
+  solved = converges Among (inl (allowed 27 0 refl refl)) (inl (allowed 27 27 refl refl)) (inr (inl refl)) difference tried-within tried-number firstLower firstUpper (neg one)
 
   spread-number : Settles Among (spreadFromPrice m calls room)
   unfolding spreadFromPrice spreadChecks
@@ -80,8 +80,12 @@ module _ (m : Market) (calls : CallSchedule) (room : Room) where
 
 -- A refusal is at most 27, or 29, or 36.
 pub spread-numbers : (m : Market) (calls : CallSchedule) (room : Room) (q : Refusal) (n : ℕ) → spreadFromPrice m calls room ≡ Refused q n → (q .number ≤ 27) ⊎ ((q .number ≡ 29) ⊎ (q .number ≡ 36))
-spread-numbers m calls room q n e = subst (Settles Among) e (spread-number m calls room)
+spread-numbers m calls room q n e = elim (subst (Settles Among) e (spread-number m calls room)) [ inl h ↦ inl (h .at-most) | inr h ↦ inr h ]
+
+-- 24 is never given.
+pub spread-never-24 : (m : Market) (calls : CallSchedule) (room : Room) → rootNumber (spreadFromPrice m calls room) ≡ 24 → ⊥
+spread-never-24 m calls room e = elim (spread-number m calls room) [ inl h ↦ h .not-24 e | inr (inl h) ↦ omega arith | inr (inr h) ↦ omega arith ]
 
 -- 30 is never given: every spread that has a value lies within ±1, where halving a bracket reaches 1e-14 in time.
 pub spread-never-30 : (m : Market) (calls : CallSchedule) (room : Room) → rootNumber (spreadFromPrice m calls room) ≡ 30 → ⊥
-spread-never-30 m calls room e = elim (spread-number m calls room) [ inl h ↦ omega arith | inr (inl h) ↦ omega arith | inr (inr h) ↦ omega arith ]
+spread-never-30 m calls room e = elim (spread-number m calls room) [ inl h ↦ (let k = h .at-most in omega arith) | inr (inl h) ↦ omega arith | inr (inr h) ↦ omega arith ]

@@ -1,0 +1,2 @@
+pub mod Unclamped
+pub mod laws
