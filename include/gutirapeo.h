@@ -85,6 +85,29 @@ uint32_t gutirapeo_grid(uint32_t settlement,
                         uint32_t *place, double *maturity_time, uint32_t *steps,
                         double cashflows[513], uint8_t marks[513], double prices[513]);
 
+/* The call list that call notices give: of each series the highest version stands, and a withdrawn one yields no entry.
+ *
+ * A notice has a series (1 to 64), a version (1 to 65,535), an action (0 set, 1 withdraw) and the start, end and strike of a call;
+ * a withdrawal's are not read. At most 256 notices, in any order, each field in an array of its own. The list comes by series,
+ * rising: *count entries in 64 places, zero past the last of them and all zero on a refusal. It can be passed to the tree value as
+ * it is, with *count as the three lengths, and is never refused there for its calls.
+ *
+ * Tried in this order:
+ *   2   arrays of unequal length (place 0)
+ *   41  more than 256 notices (place 0)
+ *   42  a series, version or action out of range
+ *   43  the same series and version as an earlier notice
+ *   3, 4, 5 of each set notice's call fields, of versions that don't stand too
+ * The place is the lowest index of such a notice. */
+uint32_t gutirapeo_call_list(const uint32_t *series, size_t series_length,
+                             const uint32_t *versions, size_t versions_length,
+                             const uint32_t *actions, size_t actions_length,
+                             const uint32_t *starts, size_t starts_length,
+                             const uint32_t *ends, size_t ends_length,
+                             const double *strikes, size_t strikes_length,
+                             uint32_t *place, uint32_t *count,
+                             uint32_t call_starts[64], uint32_t call_ends[64], double call_strikes[64]);
+
 /* What the bond is worth with its calls, and the nodes of the tree.
  *
  * Sigma comes as 1 to 64 times (years from settlement, rising) and the sigma from each time on, the first reaching back to

@@ -36,6 +36,25 @@ extern "C" {
         marks: &mut [u8; 513],
         prices: &mut [f64; 513],
     ) -> u32;
+    pub fn gutirapeo_call_list(
+        series: *const u32,
+        series_len: usize,
+        versions: *const u32,
+        versions_len: usize,
+        actions: *const u32,
+        actions_len: usize,
+        starts: *const u32,
+        starts_len: usize,
+        ends: *const u32,
+        ends_len: usize,
+        strikes: *const f64,
+        strikes_len: usize,
+        place: &mut u32,
+        count: &mut u32,
+        call_starts: &mut [u32; 64],
+        call_ends: &mut [u32; 64],
+        call_strikes: &mut [f64; 64],
+    ) -> u32;
     pub fn gutirapeo_tree_value(
         settlement: u32,
         cashflow_days: *const u32,

@@ -1,7 +1,9 @@
 //! The C interface, declared as in include/gutirapeo.h, behind safe functions.
 mod c;
+mod notices;
 mod tree;
 
+pub use notices::call_list;
 pub use tree::{spread_from_price, tree_value, Lent};
 
 use reading::bondevents::Grid;

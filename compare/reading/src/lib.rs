@@ -1,4 +1,4 @@
-//! Document 01 read a second time, in Rust: what the proved library is compared with.
+//! Document 01 and what was asked for since, read a second time, in Rust: what the proved library is compared with.
 //!
 //! It has no std, so that the published text can be compiled over it without f64's own functions.
 #![no_std]
@@ -15,6 +15,7 @@ pub mod bondpricer;
 pub mod elementary;
 pub mod exact;
 pub mod hullwhite;
+pub mod notices;
 pub mod ordinary;
 pub mod terms;
 pub mod treebasedbondpricer;

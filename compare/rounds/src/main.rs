@@ -8,6 +8,7 @@
 mod calllists;
 mod elementary;
 mod grid;
+mod notices;
 mod random;
 mod sample;
 mod spreads;
@@ -41,13 +42,14 @@ fn main() {
         return;
     }
     let mut differences = elementary::round(long, seed, &wanted);
-    let entries: [(&str, fn(bool, u64) -> u64); 6] = [
+    let entries: [(&str, fn(bool, u64) -> u64); 7] = [
         ("grid", grid::round),
         ("tree", tree::round),
         ("calllists", calllists::round),
         ("straight", straight::round),
         ("yields", yields::round),
         ("spreads", spreads::round),
+        ("notices", notices::round),
     ];
     for (name, round) in entries {
         if wanted(name) {

@@ -1,13 +1,15 @@
 //! Writes the stored sample that the program `replay` runs without Rust: `rounds --sample FILE`.
 //!
 //! A record is 160 words of 64 bits, little-endian, at the places below; floats as their bits. Accepted answers are the
-//! published text's, refusals the second reading's.
+//! published text's, refusals and the call lists of notices the second reading's.
+use crate::notices::{damage, good, parallel};
 use crate::random::Random;
 use crate::spreadterms::{spread_terms, target};
 use crate::tally::published;
 use crate::terms;
 use crate::tree::tree_terms;
 use reading::bondanalytics::{self, Rate};
+use reading::notices::{self, Notices};
 use reading::treebasedbondpricer::{self, Room, Terms};
 use reading::{bondevents, bondpricer, elementary, Answer, Refusal};
 use std::collections::BTreeMap;
@@ -272,6 +274,47 @@ fn yield_record(random: &mut Random, kind: u64) -> Record {
     }
 }
 
+/// Notices few enough for a record, with no NaN.
+fn few_notices(random: &mut Random) -> Notices {
+    loop {
+        let mut n = good(random);
+        if random.below(2) == 0 {
+            damage(random, &mut n);
+        }
+        if parallel(&n) && n.series.len() <= FLOWS && !n.calls.strikes.iter().any(|x| x.is_nan()) {
+            return n;
+        }
+    }
+}
+
+fn notice_record(random: &mut Random) -> Record {
+    let n = few_notices(random);
+    let mut r = [0; WORDS];
+    (r[0], r[1]) = (18, n.series.len() as u64);
+    let lists = [&n.series, &n.versions, &n.actions, &n.calls.starts, &n.calls.ends];
+    for (i, list) in lists.into_iter().enumerate() {
+        numbers(&mut r, 2 + 8 * i, list.iter().map(|&n| u64::from(n)));
+    }
+    floats(&mut r, 42, &n.calls.strikes);
+    match notices::call_list(&n) {
+        Err(refusal) => refused(r, refusal),
+        Ok(calls) => {
+            r[84] = calls.starts.len() as u64;
+            numbers(&mut r, 85, calls.starts.iter().map(|&n| u64::from(n)));
+            numbers(&mut r, 93, calls.ends.iter().map(|&n| u64::from(n)));
+            floats(&mut r, 101, &calls.strikes);
+            r
+        }
+    }
+}
+
+/// 100 lists of notices: 10 of each refusal that a record can hold, 5 accepted without an entry, 45 with some.
+fn notice_records(random: &mut Random) -> Vec<Record> {
+    let mut left: BTreeMap<u64, u32> = [3, 4, 5, 42, 43].into_iter().map(|number| (number, 10)).collect();
+    left.extend([(PLAIN, 5), (0, 45)]);
+    sorted(random, left, notice_record, |r| if r[80] == 0 && r[84] == 0 { PLAIN } else { r[80] })
+}
+
 /// Writes a sample; `kinds` says which entries there are.
 pub fn write(path: &str, seed: u64, kinds: &[u64]) {
     assert!(published::AVAILABLE, "the published source is not beside the repository");
@@ -284,6 +327,7 @@ pub fn write(path: &str, seed: u64, kinds: &[u64]) {
             13 => tree_records(&mut random),
             14 => spread_records(&mut random),
             15 => (0..60).map(|_| straight_record(&mut random)).collect(),
+            18 => notice_records(&mut random),
             _ => (0..60).map(|_| yield_record(&mut random, kind)).collect(),
         };
         bytes.extend(records.iter().flatten().flat_map(|word| word.to_le_bytes()));

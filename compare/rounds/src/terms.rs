@@ -3,7 +3,7 @@ use crate::random::Random;
 use reading::terms::{Calls, Leg, Pillars, Sigma};
 use reading::treebasedbondpricer::Terms;
 
-fn pick<T: Copy>(random: &mut Random, from: &[T]) -> T {
+pub fn pick<T: Copy>(random: &mut Random, from: &[T]) -> T {
     from[random.below(from.len() as u64) as usize]
 }
 

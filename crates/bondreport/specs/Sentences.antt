@@ -36,6 +36,9 @@ advice =
     ∷ about 29 (bytes "No yield or spread gives this price: look at the price.")
     ∷ about 30 (bytes "The search did not settle: the price is far from any market's.")
     ∷ about 36 (bytes "The price is far below what the bond is worth: look at it.")
+    ∷ about 41 (bytes "Too many notices: at most 256 are taken in one go.")
+    ∷ about 42 (bytes "Look at this notice: its series, its version or its action.")
+    ∷ about 43 (bytes "This notice repeats the series and version of an earlier one.")
     ∷ []
 
 abbrev pub unknown : List ℕ

@@ -36,6 +36,12 @@ impl Refusal {
     pub const PILLAR_ORDER: u32 = 8;
     // A compounding code unknown, or a frequency unusable.
     pub const RATE: u32 = 9;
+    // More than 256 call notices.
+    pub const NOTICE_COUNT: u32 = 41;
+    // A notice's series, version or action out of range.
+    pub const NOTICE_RANGE: u32 = 42;
+    // The same series and version twice.
+    pub const NOTICE_REPEATED: u32 = 43;
 
     // Found in the working state.
     // No principal at an eligible step.

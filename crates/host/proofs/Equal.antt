@@ -4,6 +4,7 @@ use mathlib.Core.Path.{_≡_}
 use mathlib.Core.List.{List}
 use lib.Ieee.{Float}
 use Rattle.floats.specs.declared.Answer.{Answer}
+use Rattle.callnotices.specs.declared.CallList.{CallList}
 use Rattle.bondevents.specs.declared.GridAnswer.{GridAnswer}
 use Rattle.terms.specs.Terms.{CallSchedule, Market}
 use Rattle.treebasedbondpricer.specs.declared.TreeValue.{TreeValue}
@@ -12,13 +13,16 @@ use Rattle.treebasedbondpricer.specs.Entry.{Entered}
 use Rattle.interestrate.specs.declared.YieldPrice.{YieldPrice}
 use Rattle.brackets.specs.declared.Root.{Root}
 use Rattle.spreads.specs.Spreads.{Solved}
-use Rattle.host.specs.Handed.{Handed, HandedGrid, HandedValue, HandedTree, HandedPrice, HandedRoot, HandedSpread}
+use Rattle.host.specs.Handed.{Handed, HandedGrid, HandedList, HandedValue, HandedTree, HandedPrice, HandedRoot, HandedSpread}
 
 pub handed-as : {a b : Answer} {result place : ℕ} {value : Float} → a ≡ b → Handed a result place value → Handed b result place value
 handed-as e h = rw (← e) h
 
 pub grid-as : {a b : GridAnswer} {result place steps : ℕ} {maturity : Float} {cashflows prices : List Float} {marks : List ℕ} → a ≡ b → HandedGrid a result place maturity steps cashflows marks prices → HandedGrid b result place maturity steps cashflows marks prices
 grid-as e h = rw (← e) h
+
+pub list-as : {a b : CallList} {result place count : ℕ} {starts ends : List ℕ} {strikes : List Float} → a ≡ b → HandedList a result place count starts ends strikes → HandedList b result place count starts ends strikes
+list-as e h = rw (← e) h
 
 pub tree-as : {m : Market} {calls : CallSchedule} {a : TreeValue} {before after : Lent} {result place nodes : ℕ} {value : Float} → Entered m calls a before after → HandedValue a result place value nodes → HandedTree m calls before after result place value nodes
 tree-as e h = record { handed = rw (← e .value) h; slices = e .slices }

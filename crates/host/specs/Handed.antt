@@ -5,6 +5,7 @@ use mathlib.Core.List.{List, map}
 use lib.Ieee.{Float}
 use Rattle.floats.specs.declared.Answer.{Answer}
 use Rattle.floats.specs.Answers.{numberOf, placeOf, valueOf}
+use Rattle.callnotices.specs.declared.CallList.{CallList}
 use Rattle.bondevents.specs.declared.GridAnswer.{GridAnswer}
 use Rattle.bondevents.specs.Parts.{markOf, priceOfStep}
 use Rattle.treebasedbondpricer.specs.declared.TreeValue.{TreeValue}
@@ -33,6 +34,15 @@ pub record HandedGrid (answer : GridAnswer) (result place : ℕ) (maturity : Flo
   pub cashflows-are : cashflows ≡ answer .grid .cashflows
   pub marks-are : marks ≡ map markOf (answer .grid .calls)
   pub prices-are : prices ≡ map priceOfStep (answer .grid .calls)
+
+-- Of the call list that notices give: all 64 places.
+pub record HandedList (answer : CallList) (result place count : ℕ) (starts ends : List ℕ) (strikes : List Float) : Type 0 where
+  pub number-is : result ≡ answer .refusal .number
+  pub place-is : place ≡ answer .refusal .place
+  pub count-is : count ≡ answer .count
+  pub starts-are : starts ≡ answer .starts
+  pub ends-are : ends ≡ answer .ends
+  pub strikes-are : strikes ≡ answer .strikes
 
 -- Of the tree value.
 pub record HandedValue (answer : TreeValue) (result place : ℕ) (value : Float) (nodes : ℕ) : Type 0 where

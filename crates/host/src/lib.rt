@@ -2,6 +2,7 @@
 // outputs; the result is the refusal number, 0 where accepted. Outputs are 0 on a refusal.
 mod grids;
 mod handing;
+mod notices;
 mod quotes;
 mod trees;
 

@@ -1,4 +1,5 @@
 pub mod Examples
 pub mod Tried
 pub mod Probabilities
+pub mod NoticeLists
 pub mod laws

@@ -11,3 +11,4 @@ pub mod TreeNumbers
 pub mod SpreadPromise
 pub mod SpreadNumbers
 pub mod ProbabilityPromise
+pub mod NoticeLists

@@ -3,6 +3,7 @@
 mod entries;
 mod grids;
 mod lists;
+mod notices;
 mod quotes;
 mod record;
 mod report;
@@ -41,6 +42,12 @@ fn tallied(tally: Tally, record: &[u8; 1280]) -> Tally {
             return tally.spread(false);
         }
         return tally.spread(trees::same(record));
+    }
+    if kind == 18 {
+        if any_nan(record) {
+            return tally.notices(false);
+        }
+        return tally.notices(notices::same(record));
     }
     tally.unknown()
 }

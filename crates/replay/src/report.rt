@@ -11,6 +11,8 @@ pub struct Tally {
     tree_differ: u64,
     spread: u64,
     spread_differ: u64,
+    notices: u64,
+    notices_differ: u64,
     unknown: u64,
 }
 
@@ -44,6 +46,8 @@ impl Tally {
             tree_differ: 0,
             spread: 0,
             spread_differ: 0,
+            notices: 0,
+            notices_differ: 0,
             unknown: 0,
         }
     }
@@ -72,6 +76,12 @@ impl Tally {
         self
     }
 
+    pub(crate) fn notices(mut self, same: bool) -> Self {
+        self.notices = one_more(self.notices);
+        self.notices_differ = one_more_unless(same, self.notices_differ);
+        self
+    }
+
     pub(crate) fn unknown(mut self) -> Self {
         self.unknown = one_more(self.unknown);
         self
@@ -82,6 +92,7 @@ impl Tally {
         write_line(b"grid ", self.grid, self.grid_differ);
         write_line(b"tree value ", self.tree, self.tree_differ);
         write_line(b"spread from price ", self.spread, self.spread_differ);
+        write_line(b"call notices ", self.notices, self.notices_differ);
         io::write_all(1, b"unknown ");
         io::print_decimal(1, self.unknown);
         io::write_all(1, b"\n");

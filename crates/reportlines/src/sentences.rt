@@ -30,6 +30,9 @@ pub fn what_to_do(number: u32) -> [u8; 80]
         29 => text_line(b"No yield or spread gives this price: look at the price."),
         30 => text_line(b"The search did not settle: the price is far from any market's."),
         36 => text_line(b"The price is far below what the bond is worth: look at it."),
+        41 => text_line(b"Too many notices: at most 256 are taken in one go."),
+        42 => text_line(b"Look at this notice: its series, its version or its action."),
+        43 => text_line(b"This notice repeats the series and version of an earlier one."),
         _ => text_line(b"This number is not known: look it up in the README."),
     }
 }

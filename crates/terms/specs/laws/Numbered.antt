@@ -27,16 +27,16 @@ pub data AllNumbered : List Check → Type 0 where
 passed-numbered : Numbered Passed
 passed-numbered = record { above-zero = λ r e. absurd (passed-not-refused Passed r refl e) }
 
-single-numbered : (number place : ℕ) (bad : Bool) → 0 < number → Numbered (single number place bad)
+pub single-numbered : (number place : ℕ) (bad : Bool) → 0 < number → Numbered (single number place bad)
 single-numbered number place true h =
     record { above-zero = λ r e. let q : record { number = number; place = place } ≡ r = cc in rw (← q) h }
 single-numbered number place false h = passed-numbered
 
-lowest-numbered : (number : ℕ) (bad : ℕ → Bool) (count i : ℕ) → 0 < number → Numbered (lowest number bad count i)
+pub lowest-numbered : (number : ℕ) (bad : ℕ → Bool) (count i : ℕ) → 0 < number → Numbered (lowest number bad count i)
 lowest-numbered number bad count i h =
     record { above-zero = λ r e. let q = lowest-refused number bad count i r e .same-number in omega arith }
 
-first-numbered : {cs : List Check} → AllNumbered cs → Numbered (firstOf cs)
+pub first-numbered : {cs : List Check} → AllNumbered cs → Numbered (firstOf cs)
 unfolding firstOf onCheck
 first-numbered none = passed-numbered
 first-numbered (one-more {c = c} {cs = cs} h t) = go c h (first-numbered t)

@@ -137,6 +137,24 @@ slice-aggregate-text-line-22 c = search needs
 text-line-requires-22 : tie.Need-text-line-requires-22
 text-line-requires-22 c κs = search needs
 
+slice-aggregate-text-line-23 : tie.Need-slice-aggregate-text-line-23
+slice-aggregate-text-line-23 c = search needs
+
+text-line-requires-23 : tie.Need-text-line-requires-23
+text-line-requires-23 c κs = search needs
+
+slice-aggregate-text-line-24 : tie.Need-slice-aggregate-text-line-24
+slice-aggregate-text-line-24 c = search needs
+
+text-line-requires-24 : tie.Need-text-line-requires-24
+text-line-requires-24 c κs = search needs
+
+slice-aggregate-text-line-25 : tie.Need-slice-aggregate-text-line-25
+slice-aggregate-text-line-25 c = search needs
+
+text-line-requires-25 : tie.Need-text-line-requires-25
+text-line-requires-25 c κs = search needs
+
 returns : tie.Need-returns
 unfolding sentenceFor
 returns c = named (c .before .before .match .keys1) (c .text-line .ensures)
@@ -223,7 +241,19 @@ returns-21 c = named (c .before .before .match .keys21) (c .text-line21 .ensures
 
 returns-22 : tie.Need-returns-22
 unfolding sentenceFor
-returns-22 c = unnamed _ (c .before .before .match .rest) (c .text-line22 .ensures)
+returns-22 c = named (c .before .before .match .keys22) (c .text-line22 .ensures)
+
+returns-23 : tie.Need-returns-23
+unfolding sentenceFor
+returns-23 c = named (c .before .before .match .keys23) (c .text-line23 .ensures)
+
+returns-24 : tie.Need-returns-24
+unfolding sentenceFor
+returns-24 c = named (c .before .before .match .keys24) (c .text-line24 .ensures)
+
+returns-25 : tie.Need-returns-25
+unfolding sentenceFor
+returns-25 c = unnamed _ (c .before .before .match .rest) (c .text-line25 .ensures)
 
 pub what-to-do-spec : {M : Type 1} → statement M
 what-to-do-spec =
@@ -273,6 +303,12 @@ what-to-do-spec =
     text-line-requires-21
     slice-aggregate-text-line-22
     text-line-requires-22
+    slice-aggregate-text-line-23
+    text-line-requires-23
+    slice-aggregate-text-line-24
+    text-line-requires-24
+    slice-aggregate-text-line-25
+    text-line-requires-25
     returns
     returns-2
     returns-3
@@ -294,4 +330,7 @@ what-to-do-spec =
     returns-19
     returns-20
     returns-21
-    returns-22)
+    returns-22
+    returns-23
+    returns-24
+    returns-25)
