@@ -5,13 +5,15 @@ use floats::Answer;
 use floats::Refusal;
 use floats::finite::not_finite;
 use terms::Check;
-use terms::curve::factor_of;
+use terms::curve::curve_at;
+use terms::curve::pillar_times;
 use terms::time::year_fraction;
 ghost use mathlib.Core.Path.{_≡_};
 ghost use mathlib.Core.List.{[]};
 ghost use lib.ListN.{length};
 ghost use Rattle.floats.specs.Answers.{plusZero, refusal};
 ghost use Rattle.terms.specs.Terms.{Leg, Pillars};
+ghost use Rattle.terms.specs.Curve.{curveOver};
 ghost use Rattle.bondpricer.specs.Straight.{withFlow, flows, discountedValue, straightValue};
 
 // A refusal with its number, at place 0.
@@ -24,7 +26,7 @@ fn refused(number: u32) -> Answer
 // amount × (the day's factor / settlement's) × exp(spread × −time), added to the value.
 fn with_flow(
     settlement: u32,
-    pillars: &[u32],
+    curve_times: &[f64],
     factors: &[f64],
     spread: f64,
     reference: f64,
@@ -32,9 +34,10 @@ fn with_flow(
     amount: f64,
     value: f64,
 ) -> Answer
-    ensures { λ r. ⌜ r ≡ withFlow settlement (record { days = now (pillars .entry); factors = now (factors .entry) }) spread reference day amount value ⌝ }
+    ensures { λ r. ⌜ r ≡ withFlow (curveOver (now («curve_times» .entry)) (now (factors .entry))) settlement spread reference day amount value ⌝ }
 {
-    let a = factor_of(settlement, pillars, factors, day, 0);
+    let time = year_fraction(settlement, day);
+    let a = curve_at(curve_times, factors, time, 0);
     let Answer::Value(factor) = a else {
         return a;
     };
@@ -42,7 +45,7 @@ fn with_flow(
     if not_finite(discount) {
         return refused(Refusal::NOT_FINITE);
     }
-    let x = spread * -year_fraction(settlement, day);
+    let x = spread * -time;
     if not_finite(x) {
         return refused(Refusal::NOT_FINITE);
     }
@@ -71,12 +74,12 @@ fn all_flows(
     days: &[u32],
     amounts: &[f64],
     spread: f64,
-    pillars: &[u32],
+    curve_times: &[f64],
     factors: &[f64],
     reference: f64,
 ) -> Answer
     requires { ⌜ length (now amounts) ≡ length (now days) ⌝ }
-    ensures { λ r. ⌜ r ≡ flows settlement (record { days = now (pillars .entry); factors = now (factors .entry) }) spread reference (now (days .entry)) (now (amounts .entry)) plusZero ⌝ }
+    ensures { λ r. ⌜ r ≡ flows (curveOver (now («curve_times» .entry)) (now (factors .entry))) settlement spread reference (now (days .entry)) (now (amounts .entry)) plusZero ⌝ }
 {
     let mut value = 0.0;
     let mut i = 0;
@@ -87,7 +90,7 @@ fn all_flows(
         if settlement < day {
             let a = with_flow(
                 settlement,
-                pillars,
+                curve_times,
                 factors,
                 spread,
                 reference,
@@ -110,13 +113,18 @@ pub fn discounted_value(
     days: &[u32],
     amounts: &[f64],
     spread: f64,
-    pillars: &[u32],
+    curve_times: &[f64],
     factors: &[f64],
 ) -> Answer
     requires { ⌜ length (now amounts) ≡ length (now days) ⌝ }
-    ensures { λ r. ⌜ r ≡ discountedValue settlement (record { days = now (days .entry); kinds = []; amounts = now (amounts .entry) }) spread (record { days = now (pillars .entry); factors = now (factors .entry) }) ⌝ }
+    ensures { λ r. ⌜ r ≡ discountedValue (curveOver (now («curve_times» .entry)) (now (factors .entry))) settlement (record { days = now (days .entry); kinds = []; amounts = now (amounts .entry) }) spread ⌝ }
 {
-    let a = factor_of(settlement, pillars, factors, settlement, 0);
+    let a = curve_at(
+        curve_times,
+        factors,
+        year_fraction(settlement, settlement),
+        0,
+    );
     let Answer::Value(reference) = a else {
         return a;
     };
@@ -128,7 +136,7 @@ pub fn discounted_value(
         days,
         amounts,
         spread,
-        pillars,
+        curve_times,
         factors,
         reference,
     )
@@ -158,12 +166,13 @@ pub fn straight_value(
     if let Check::Refused(q) = checked {
         return Answer::Refused(q);
     }
+    let curve_times = pillar_times(settlement, pillar_days);
     discounted_value(
         settlement,
         cashflow_days,
         cashflow_amounts,
         spread,
-        pillar_days,
+        &curve_times[..pillar_days.len()],
         pillar_factors,
     )
 }

@@ -8,9 +8,8 @@ use crate::straight_stages::straight_counts;
 use crate::straight_stages::straight_days;
 use crate::straight_stages::straight_numbers;
 use crate::straight_stages::straight_orders;
-use crate::tree_stages::model_counts;
+use crate::tree_stages::tree_counts;
 use crate::tree_stages::tree_days;
-use crate::tree_stages::tree_fields;
 use crate::tree_stages::tree_numbers;
 use crate::tree_stages::tree_orders;
 use crate::yield_stages::yield_days;
@@ -21,9 +20,11 @@ use terms::counts::leg_count;
 use terms::limits::PillarEntries;
 use terms::limits::Target;
 use terms::limits::Yields;
+use terms::pillars::pillars_to_maturity;
 ghost use mathlib.Core.Path.{_≡_};
 ghost use Rattle.terms.specs.Terms.{Leg, CallSchedule, SigmaSchedule, Pillars, Bond, TimeGrid, HullWhite, Market};
 ghost use Rattle.terms.specs.Entries.{gridChecks, marketChecks, treeChecks, spreadChecks, straightChecks, yieldChecks, priceChecks, targetChecks};
+ghost use Rattle.terms.specs.Slices.{legIn, callsIn, sigmaIn, pillarsIn, marketIn};
 
 // What the grid checks.
 pub fn grid_checks(
@@ -38,7 +39,10 @@ pub fn grid_checks(
     yearly: u32,
     maximum: u32,
 ) -> Check
-    ensures { λ r. ⌜ r ≡ gridChecks settlement (record { leg = record { days = now (days .entry); kinds = now (kinds .entry); amounts = now (amounts .entry) }; units = units }) (record { starts = now (starts .entry); ends = now (ends .entry); strikes = now (strikes .entry) }) (record { perYear = yearly; maximum = maximum }) ⌝ }
+    ensures { λ r. ⌜ r ≡ gridChecks settlement
+        (record { leg = legIn days kinds amounts; units = units })
+        (callsIn starts ends strikes)
+        (record { perYear = yearly; maximum = maximum }) ⌝ }
 {
     let a = grid_counts(yearly, maximum, days, kinds, amounts, starts, ends, strikes);
     let Check::Passed = a else {
@@ -65,7 +69,7 @@ pub fn straight_checks(
     pillars: &[u32],
     factors: &[f64],
 ) -> Check
-    ensures { λ r. ⌜ r ≡ straightChecks settlement (record { days = now (days .entry); kinds = now (kinds .entry); amounts = now (amounts .entry) }) spread (record { days = now (pillars .entry); factors = now (factors .entry) }) ⌝ }
+    ensures { λ r. ⌜ r ≡ straightChecks settlement (legIn days kinds amounts) spread (pillarsIn pillars factors) ⌝ }
 {
     let a = straight_counts(days, kinds, amounts, pillars, factors);
     let Check::Passed = a else {
@@ -92,7 +96,7 @@ fn yield_checks(
     x: f64,
     rate: Check,
 ) -> Check
-    ensures { λ r. ⌜ r ≡ yieldChecks limit settlement (record { days = now (days .entry); kinds = now (kinds .entry); amounts = now (amounts .entry) }) x rate ⌝ }
+    ensures { λ r. ⌜ r ≡ yieldChecks limit settlement (legIn days kinds amounts) x rate ⌝ }
 {
     let a = leg_count(days, kinds, amounts);
     let Check::Passed = a else {
@@ -122,7 +126,7 @@ pub fn price_checks(
     given: f64,
     rate: Check,
 ) -> Check
-    ensures { λ r. ⌜ r ≡ priceChecks settlement (record { days = now (days .entry); kinds = now (kinds .entry); amounts = now (amounts .entry) }) given rate ⌝ }
+    ensures { λ r. ⌜ r ≡ priceChecks settlement (legIn days kinds amounts) given rate ⌝ }
 {
     yield_checks(Yields::GIVEN, settlement, days, kinds, amounts, given, rate)
 }
@@ -136,7 +140,7 @@ pub fn target_checks(
     target: f64,
     rate: Check,
 ) -> Check
-    ensures { λ r. ⌜ r ≡ targetChecks settlement (record { days = now (days .entry); kinds = now (kinds .entry); amounts = now (amounts .entry) }) target rate ⌝ }
+    ensures { λ r. ⌜ r ≡ targetChecks settlement (legIn days kinds amounts) target rate ⌝ }
 {
     yield_checks(Target::MOST, settlement, days, kinds, amounts, target, rate)
 }
@@ -161,29 +165,50 @@ fn market_checks(
     pillars: &[u32],
     factors: &[f64],
 ) -> Check
-    ensures { λ r. ⌜ r ≡ marketChecks limit (record { settlement = settlement; bond = record { leg = record { days = now (days .entry); kinds = now (kinds .entry); amounts = now (amounts .entry) }; units = units }; controls = record { perYear = yearly; maximum = maximum }; model = record { alpha = alpha; sigma = record { times = now (times .entry); sigmas = now (sigmas .entry) } }; spread = x; pillars = record { days = now (pillars .entry); factors = now (factors .entry) } }) (record { starts = now (starts .entry); ends = now (ends .entry); strikes = now (strikes .entry) }) ⌝ }
+    ensures { λ r. ⌜ r ≡ marketChecks limit
+        (marketIn settlement (legIn days kinds amounts) units yearly maximum alpha (sigmaIn times sigmas) x (pillarsIn pillars factors))
+        (callsIn starts ends strikes) ⌝ }
 {
-    let a = grid_counts(yearly, maximum, days, kinds, amounts, starts, ends, strikes);
+    let a = tree_counts(
+        yearly,
+        maximum,
+        days,
+        kinds,
+        amounts,
+        starts,
+        ends,
+        strikes,
+        times,
+        sigmas,
+        pillars,
+        factors,
+    );
     let Check::Passed = a else {
         return a;
     };
-    let b = model_counts(times, sigmas, pillars, factors);
+    let b = tree_days(settlement, days, kinds, starts, ends, pillars);
     let Check::Passed = b else {
         return b;
     };
-    let c = tree_days(settlement, days, kinds, starts, ends, pillars);
+    let c = tree_numbers(
+        limit,
+        units,
+        alpha,
+        x,
+        amounts,
+        strikes,
+        times,
+        sigmas,
+        factors,
+    );
     let Check::Passed = c else {
         return c;
     };
-    let d = tree_fields(limit, units, alpha, x);
+    let d = tree_orders(settlement, days, starts, ends, times);
     let Check::Passed = d else {
         return d;
     };
-    let e = tree_numbers(amounts, strikes, times, sigmas, factors);
-    let Check::Passed = e else {
-        return e;
-    };
-    tree_orders(settlement, days, starts, ends, times, pillars)
+    pillars_to_maturity(settlement, days, pillars)
 }
 
 // What the tree value checks.
@@ -205,7 +230,9 @@ pub fn tree_checks(
     pillars: &[u32],
     factors: &[f64],
 ) -> Check
-    ensures { λ r. ⌜ r ≡ treeChecks (record { settlement = settlement; bond = record { leg = record { days = now (days .entry); kinds = now (kinds .entry); amounts = now (amounts .entry) }; units = units }; controls = record { perYear = yearly; maximum = maximum }; model = record { alpha = alpha; sigma = record { times = now (times .entry); sigmas = now (sigmas .entry) } }; spread = spread; pillars = record { days = now (pillars .entry); factors = now (factors .entry) } }) (record { starts = now (starts .entry); ends = now (ends .entry); strikes = now (strikes .entry) }) ⌝ }
+    ensures { λ r. ⌜ r ≡ treeChecks
+        (marketIn settlement (legIn days kinds amounts) units yearly maximum alpha (sigmaIn times sigmas) spread (pillarsIn pillars factors))
+        (callsIn starts ends strikes) ⌝ }
 {
     market_checks(
         PillarEntries::SPREAD,
@@ -247,7 +274,9 @@ pub fn spread_checks(
     pillars: &[u32],
     factors: &[f64],
 ) -> Check
-    ensures { λ r. ⌜ r ≡ spreadChecks (record { settlement = settlement; bond = record { leg = record { days = now (days .entry); kinds = now (kinds .entry); amounts = now (amounts .entry) }; units = units }; controls = record { perYear = yearly; maximum = maximum }; model = record { alpha = alpha; sigma = record { times = now (times .entry); sigmas = now (sigmas .entry) } }; spread = target; pillars = record { days = now (pillars .entry); factors = now (factors .entry) } }) (record { starts = now (starts .entry); ends = now (ends .entry); strikes = now (strikes .entry) }) ⌝ }
+    ensures { λ r. ⌜ r ≡ spreadChecks
+        (marketIn settlement (legIn days kinds amounts) units yearly maximum alpha (sigmaIn times sigmas) target (pillarsIn pillars factors))
+        (callsIn starts ends strikes) ⌝ }
 {
     market_checks(
         Target::MOST,

@@ -14,13 +14,16 @@ use terms::fields::units_range;
 use terms::limits::Cashflows;
 use terms::numbers::all_within;
 ghost use mathlib.Core.Path.{_≡_};
-ghost use mathlib.Core.List.{[]};
+ghost use mathlib.Core.List.{[], _++_};
 ghost use Prim.Native.Nat.{_≤_};
 ghost use lib.ListN.{length};
 ghost use Rattle.terms.specs.Terms.{CallSchedule, Leg, TimeGrid};
-ghost use Rattle.terms.specs.laws.Stages.{Tells, gridCounts, gridDays, gridNumbers, gridOrders};
+ghost use Rattle.terms.specs.Checks.{firstOf};
+ghost use Rattle.terms.specs.Entries.{settingChecks, gridCounts, gridDays, listNumbers, gridNumbers, gridOrders};
+ghost use Rattle.terms.specs.laws.Stages.{Tells};
 ghost use Rattle.terms.specs.laws.TermChecks.{LegCounted};
 ghost use Rattle.terms.specs.laws.CallChecks.{CallCounted};
+ghost use Rattle.terms.specs.Slices.{legIn, callsIn};
 
 // 1 and 2: settings and counts.
 pub fn grid_counts(
@@ -33,7 +36,9 @@ pub fn grid_counts(
     ends: &[u32],
     strikes: &[f64],
 ) -> Check
-    ensures { λ r. ⌜ Tells r (gridCounts (record { perYear = yearly; maximum = maximum }) (record { days = now (days .entry); kinds = now (kinds .entry); amounts = now (amounts .entry) }) (record { starts = now (starts .entry); ends = now (ends .entry); strikes = now (strikes .entry) })) (LegCounted (record { days = now (days .entry); kinds = now (kinds .entry); amounts = now (amounts .entry) }) × CallCounted (record { starts = now (starts .entry); ends = now (ends .entry); strikes = now (strikes .entry) })) ⌝ }
+    ensures { λ r. ⌜ Tells r
+        (firstOf (settingChecks (record { perYear = yearly; maximum = maximum }) ++ gridCounts (legIn days kinds amounts) (callsIn starts ends strikes)))
+        (LegCounted (legIn days kinds amounts) × CallCounted (callsIn starts ends strikes)) ⌝ }
 {
     let a = settings(yearly, maximum);
     let Check::Passed = a else {
@@ -52,7 +57,9 @@ pub fn grid_days(settlement: u32, days: &[u32], kinds: &[u8], starts: &[u32], en
     requires { ⌜ length (now starts) ≤ 64 ⌝ }
     requires { ⌜ length (now kinds) ≡ length (now days) ⌝ }
     requires { ⌜ length (now ends) ≡ length (now starts) ⌝ }
-    ensures { λ r. ⌜ r ≡ gridDays settlement (record { days = now (days .entry); kinds = now (kinds .entry); amounts = [] }) (record { starts = now (starts .entry); ends = now (ends .entry); strikes = [] }) ⌝ }
+    ensures { λ r. ⌜ r ≡ firstOf
+        (gridDays settlement (record { days = now (days .entry); kinds = now (kinds .entry); amounts = [] })
+        (record { starts = now (starts .entry); ends = now (ends .entry); strikes = [] })) ⌝ }
 {
     let a = settlement_day(settlement);
     let Check::Passed = a else {
@@ -65,28 +72,41 @@ pub fn grid_days(settlement: u32, days: &[u32], kinds: &[u8], starts: &[u32], en
     call_days(starts, ends)
 }
 
+// 4: the numbers of the lists and their ranges.
+pub fn list_numbers(amounts: &[f64], strikes: &[f64]) -> Check
+    requires { ⌜ length (now amounts) ≤ 256 ⌝ }
+    requires { ⌜ length (now strikes) ≤ 64 ⌝ }
+    ensures { λ r. ⌜ r ≡ firstOf
+        (listNumbers (record { days = []; kinds = []; amounts = now (amounts .entry) }) (record { starts = []; ends = []; strikes = now (strikes .entry) })) ⌝ }
+{
+    let a = all_within(Cashflows::AMOUNT, amounts);
+    let Check::Passed = a else {
+        return a;
+    };
+    strike_range(strikes)
+}
+
 // 4: numbers and their ranges.
 pub fn grid_numbers(units: f64, amounts: &[f64], strikes: &[f64]) -> Check
     requires { ⌜ length (now amounts) ≤ 256 ⌝ }
     requires { ⌜ length (now strikes) ≤ 64 ⌝ }
-    ensures { λ r. ⌜ r ≡ gridNumbers units (record { days = []; kinds = []; amounts = now (amounts .entry) }) (record { starts = []; ends = []; strikes = now (strikes .entry) }) ⌝ }
+    ensures { λ r. ⌜ r ≡ firstOf
+        (gridNumbers units (record { days = []; kinds = []; amounts = now (amounts .entry) }) (record { starts = []; ends = []; strikes = now (strikes .entry) })) ⌝ }
 {
     let a = units_range(units);
     let Check::Passed = a else {
         return a;
     };
-    let b = all_within(Cashflows::AMOUNT, amounts);
-    let Check::Passed = b else {
-        return b;
-    };
-    strike_range(strikes)
+    list_numbers(amounts, strikes)
 }
 
 // 5 and 7: a call that ends before it starts, and nothing paid.
 pub fn grid_orders(settlement: u32, days: &[u32], starts: &[u32], ends: &[u32]) -> Check
     requires { ⌜ length (now starts) ≤ 64 ⌝ }
     requires { ⌜ length (now ends) ≡ length (now starts) ⌝ }
-    ensures { λ r. ⌜ r ≡ gridOrders settlement (record { days = now (days .entry); kinds = []; amounts = [] }) (record { starts = now (starts .entry); ends = now (ends .entry); strikes = [] }) ⌝ }
+    ensures { λ r. ⌜ r ≡ firstOf
+        (gridOrders settlement (record { days = now (days .entry); kinds = []; amounts = [] })
+        (record { starts = now (starts .entry); ends = now (ends .entry); strikes = [] })) ⌝ }
 {
     let a = call_order(starts, ends);
     let Check::Passed = a else {

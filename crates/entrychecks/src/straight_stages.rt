@@ -17,8 +17,11 @@ ghost use mathlib.Core.List.{[]};
 ghost use Prim.Native.Nat.{_≤_};
 ghost use lib.ListN.{length};
 ghost use Rattle.terms.specs.Terms.{Leg, Pillars};
-ghost use Rattle.terms.specs.laws.Stages.{Tells, straightCounts, straightDays, straightNumbers, straightOrders};
+ghost use Rattle.terms.specs.Checks.{firstOf};
+ghost use Rattle.terms.specs.Entries.{straightCounts, straightDays, straightNumbers, straightOrders};
+ghost use Rattle.terms.specs.laws.Stages.{Tells};
 ghost use Rattle.terms.specs.laws.TermChecks.{LegCounted, PillarsCounted};
+ghost use Rattle.terms.specs.Slices.{legIn, pillarsIn};
 
 // 2: counts.
 pub fn straight_counts(
@@ -28,7 +31,9 @@ pub fn straight_counts(
     pillars: &[u32],
     factors: &[f64],
 ) -> Check
-    ensures { λ r. ⌜ Tells r (straightCounts (record { days = now (days .entry); kinds = now (kinds .entry); amounts = now (amounts .entry) }) (record { days = now (pillars .entry); factors = now (factors .entry) })) (LegCounted (record { days = now (days .entry); kinds = now (kinds .entry); amounts = now (amounts .entry) }) × PillarsCounted (record { days = now (pillars .entry); factors = now (factors .entry) })) ⌝ }
+    ensures { λ r. ⌜ Tells r
+        (firstOf (straightCounts (legIn days kinds amounts) (pillarsIn pillars factors)))
+        (LegCounted (legIn days kinds amounts) × PillarsCounted (pillarsIn pillars factors)) ⌝ }
 {
     let a = leg_count(days, kinds, amounts);
     let Check::Passed = a else {
@@ -42,7 +47,8 @@ pub fn straight_days(settlement: u32, days: &[u32], kinds: &[u8], pillars: &[u32
     requires { ⌜ length (now days) ≤ 256 ⌝ }
     requires { ⌜ length (now pillars) ≤ 256 ⌝ }
     requires { ⌜ length (now kinds) ≡ length (now days) ⌝ }
-    ensures { λ r. ⌜ r ≡ straightDays settlement (record { days = now (days .entry); kinds = now (kinds .entry); amounts = [] }) (record { days = now (pillars .entry); factors = [] }) ⌝ }
+    ensures { λ r. ⌜ r ≡ firstOf
+        (straightDays settlement (record { days = now (days .entry); kinds = now (kinds .entry); amounts = [] }) (record { days = now (pillars .entry); factors = [] })) ⌝ }
 {
     let a = settlement_day(settlement);
     let Check::Passed = a else {
@@ -59,7 +65,8 @@ pub fn straight_days(settlement: u32, days: &[u32], kinds: &[u8], pillars: &[u32
 pub fn straight_numbers(spread: f64, amounts: &[f64], factors: &[f64]) -> Check
     requires { ⌜ length (now amounts) ≤ 256 ⌝ }
     requires { ⌜ length (now factors) ≤ 256 ⌝ }
-    ensures { λ r. ⌜ r ≡ straightNumbers spread (record { days = []; kinds = []; amounts = now (amounts .entry) }) (record { days = []; factors = now (factors .entry) }) ⌝ }
+    ensures { λ r. ⌜ r ≡ firstOf
+        (straightNumbers spread (record { days = []; kinds = []; amounts = now (amounts .entry) }) (record { days = []; factors = now (factors .entry) })) ⌝ }
 {
     let a = spread_range(spread);
     let Check::Passed = a else {
@@ -75,7 +82,8 @@ pub fn straight_numbers(spread: f64, amounts: &[f64], factors: &[f64]) -> Check
 // 7 and 8: nothing paid, and the pillars.
 pub fn straight_orders(settlement: u32, days: &[u32], pillars: &[u32]) -> Check
     requires { ⌜ length (now pillars) ≤ 256 ⌝ }
-    ensures { λ r. ⌜ r ≡ straightOrders settlement (record { days = now (days .entry); kinds = []; amounts = [] }) (record { days = now (pillars .entry); factors = [] }) ⌝ }
+    ensures { λ r. ⌜ r ≡ firstOf
+        (straightOrders settlement (record { days = now (days .entry); kinds = []; amounts = [] }) (record { days = now (pillars .entry); factors = [] })) ⌝ }
 {
     let a = any_paid(settlement, days);
     let Check::Passed = a else {

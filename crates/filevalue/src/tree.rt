@@ -16,6 +16,8 @@ use treevalue::tree::tree_value;
 ghost use mathlib.Core.Path.{_≡_};
 ghost use Rattle.filebond.specs.Bond.{callsOf, sigmaOf, pillarsOf, marketOf};
 ghost use Rattle.filevalue.specs.Values.{ofValue, ofRoot, marketWith, Replied};
+ghost use Rattle.terms.specs.Slices.{legIn, callsIn, sigmaIn, pillarsIn};
+ghost use Rattle.treebasedbondpricer.specs.Slices.{lentIn, lentOut};
 
 fn of_value(v: TreeValue) -> Reply
     ensures { λ r. ⌜ r ≡ ofValue v ⌝ }
@@ -55,11 +57,11 @@ fn answered(
     second: &mut [f64],
 ) -> Reply
     ensures { λ r. ⌜ Replied ask
-        (marketWith (now (text .entry)) (record { days = now (days .entry); kinds = now (kinds .entry); amounts = now (amounts .entry) }) (record { times = now (times .entry); sigmas = now (sigmas .entry) }) (record { days = now (pillars .entry); factors = now (factors .entry) }))
-        (record { starts = now (starts .entry); ends = now (ends .entry); strikes = now (strikes .entry) })
+        (marketWith (now (text .entry)) (legIn days kinds amounts) (sigmaIn times sigmas) (pillarsIn pillars factors))
+        (callsIn starts ends strikes)
         r
-        (record { nodes = now (nodes .entry); probabilities = now (probabilities .entry); first = now (first .entry); second = now (second .entry) })
-        (record { nodes = now (nodes .exit); probabilities = now (probabilities .exit); first = now (first .exit); second = now (second .exit) }) ⌝ }
+        (lentIn nodes probabilities first second)
+        (lentOut nodes probabilities first second) ⌝ }
 {
     let f = fields_of(text);
     match ask {
@@ -126,11 +128,11 @@ fn with_market(
     second: &mut [f64],
 ) -> Reply
     ensures { λ r. ⌜ Replied ask
-        (marketWith (now (text .entry)) (record { days = now (days .entry); kinds = now (kinds .entry); amounts = now (amounts .entry) }) (sigmaOf (now (text .entry))) (pillarsOf (now (text .entry))))
-        (record { starts = now (starts .entry); ends = now (ends .entry); strikes = now (strikes .entry) })
+        (marketWith (now (text .entry)) (legIn days kinds amounts) (sigmaOf (now (text .entry))) (pillarsOf (now (text .entry))))
+        (callsIn starts ends strikes)
         r
-        (record { nodes = now (nodes .entry); probabilities = now (probabilities .entry); first = now (first .entry); second = now (second .entry) })
-        (record { nodes = now (nodes .exit); probabilities = now (probabilities .exit); first = now (first .exit); second = now (second .exit) }) ⌝ }
+        (lentIn nodes probabilities first second)
+        (lentOut nodes probabilities first second) ⌝ }
 {
     let mut times = [0.0; 64];
     let mut sigmas = [0.0; 64];
@@ -172,11 +174,11 @@ fn with_calls(
     second: &mut [f64],
 ) -> Reply
     ensures { λ r. ⌜ Replied ask
-        (marketWith (now (text .entry)) (record { days = now (days .entry); kinds = now (kinds .entry); amounts = now (amounts .entry) }) (sigmaOf (now (text .entry))) (pillarsOf (now (text .entry))))
+        (marketWith (now (text .entry)) (legIn days kinds amounts) (sigmaOf (now (text .entry))) (pillarsOf (now (text .entry))))
         (callsOf (now (text .entry)))
         r
-        (record { nodes = now (nodes .entry); probabilities = now (probabilities .entry); first = now (first .entry); second = now (second .entry) })
-        (record { nodes = now (nodes .exit); probabilities = now (probabilities .exit); first = now (first .exit); second = now (second .exit) }) ⌝ }
+        (lentIn nodes probabilities first second)
+        (lentOut nodes probabilities first second) ⌝ }
 {
     let mut starts = [0u32; 64];
     let mut ends = [0u32; 64];
@@ -212,8 +214,8 @@ pub fn with_flows(
         (marketOf (now (text .entry)))
         (callsOf (now (text .entry)))
         r
-        (record { nodes = now (nodes .entry); probabilities = now (probabilities .entry); first = now (first .entry); second = now (second .entry) })
-        (record { nodes = now (nodes .exit); probabilities = now (probabilities .exit); first = now (first .exit); second = now (second .exit) }) ⌝ }
+        (lentIn nodes probabilities first second)
+        (lentOut nodes probabilities first second) ⌝ }
 {
     let mut days = [0u32; 256];
     let mut kinds = [0u8; 256];

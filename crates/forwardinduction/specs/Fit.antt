@@ -10,9 +10,7 @@ use Rattle.floats.specs.Answers.{plusZero, one, andThen, refusal, tested, whenF
 use Rattle.elementary.specs.Exponential.{expAt}
 use Rattle.elementary.specs.Logarithm.{lnAt}
 use Rattle.terms.specs.Numbers.{float}
-use Rattle.terms.specs.Terms.{Pillars}
 use Rattle.terms.specs.Outcomes.{Outcome, given, follow, valued, finiteThen}
-use Rattle.terms.specs.Curve.{curveAt, curveOver}
 use Rattle.lattice.specs.declared.Transition.{Transition}
 use Rattle.lattice.specs.Layers.{below, At, nodeFloat}
 use Rattle.lattice.specs.Lattice.{Layer}
@@ -29,11 +27,11 @@ weighted spacing dt place (a ∷ row) total =
     whenFinite (add binary64 total w) place λ total. weighted spacing dt place row total
 
 -- The curve is read at time_step × (step+1); 25: a factor ≤ 0; the shift is ln(weighted/factor)/time_step.
-unfoldable pub shiftOf : ℕ → Pillars → Float → ℕ → Float → Answer
-unfolding curveOver lnAt mul div le
-shiftOf settlement pillars dt place sum =
+unfoldable pub shiftOf : (Float → ℕ → Answer) → Float → ℕ → Float → Answer
+unfolding lnAt mul div le
+shiftOf curve dt place sum =
     whenFinite (mul binary64 dt (float (place + 1))) place λ time.
-    andThen (curveAt settlement pillars time place) λ factor.
+    andThen (curve time place) λ factor.
     cond (le factor plusZero) (refusal 25 place)
     (whenFinite (div binary64 sum factor) place λ quotient.
     andThen (lnAt quotient place) λ log. tested (div binary64 log dt) place)
@@ -71,15 +69,15 @@ onward spacing dt shift place (t ∷ ts) [] next = given next
 onward spacing dt shift place [] row next = given next
 
 -- Per step: weighted sum, curve factor, 25, ln, shift; then contributions. The last step's contributions are worked out too.
-unfoldable pub shiftsFrom : ℕ → Pillars → Float → ℕ → List Layer → List At → Outcome (List Float)
+unfoldable pub shiftsFrom : (Float → ℕ → Answer) → Float → ℕ → List Layer → List At → Outcome (List Float)
 unfolding weighted shiftOf onward
-shiftsFrom settlement pillars dt k [] row = given []
-shiftsFrom settlement pillars dt k (l ∷ layers) row =
+shiftsFrom curve dt k [] row = given []
+shiftsFrom curve dt k (l ∷ layers) row =
     valued (weighted (l .spacing) dt k row plusZero) λ sum.
-    valued (shiftOf settlement pillars dt k sum) λ shift.
+    valued (shiftOf curve dt k sum) λ shift.
     follow (onward (l .spacing) dt shift k (l .transitions) row []) λ next.
-    follow (shiftsFrom settlement pillars dt (suc k) layers next) λ shifts. given (shift ∷ shifts)
+    follow (shiftsFrom curve dt (suc k) layers next) λ shifts. given (shift ∷ shifts)
 
 -- The root's state price is 1.
-abbrev pub fitted : ℕ → Pillars → Float → List Layer → Outcome (List Float)
-fitted settlement pillars dt layers = shiftsFrom settlement pillars dt 0 layers (record { node = pos 0; value = one } ∷ [])
+abbrev pub fitted : (Float → ℕ → Answer) → Float → List Layer → Outcome (List Float)
+fitted curve dt layers = shiftsFrom curve dt 0 layers (record { node = pos 0; value = one } ∷ [])

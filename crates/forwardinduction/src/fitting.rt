@@ -7,6 +7,7 @@ use floats::Answer;
 use lattice::refusals::row_refused;
 use terms::Check;
 ghost use mathlib.Core.Path.{_≡_};
+ghost use Rattle.terms.specs.Curve.{curveOver};
 ghost use Prim.Native.Nat.{_+_, _^_, _<_, _≤_};
 ghost use lib.ListN.{length, getD};
 ghost use Rattle.forwardinduction.specs.Fit.{shiftsFrom, fitted};
@@ -25,8 +26,7 @@ fn fit_step(
     count: usize,
     spacing: f64,
     flat: bool,
-    settlement: u32,
-    days: &[u32],
+    times: &[f64],
     factors: &[f64],
     dt: f64,
     step: u32,
@@ -36,10 +36,10 @@ fn fit_step(
     requires { ⌜ (count ≤ length (now first)) × (count ≤ length (now second)) ⌝ }
     requires { ⌜ (Layered flat (length (now first)) (now nodes) (now probabilities) count) × (Layered flat (length (now second)) (now nodes) (now probabilities) count) ⌝ }
     requires { ⌜ step + 1 < 2 ^ 32 ⌝ }
-    ensures { λ r. ⌜ movedOf r (record { first = now (first .exit); second = now (second .exit) }) ≡ stepAt settlement (record { days = now (days .entry); factors = now (factors .entry) }) dt step flat count spacing (now (nodes .entry)) (now (probabilities .entry)) (record { first = now (first .entry); second = now (second .entry) }) ⌝ }
+    ensures { λ r. ⌜ movedOf r (record { first = now (first .exit); second = now (second .exit) }) ≡ stepAt (curveOver (now (times .entry)) (now (factors .entry))) dt step flat count spacing (now (nodes .entry)) (now (probabilities .entry)) (record { first = now (first .entry); second = now (second .entry) }) ⌝ }
 {
     let row = current(first, second, step, count);
-    let s = layer_shift(nodes, row, spacing, settlement, days, factors, dt, step);
+    let s = layer_shift(nodes, row, spacing, times, factors, dt, step);
     let Answer::Value(shift) = s else {
         return s;
     };
@@ -68,8 +68,7 @@ pub fn fit(
     counts: &[usize],
     spacings: &[f64],
     flat: bool,
-    settlement: u32,
-    days: &[u32],
+    times: &[f64],
     factors: &[f64],
     dt: f64,
     step: u32,
@@ -79,7 +78,7 @@ pub fn fit(
 ) -> Check
     requires { ⌜ Laid flat (length (now first)) (length (now second)) (now counts) (now spacings) (now nodes) (now probabilities) ⌝ }
     requires { ⌜ (length (now shifts) ≡ length (now spacings)) × (step + length (now spacings) + 1 < 2 ^ 32) ⌝ }
-    ensures { λ r. ⌜ Found (shiftsFrom settlement (record { days = now (days .entry); factors = now (factors .entry) }) dt step (layersIn flat (now (counts .entry)) (now (spacings .entry)) (now (nodes .entry)) (now (probabilities .entry))) (rowIn step (getD (now (counts .entry)) 0 0) (now (nodes .entry)) (record { first = now (first .entry); second = now (second .entry) }))) r (now (shifts .exit)) ⌝ }
+    ensures { λ r. ⌜ Found (shiftsFrom (curveOver (now (times .entry)) (now (factors .entry))) dt step (layersIn flat (now (counts .entry)) (now (spacings .entry)) (now (nodes .entry)) (now (probabilities .entry))) (rowIn step (getD (now (counts .entry)) 0 0) (now (nodes .entry)) (record { first = now (first .entry); second = now (second .entry) }))) r (now (shifts .exit)) ⌝ }
 {
     if spacings.len() == 0 {
         return Check::Passed;
@@ -93,8 +92,7 @@ pub fn fit(
         count,
         spacings[0],
         flat,
-        settlement,
-        days,
+        times,
         factors,
         dt,
         step,
@@ -111,8 +109,7 @@ pub fn fit(
         &counts[1..],
         &spacings[1..],
         flat,
-        settlement,
-        days,
+        times,
         factors,
         dt,
         step + 1,
@@ -129,8 +126,7 @@ pub fn fit_tree(
     counts: &[usize],
     spacings: &[f64],
     flat: bool,
-    settlement: u32,
-    days: &[u32],
+    times: &[f64],
     factors: &[f64],
     dt: f64,
     first: &mut [f64],
@@ -140,7 +136,7 @@ pub fn fit_tree(
     requires { ⌜ Laid flat (length (now first)) (length (now second)) (now counts) (now spacings) (now nodes) (now probabilities) ⌝ }
     requires { ⌜ (length (now shifts) ≡ length (now spacings)) × (length (now spacings) + 1 < 2 ^ 32) ⌝ }
     requires { ⌜ (getD (now counts) 0 0 ≡ 1) × (numbersIn (frontNodes 1 (now nodes)) ≡ rootLayer) ⌝ }
-    ensures { λ r. ⌜ Found (fitted settlement (record { days = now (days .entry); factors = now (factors .entry) }) dt (layersIn flat (now (counts .entry)) (now (spacings .entry)) (now (nodes .entry)) (now (probabilities .entry)))) r (now (shifts .exit)) ⌝ }
+    ensures { λ r. ⌜ Found (fitted (curveOver (now (times .entry)) (now (factors .entry))) dt (layersIn flat (now (counts .entry)) (now (spacings .entry)) (now (nodes .entry)) (now (probabilities .entry)))) r (now (shifts .exit)) ⌝ }
 {
     first[0] = 1.0;
     fit(
@@ -149,8 +145,7 @@ pub fn fit_tree(
         counts,
         spacings,
         flat,
-        settlement,
-        days,
+        times,
         factors,
         dt,
         0,

@@ -9,6 +9,7 @@ use lattice::refusals::overflow;
 use terms::Check;
 use terms::curve::curve_at;
 ghost use mathlib.Core.Path.{_≡_};
+ghost use Rattle.terms.specs.Curve.{curveOver};
 ghost use Prim.Native.Nat.{_*_, _+_, _^_, _<_, _≤_};
 ghost use lib.ListN.{length};
 ghost use Rattle.forwardinduction.specs.Fit.{shiftOf};
@@ -18,16 +19,16 @@ ghost use Rattle.lattice.specs.laws.Rows.{outcomeOf, Both};
 ghost use Rattle.forwardinduction.specs.laws.Advances.{layerShift, advancedAt};
 
 // The shift of a step: the curve is read at time_step × (step + 1).
-fn shift_of(settlement: u32, days: &[u32], factors: &[f64], dt: f64, place: u32, sum: f64) -> Answer
+fn shift_of(times: &[f64], factors: &[f64], dt: f64, place: u32, sum: f64) -> Answer
     requires { ⌜ place + 1 < 2 ^ 32 ⌝ }
-    ensures { λ r. ⌜ r ≡ shiftOf settlement (record { days = now (days .entry); factors = now (factors .entry) }) dt place sum ⌝ }
+    ensures { λ r. ⌜ r ≡ shiftOf (curveOver (now (times .entry)) (now (factors .entry))) dt place sum ⌝ }
 {
     let next = place + 1;
     let time = dt * next as f64;
     if not_finite(time) {
         return overflow(place);
     }
-    let f = curve_at(settlement, days, factors, time, place);
+    let f = curve_at(times, factors, time, place);
     let Answer::Value(factor) = f else {
         return f;
     };
@@ -39,20 +40,19 @@ pub fn layer_shift(
     nodes: &[i32],
     row: &[f64],
     spacing: f64,
-    settlement: u32,
-    days: &[u32],
+    times: &[f64],
     factors: &[f64],
     dt: f64,
     place: u32,
 ) -> Answer
     requires { ⌜ (length (now nodes) ≡ length (now row) * 2) × (place + 1 < 2 ^ 32) ⌝ }
-    ensures { λ r. ⌜ r ≡ layerShift settlement (record { days = now (days .entry); factors = now (factors .entry) }) dt place spacing (rowOf (numbersIn (now (nodes .entry))) (now (row .entry))) ⌝ }
+    ensures { λ r. ⌜ r ≡ layerShift (curveOver (now (times .entry)) (now (factors .entry))) dt place spacing (rowOf (numbersIn (now (nodes .entry))) (now (row .entry))) ⌝ }
 {
     let s = weighted_sum(nodes, row, spacing, dt, place);
     let Answer::Value(sum) = s else {
         return s;
     };
-    shift_of(settlement, days, factors, dt, place, sum)
+    shift_of(times, factors, dt, place, sum)
 }
 
 // The current row's contributions into the other: at an even step from the first to the second.

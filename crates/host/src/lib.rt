@@ -22,6 +22,7 @@ ghost use Rattle.elementary.specs.Power.{powfAlone};
 ghost use Rattle.rounded.specs.Fused.{mulAddAlone};
 ghost use Rattle.floats.specs.Middle.{midpointAlone};
 ghost use Rattle.bondevents.specs.Grid.{gridAnswer};
+ghost use Rattle.terms.specs.Slices.{legIn, callsIn, pillarsIn};
 
 // The correctly rounded root; below 0 refused with 26.
 #[no_mangle]
@@ -133,8 +134,8 @@ pub extern "C" fn gutirapeo_grid(
 ) -> u32
     ensures { λ r. ⌜ HandedGrid
         (gridAnswer settlement
-        (record { leg = record { days = now (days .entry); kinds = now (kinds .entry); amounts = now (amounts .entry) }; units = units })
-        (record { starts = now (starts .entry); ends = now (ends .entry); strikes = now (strikes .entry) })
+        (record { leg = legIn days kinds amounts; units = units })
+        (callsIn starts ends strikes)
         (record { perYear = yearly; maximum = maximum }))
         r (now (place .exit)) (now (maturity .exit)) (now (steps .exit)) (now (cashflows .exit)) (now (marks .exit)) (now (prices .exit)) ⌝ }
 {
@@ -168,9 +169,9 @@ pub extern "C" fn gutirapeo_straight_value(
 ) -> u32
     ensures { λ r. ⌜ Handed
         (straightValue settlement
-        (record { days = now (days .entry); kinds = now (kinds .entry); amounts = now (amounts .entry) })
+        (legIn days kinds amounts)
         spread
-        (record { days = now (pillars .entry); factors = now (factors .entry) }))
+        (pillarsIn pillars factors))
         r (now (place .exit)) (now (value .exit)) ⌝ }
 {
     let answer = bondpricer::straight_value(
@@ -201,7 +202,7 @@ pub extern "C" fn gutirapeo_price_from_yield(
 ) -> u32
     ensures { λ r. ⌜ HandedPrice
         (priceFromYield settlement
-        (record { days = now (days .entry); kinds = now (kinds .entry); amounts = now (amounts .entry) })
+        (legIn days kinds amounts)
         compounding frequency given)
         r (now (place .exit)) (now (price .exit)) (now (derivative .exit)) ⌝ }
 {
@@ -233,7 +234,7 @@ pub extern "C" fn gutirapeo_yield_from_price(
 ) -> u32
     ensures { λ r. ⌜ HandedRoot
         (yieldFromPrice settlement
-        (record { days = now (days .entry); kinds = now (kinds .entry); amounts = now (amounts .entry) })
+        (legIn days kinds amounts)
         compounding frequency target)
         r (now (place .exit)) (now (value .exit)) (now (evaluations .exit)) ⌝ }
 {

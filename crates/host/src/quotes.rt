@@ -2,7 +2,8 @@
 
 use crate::handing::hand_root;
 ghost use Rattle.host.specs.Handed.{HandedSpread};
-ghost use Rattle.treebasedbondpricer.specs.Entry.{marketOf, callsIn};
+ghost use Rattle.terms.specs.Slices.{legIn, callsIn, sigmaIn, pillarsIn, marketIn};
+ghost use Rattle.treebasedbondpricer.specs.Slices.{lentIn, lentOut};
 
 // The spread that makes the bond worth the target; how many spreads were tried.
 #[no_mangle]
@@ -32,10 +33,11 @@ pub extern "C" fn gutirapeo_spread_from_price(
     tried: &mut u32,
 ) -> u32
     ensures { λ r. ⌜ HandedSpread
-        (marketOf settlement (now («cashflow_days» .entry)) (now («cashflow_kinds» .entry)) (now («cashflow_amounts» .entry)) units «steps_per_year» «max_steps» alpha (now («sigma_times» .entry)) (now (sigmas .entry)) target (now («pillar_days» .entry)) (now («pillar_factors» .entry)))
-        (callsIn (now («call_starts» .entry)) (now («call_ends» .entry)) (now («call_strikes» .entry)))
-        (record { nodes = now (nodes .entry); probabilities = now (probabilities .entry); first = now («first_row» .entry); second = now («second_row» .entry) })
-        (record { nodes = now (nodes .exit); probabilities = now (probabilities .exit); first = now («first_row» .exit); second = now («second_row» .exit) })
+        (marketIn settlement (legIn «cashflow_days» «cashflow_kinds» «cashflow_amounts») units «steps_per_year» «max_steps» alpha
+        (sigmaIn «sigma_times» sigmas) target (pillarsIn «pillar_days» «pillar_factors»))
+        (callsIn «call_starts» «call_ends» «call_strikes»)
+        (lentIn nodes probabilities «first_row» «second_row»)
+        (lentOut nodes probabilities «first_row» «second_row»)
         r (now (place .exit)) (now (spread .exit)) (now (tried .exit)) ⌝ }
 {
     let answer = spreads::spreads::spread_from_price(

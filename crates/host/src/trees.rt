@@ -2,7 +2,8 @@
 
 use crate::handing::hand_value;
 ghost use Rattle.host.specs.Handed.{HandedTree};
-ghost use Rattle.treebasedbondpricer.specs.Entry.{marketOf, callsIn};
+ghost use Rattle.terms.specs.Slices.{legIn, callsIn, sigmaIn, pillarsIn, marketIn};
+ghost use Rattle.treebasedbondpricer.specs.Slices.{lentIn, lentOut};
 
 // What the bond is worth with its calls, and the nodes of the tree.
 #[no_mangle]
@@ -32,10 +33,11 @@ pub extern "C" fn gutirapeo_tree_value(
     node_count: &mut u64,
 ) -> u32
     ensures { λ r. ⌜ HandedTree
-        (marketOf settlement (now («cashflow_days» .entry)) (now («cashflow_kinds» .entry)) (now («cashflow_amounts» .entry)) units «steps_per_year» «max_steps» alpha (now («sigma_times» .entry)) (now (sigmas .entry)) spread (now («pillar_days» .entry)) (now («pillar_factors» .entry)))
-        (callsIn (now («call_starts» .entry)) (now («call_ends» .entry)) (now («call_strikes» .entry)))
-        (record { nodes = now (nodes .entry); probabilities = now (probabilities .entry); first = now («first_row» .entry); second = now («second_row» .entry) })
-        (record { nodes = now (nodes .exit); probabilities = now (probabilities .exit); first = now («first_row» .exit); second = now («second_row» .exit) })
+        (marketIn settlement (legIn «cashflow_days» «cashflow_kinds» «cashflow_amounts») units «steps_per_year» «max_steps» alpha
+        (sigmaIn «sigma_times» sigmas) spread (pillarsIn «pillar_days» «pillar_factors»))
+        (callsIn «call_starts» «call_ends» «call_strikes»)
+        (lentIn nodes probabilities «first_row» «second_row»)
+        (lentOut nodes probabilities «first_row» «second_row»)
         r (now (place .exit)) (now (value .exit)) (now («node_count» .exit)) ⌝ }
 {
     let answer = treevalue::tree::tree_value(

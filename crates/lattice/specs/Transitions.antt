@@ -8,6 +8,7 @@ use Rattle.floats.specs.Extremes.{maxOf}
 use Rattle.floats.specs.Whole.{roundAt, rounded}
 use Rattle.terms.specs.Numbers.{float, million, tolerance}
 use Rattle.terms.specs.Outcomes.{Outcome, given, follow, valued, finiteThen, refuse}
+use Rattle.lattice.specs.declared.Middle.{Middle}
 use Rattle.lattice.specs.declared.Transition.{Transition}
 use Rattle.lattice.specs.Layers.{nodeFloat}
 
@@ -71,15 +72,24 @@ probabilities s middle error =
 abbrev pub tooFar : Float → Bool
 tooFar m = lt m (neg million) || lt million m
 
--- State, expectation and its quotient, 23, error and probabilities.
-unfoldable pub transitionOf : Step → ℤ → Outcome Transition
-unfolding probabilities rounded sub mul div toSigned
-transitionOf s node =
-    let place = s .place in
-    finiteThen (mul binary64 (s .spacing) (nodeFloat node)) place λ state.
-    finiteThen (mul binary64 state (s .decay)) place λ expectation.
-    finiteThen (div binary64 expectation (s .newSpacing)) place λ quotient.
+-- State, expectation and its quotient, 23.
+unfoldable pub middleOf : Float → Float → Float → ℕ → ℤ → Outcome Middle
+middleOf spacing decay new place node =
+    finiteThen (mul binary64 spacing (nodeFloat node)) place λ state.
+    finiteThen (mul binary64 state decay) place λ expectation.
+    finiteThen (div binary64 expectation new) place λ quotient.
     valued (roundAt quotient place) λ middle.
     cond (tooFar middle) (refuse 23 place)
-    (finiteThen (mul binary64 (s .newSpacing) middle) place λ centre.
-    finiteThen (sub binary64 expectation centre) place λ error. probabilities s (toSigned 31 middle) error)
+    (given (record { expectation = expectation; middle = middle; node = toSigned 31 middle }))
+
+-- Error and probabilities.
+unfoldable pub fromMiddle : Step → Middle → Outcome Transition
+unfolding probabilities sub mul
+fromMiddle s m =
+    finiteThen (mul binary64 (s .newSpacing) (m .middle)) (s .place) λ centre.
+    finiteThen (sub binary64 (m .expectation) centre) (s .place) λ error. probabilities s (m .node) error
+
+-- The middle, then error and probabilities.
+unfoldable pub transitionOf : Step → ℤ → Outcome Transition
+unfolding middleOf fromMiddle rounded mul div toSigned
+transitionOf s node = follow (middleOf (s .spacing) (s .decay) (s .newSpacing) (s .place) node) λ m. fromMiddle s m

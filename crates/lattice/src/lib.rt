@@ -5,6 +5,13 @@ pub mod node;
 pub mod reach;
 pub mod refusals;
 
+// A node's expectation and its middle in the next layer: the rounded quotient, and the same as a node number.
+pub struct Middle {
+    pub expectation: f64,
+    pub middle: f64,
+    pub node: i32,
+}
+
 // From one node to three of the next layer, with their probabilities.
 pub struct Transition {
     pub down: i32,

@@ -1,5 +1,6 @@
 // A node's transition: state, expectation and its quotient, the middle, error and probabilities.
 
+use crate::Middle;
 use crate::Transition;
 use floats::Refusal;
 use floats::finite::not_finite;
@@ -7,13 +8,19 @@ use floats::max::greater;
 use floats::round::near;
 ghost use mathlib.Core.Path.{_≡_};
 ghost use Rattle.floats.specs.laws.Cuts.{IsWhole};
-ghost use Rattle.lattice.specs.Transitions.{clamped, transitionOf};
+ghost use Rattle.lattice.specs.Transitions.{clamped, middleOf, transitionOf};
 ghost use Rattle.lattice.specs.laws.Bounds.{Within};
-ghost use Rattle.lattice.specs.laws.Making.{madeOutcome, stepFrom, shares, chances, centred};
+ghost use Rattle.lattice.specs.laws.Making.{madeOutcome, middleOutcome, stepFrom, shares, chances, centred, held};
 
 impl Transition {
     // A middle node lies within ±1,000,000.
     pub const LIMIT: f64 = 1000000.0;
+}
+
+// A middle, or the refusal that was met.
+pub enum MadeMiddle {
+    Made(Middle),
+    Refused(Refusal),
 }
 
 // A transition, or the refusal that was met.
@@ -135,32 +142,18 @@ fn probabilities(
     clamped(middle, down, mid, up, place)
 }
 
-// From the rounded middle on: 23, error and probabilities.
-fn centred(
-    expectation: f64,
-    middle: f64,
-    new_spacing: f64,
-    denominator: f64,
-    scale: f64,
-    place: u32,
-) -> MadeTransition
-    requires { ⌜ IsWhole middle ⌝ }
-    ensures { λ r. ⌜ madeOutcome r ≡ centred expectation middle «new_spacing» denominator scale place ⌝ }
+// From the middle on: error and probabilities.
+fn centred(m: Middle, new_spacing: f64, denominator: f64, scale: f64, place: u32) -> MadeTransition
+    requires { ⌜ Within (m .node) ⌝ }
+    ensures { λ r. ⌜ madeOutcome r ≡ centred m «new_spacing» denominator scale place ⌝ }
 {
     let not_finite_here = Refusal {
         number: Refusal::NOT_FINITE,
         place,
     };
-    let too_far = Refusal {
-        number: Refusal::NODE_TOO_FAR,
-        place,
-    };
-    if middle < -Transition::LIMIT {
-        return MadeTransition::Refused(too_far);
-    }
-    if middle > Transition::LIMIT {
-        return MadeTransition::Refused(too_far);
-    }
+    let middle = m.middle;
+    let expectation = m.expectation;
+    let node = m.node;
     let centre = new_spacing * middle;
     if not_finite(centre) {
         return MadeTransition::Refused(not_finite_here);
@@ -169,7 +162,53 @@ fn centred(
     if not_finite(error) {
         return MadeTransition::Refused(not_finite_here);
     }
-    probabilities(middle as i32, error, denominator, scale, place)
+    probabilities(node, error, denominator, scale, place)
+}
+
+// 23, else the middle, as a node number too.
+fn held(expectation: f64, middle: f64, place: u32) -> MadeMiddle
+    requires { ⌜ IsWhole middle ⌝ }
+    ensures { λ r. ⌜ middleOutcome r ≡ held expectation middle place ⌝ }
+{
+    let too_far = Refusal {
+        number: Refusal::NODE_TOO_FAR,
+        place,
+    };
+    if middle < -Transition::LIMIT {
+        return MadeMiddle::Refused(too_far);
+    }
+    if middle > Transition::LIMIT {
+        return MadeMiddle::Refused(too_far);
+    }
+    MadeMiddle::Made(Middle {
+        expectation,
+        middle,
+        node: middle as i32,
+    })
+}
+
+// A node's middle in the next layer: state, expectation and its quotient, rounded.
+pub fn middle_of(spacing: f64, decay: f64, new_spacing: f64, place: u32, node: i32) -> MadeMiddle
+    ensures { λ r. ⌜ middleOutcome r ≡ middleOf spacing decay «new_spacing» place node ⌝ }
+{
+    let not_finite_here = Refusal {
+        number: Refusal::NOT_FINITE,
+        place,
+    };
+    let state = spacing * (node as f64);
+    if not_finite(state) {
+        return MadeMiddle::Refused(not_finite_here);
+    }
+    let expectation = state * decay;
+    if not_finite(expectation) {
+        return MadeMiddle::Refused(not_finite_here);
+    }
+    let quotient = expectation / new_spacing;
+    if not_finite(quotient) {
+        return MadeMiddle::Refused(not_finite_here);
+    }
+    let middle = near(quotient);
+    held(expectation, middle, place)
 }
 
 // A node's transition to the next layer.
@@ -184,22 +223,9 @@ pub fn transition_of(
 ) -> MadeTransition
     ensures { λ r. ⌜ madeOutcome r ≡ transitionOf (stepFrom spacing decay «new_spacing» denominator scale place) node ⌝ }
 {
-    let not_finite_here = Refusal {
-        number: Refusal::NOT_FINITE,
-        place,
-    };
-    let state = spacing * (node as f64);
-    if not_finite(state) {
-        return MadeTransition::Refused(not_finite_here);
+    let made = middle_of(spacing, decay, new_spacing, place, node);
+    match made {
+        MadeMiddle::Made(m) => centred(m, new_spacing, denominator, scale, place),
+        MadeMiddle::Refused(refusal) => MadeTransition::Refused(refusal),
     }
-    let expectation = state * decay;
-    if not_finite(expectation) {
-        return MadeTransition::Refused(not_finite_here);
-    }
-    let quotient = expectation / new_spacing;
-    if not_finite(quotient) {
-        return MadeTransition::Refused(not_finite_here);
-    }
-    let middle = near(quotient);
-    centred(expectation, middle, new_spacing, denominator, scale, place)
 }

@@ -83,7 +83,7 @@ fn layers(
 }
 
 // exp(−alpha × dt).
-fn decay_of(alpha: f64, dt: f64) -> Answer
+pub fn decay_of(alpha: f64, dt: f64) -> Answer
     ensures { λ r. ⌜ r ≡ decayOf alpha dt ⌝ }
 {
     let x = -alpha * dt;

@@ -14,6 +14,7 @@ ghost use Prim.Native.Nat.{_+_, _^_, _<_, _≤_};
 ghost use lib.ListN.{length};
 ghost use lib.Ieee.{binary64, div};
 ghost use Rattle.terms.specs.Numbers.{float};
+ghost use Rattle.terms.specs.Curve.{curveOver};
 ghost use Rattle.terms.specs.Outcomes.{follow, finiteThen};
 ghost use Rattle.hullwhite.specs.laws.Filled.{modelOf};
 ghost use Rattle.lattice.specs.laws.Growing.{roomLeft};
@@ -43,7 +44,6 @@ fn counted_value(answer: Answer, count: u64) -> TreeValue
 
 // Fit, then walk. Counts, spacings and shifts have room for the steps.
 fn value_over(
-    settlement: u32,
     maturity: f64,
     steps: u32,
     cashflows: &[f64],
@@ -53,7 +53,7 @@ fn value_over(
     times: &[f64],
     sigmas: &[f64],
     spread: f64,
-    days: &[u32],
+    curve_times: &[f64],
     factors: &[f64],
     counts: &mut [usize],
     spacings: &mut [f64],
@@ -65,16 +65,15 @@ fn value_over(
 ) -> TreeValue
     requires { ⌜ (0 < steps) × (steps ≤ 512) × (length (now cashflows) ≡ 513) × (length (now marks) ≡ 513) × (length (now prices) ≡ 513) ⌝ }
     requires { ⌜ (length (now counts) ≡ steps + 1) × (length (now spacings) ≡ steps) × (length (now shifts) ≡ steps) ⌝ }
-    ensures { λ r. ⌜ r ≡ treeOf (follow (finiteThen (div binary64 maturity (float steps)) 0 λ dt. fittedOver settlement (modelOf alpha (now (times .entry)) (now (sigmas .entry))) (record { days = now (days .entry); factors = now (factors .entry) }) (roomLeft (now (nodes .entry)) (now (probabilities .entry)) (length (now (first .entry))) (length (now (second .entry)))) steps dt) λ f. walked spread (now (cashflows .entry)) (callsOf (now (marks .entry)) (now (prices .entry))) f) ⌝ }
+    ensures { λ r. ⌜ r ≡ treeOf (follow (finiteThen (div binary64 maturity (float steps)) 0 λ dt. fittedOver (curveOver (now («curve_times» .entry)) (now (factors .entry))) (modelOf alpha (now (times .entry)) (now (sigmas .entry))) (roomLeft (now (nodes .entry)) (now (probabilities .entry)) (length (now (first .entry))) (length (now (second .entry)))) steps dt) λ f. walked spread (now (cashflows .entry)) (callsOf (now (marks .entry)) (now (prices .entry))) f) ⌝ }
 {
     let f = fitted_tree(
-        settlement,
         maturity,
         steps,
         alpha,
         times,
         sigmas,
-        days,
+        curve_times,
         factors,
         counts,
         spacings,
@@ -107,13 +106,12 @@ fn value_over(
 
 // The root's value is the answer.
 pub fn lattice_value(
-    settlement: u32,
     grid: BondEventGrid,
     alpha: f64,
     times: &[f64],
     sigmas: &[f64],
     spread: f64,
-    days: &[u32],
+    curve_times: &[f64],
     factors: &[f64],
     nodes: &mut [i32],
     probabilities: &mut [f64],
@@ -121,7 +119,7 @@ pub fn lattice_value(
     second: &mut [f64],
 ) -> TreeValue
     requires { ⌜ (0 < grid .steps) × (grid .steps ≤ 512) ⌝ }
-    ensures { λ r. ⌜ r ≡ treeOf (follow (finiteThen (div binary64 (grid .«maturity_time») (float (grid .steps))) 0 λ dt. fittedOver settlement (modelOf alpha (now (times .entry)) (now (sigmas .entry))) (record { days = now (days .entry); factors = now (factors .entry) }) (roomLeft (now (nodes .entry)) (now (probabilities .entry)) (length (now (first .entry))) (length (now (second .entry)))) (grid .steps) dt) λ f. walked spread (grid .cashflows) (grid .calls) f) ⌝ }
+    ensures { λ r. ⌜ r ≡ treeOf (follow (finiteThen (div binary64 (grid .«maturity_time») (float (grid .steps))) 0 λ dt. fittedOver (curveOver (now («curve_times» .entry)) (now (factors .entry))) (modelOf alpha (now (times .entry)) (now (sigmas .entry))) (roomLeft (now (nodes .entry)) (now (probabilities .entry)) (length (now (first .entry))) (length (now (second .entry)))) (grid .steps) dt) λ f. walked spread (grid .cashflows) (grid .calls) f) ⌝ }
 {
     let maturity = grid.maturity_time;
     let steps = grid.steps;
@@ -134,7 +132,6 @@ pub fn lattice_value(
     let mut shifts = [0.0; 512];
     let n = steps as usize;
     value_over(
-        settlement,
         maturity,
         steps,
         &cashflows,
@@ -144,7 +141,7 @@ pub fn lattice_value(
         times,
         sigmas,
         spread,
-        days,
+        curve_times,
         factors,
         &mut counts[..n + 1],
         &mut spacings[..n],

@@ -61,39 +61,39 @@ windowed : treeValue (market 100 (leg (465 ∷ 830 ∷ 830 ∷ []) (0 ∷ 0 ∷ 
 unfolding treeValue paidInto rawStep curveOver onOutcome onCheck lowest onAnswer rounded ieee.ofBits ieee.add ieee.sub ieee.mul ieee.div ieee.neg ieee.lt ieee.le ieee.ofInt ieee.toSigned
 windowed = refl
 
-number-1 : treeValue (market 100 (leg (465 ∷ 830 ∷ 830 ∷ []) (0 ∷ 0 ∷ 1 ∷ []) ((float 5) ∷ (float 5) ∷ (float 100) ∷ [])) (float 100) (steps 0 512) (ofBits binary64 0x3fb999999999999a) ((float 0) ∷ (float 1) ∷ []) ((ofBits binary64 0x3f847ae147ae147b) ∷ (ofBits binary64 0x3f889374bc6a7efa) ∷ []) (ofBits binary64 0x3f747ae147ae147b) (pillars (100 ∷ 465 ∷ 900 ∷ []) ((float 1) ∷ (ofBits binary64 0x3fef0a3d70a3d70a) ∷ (ofBits binary64 0x3fedc28f5c28f5c3) ∷ []))) (calls (465 ∷ []) (465 ∷ []) ((float 101) ∷ [])) (room 64 96 9 9) ≡ tree.Refused (record { number = 1; place = 0 })
+pub number-1 : treeValue (market 100 (leg (465 ∷ 830 ∷ 830 ∷ []) (0 ∷ 0 ∷ 1 ∷ []) ((float 5) ∷ (float 5) ∷ (float 100) ∷ [])) (float 100) (steps 0 512) (ofBits binary64 0x3fb999999999999a) ((float 0) ∷ (float 1) ∷ []) ((ofBits binary64 0x3f847ae147ae147b) ∷ (ofBits binary64 0x3f889374bc6a7efa) ∷ []) (ofBits binary64 0x3f747ae147ae147b) (pillars (100 ∷ 465 ∷ 900 ∷ []) ((float 1) ∷ (ofBits binary64 0x3fef0a3d70a3d70a) ∷ (ofBits binary64 0x3fedc28f5c28f5c3) ∷ []))) (calls (465 ∷ []) (465 ∷ []) ((float 101) ∷ [])) (room 64 96 9 9) ≡ tree.Refused (record { number = 1; place = 0 })
 unfolding treeValue paidInto rawStep curveOver onOutcome onCheck lowest onAnswer rounded ieee.ofBits ieee.add ieee.sub ieee.mul ieee.div ieee.neg ieee.lt ieee.le ieee.ofInt ieee.toSigned
 number-1 = refl
 
-number-2 : treeValue (market 100 (leg (465 ∷ 830 ∷ 830 ∷ []) (0 ∷ 0 ∷ 1 ∷ []) ((float 5) ∷ (float 5) ∷ (float 100) ∷ [])) (float 100) (steps 2 512) (ofBits binary64 0x3fb999999999999a) ((float 0) ∷ (float 1) ∷ []) ((ofBits binary64 0x3f847ae147ae147b) ∷ []) (ofBits binary64 0x3f747ae147ae147b) (pillars (100 ∷ 465 ∷ 900 ∷ []) ((float 1) ∷ (ofBits binary64 0x3fef0a3d70a3d70a) ∷ (ofBits binary64 0x3fedc28f5c28f5c3) ∷ []))) (calls (465 ∷ []) (465 ∷ []) ((float 101) ∷ [])) (room 64 96 9 9) ≡ tree.Refused (record { number = 2; place = 0 })
+pub number-2 : treeValue (market 100 (leg (465 ∷ 830 ∷ 830 ∷ []) (0 ∷ 0 ∷ 1 ∷ []) ((float 5) ∷ (float 5) ∷ (float 100) ∷ [])) (float 100) (steps 2 512) (ofBits binary64 0x3fb999999999999a) ((float 0) ∷ (float 1) ∷ []) ((ofBits binary64 0x3f847ae147ae147b) ∷ []) (ofBits binary64 0x3f747ae147ae147b) (pillars (100 ∷ 465 ∷ 900 ∷ []) ((float 1) ∷ (ofBits binary64 0x3fef0a3d70a3d70a) ∷ (ofBits binary64 0x3fedc28f5c28f5c3) ∷ []))) (calls (465 ∷ []) (465 ∷ []) ((float 101) ∷ [])) (room 64 96 9 9) ≡ tree.Refused (record { number = 2; place = 0 })
 unfolding treeValue paidInto rawStep curveOver onOutcome onCheck lowest onAnswer rounded ieee.ofBits ieee.add ieee.sub ieee.mul ieee.div ieee.neg ieee.lt ieee.le ieee.ofInt ieee.toSigned
 number-2 = refl
 
-number-3 : treeValue (market 100 (leg (465 ∷ 830 ∷ 829 ∷ []) (0 ∷ 0 ∷ 1 ∷ []) ((float 5) ∷ (float 5) ∷ (float 100) ∷ [])) (float 100) (steps 2 512) (ofBits binary64 0x3fb999999999999a) ((float 0) ∷ (float 1) ∷ []) ((ofBits binary64 0x3f847ae147ae147b) ∷ (ofBits binary64 0x3f889374bc6a7efa) ∷ []) (ofBits binary64 0x3f747ae147ae147b) (pillars (100 ∷ 465 ∷ 900 ∷ []) ((float 1) ∷ (ofBits binary64 0x3fef0a3d70a3d70a) ∷ (ofBits binary64 0x3fedc28f5c28f5c3) ∷ []))) (calls (465 ∷ []) (465 ∷ []) ((float 101) ∷ [])) (room 64 96 9 9) ≡ tree.Refused (record { number = 3; place = 2 })
+pub number-3 : treeValue (market 100 (leg (465 ∷ 830 ∷ 829 ∷ []) (0 ∷ 0 ∷ 1 ∷ []) ((float 5) ∷ (float 5) ∷ (float 100) ∷ [])) (float 100) (steps 2 512) (ofBits binary64 0x3fb999999999999a) ((float 0) ∷ (float 1) ∷ []) ((ofBits binary64 0x3f847ae147ae147b) ∷ (ofBits binary64 0x3f889374bc6a7efa) ∷ []) (ofBits binary64 0x3f747ae147ae147b) (pillars (100 ∷ 465 ∷ 900 ∷ []) ((float 1) ∷ (ofBits binary64 0x3fef0a3d70a3d70a) ∷ (ofBits binary64 0x3fedc28f5c28f5c3) ∷ []))) (calls (465 ∷ []) (465 ∷ []) ((float 101) ∷ [])) (room 64 96 9 9) ≡ tree.Refused (record { number = 3; place = 2 })
 unfolding treeValue paidInto rawStep curveOver onOutcome onCheck lowest onAnswer rounded ieee.ofBits ieee.add ieee.sub ieee.mul ieee.div ieee.neg ieee.lt ieee.le ieee.ofInt ieee.toSigned
 number-3 = refl
 
-number-4 : treeValue (market 100 (leg (465 ∷ 830 ∷ 830 ∷ []) (0 ∷ 0 ∷ 1 ∷ []) ((float 5) ∷ (float 5) ∷ (float 100) ∷ [])) (float 100) (steps 2 512) (ofBits binary64 0x3fb999999999999a) ((float 0) ∷ (float 1) ∷ []) ((ofBits binary64 0x3f847ae147ae147b) ∷ (ofBits binary64 0x3f889374bc6a7efa) ∷ []) (ofBits binary64 0x3f747ae147ae147b) (pillars (100 ∷ 465 ∷ 900 ∷ []) ((float 1) ∷ (ofBits binary64 0x7ff8000000000000) ∷ (ofBits binary64 0x3fedc28f5c28f5c3) ∷ []))) (calls (465 ∷ []) (465 ∷ []) ((ofBits binary64 0x8000000000000000) ∷ [])) (room 64 96 9 9) ≡ tree.Refused (record { number = 4; place = 0 })
+pub number-4 : treeValue (market 100 (leg (465 ∷ 830 ∷ 830 ∷ []) (0 ∷ 0 ∷ 1 ∷ []) ((float 5) ∷ (float 5) ∷ (float 100) ∷ [])) (float 100) (steps 2 512) (ofBits binary64 0x3fb999999999999a) ((float 0) ∷ (float 1) ∷ []) ((ofBits binary64 0x3f847ae147ae147b) ∷ (ofBits binary64 0x3f889374bc6a7efa) ∷ []) (ofBits binary64 0x3f747ae147ae147b) (pillars (100 ∷ 465 ∷ 900 ∷ []) ((float 1) ∷ (ofBits binary64 0x7ff8000000000000) ∷ (ofBits binary64 0x3fedc28f5c28f5c3) ∷ []))) (calls (465 ∷ []) (465 ∷ []) ((ofBits binary64 0x8000000000000000) ∷ [])) (room 64 96 9 9) ≡ tree.Refused (record { number = 4; place = 0 })
 unfolding treeValue paidInto rawStep curveOver onOutcome onCheck lowest onAnswer rounded ieee.ofBits ieee.add ieee.sub ieee.mul ieee.div ieee.neg ieee.lt ieee.le ieee.ofInt ieee.toSigned
 number-4 = refl
 
-number-5 : treeValue (market 100 (leg (465 ∷ 830 ∷ 830 ∷ []) (0 ∷ 0 ∷ 1 ∷ []) ((float 5) ∷ (float 5) ∷ (float 100) ∷ [])) (float 100) (steps 2 512) (ofBits binary64 0x3fb999999999999a) ((float 0) ∷ (float 1) ∷ []) ((ofBits binary64 0x3f847ae147ae147b) ∷ (ofBits binary64 0x3f889374bc6a7efa) ∷ []) (ofBits binary64 0x3f747ae147ae147b) (pillars (100 ∷ 465 ∷ 900 ∷ []) ((float 1) ∷ (ofBits binary64 0x3fef0a3d70a3d70a) ∷ (ofBits binary64 0x3fedc28f5c28f5c3) ∷ []))) (calls (465 ∷ []) (464 ∷ []) ((float 101) ∷ [])) (room 64 96 9 9) ≡ tree.Refused (record { number = 5; place = 0 })
+pub number-5 : treeValue (market 100 (leg (465 ∷ 830 ∷ 830 ∷ []) (0 ∷ 0 ∷ 1 ∷ []) ((float 5) ∷ (float 5) ∷ (float 100) ∷ [])) (float 100) (steps 2 512) (ofBits binary64 0x3fb999999999999a) ((float 0) ∷ (float 1) ∷ []) ((ofBits binary64 0x3f847ae147ae147b) ∷ (ofBits binary64 0x3f889374bc6a7efa) ∷ []) (ofBits binary64 0x3f747ae147ae147b) (pillars (100 ∷ 465 ∷ 900 ∷ []) ((float 1) ∷ (ofBits binary64 0x3fef0a3d70a3d70a) ∷ (ofBits binary64 0x3fedc28f5c28f5c3) ∷ []))) (calls (465 ∷ []) (464 ∷ []) ((float 101) ∷ [])) (room 64 96 9 9) ≡ tree.Refused (record { number = 5; place = 0 })
 unfolding treeValue paidInto rawStep curveOver onOutcome onCheck lowest onAnswer rounded ieee.ofBits ieee.add ieee.sub ieee.mul ieee.div ieee.neg ieee.lt ieee.le ieee.ofInt ieee.toSigned
 number-5 = refl
 
-number-6 : treeValue (market 100 (leg (465 ∷ 830 ∷ 830 ∷ []) (0 ∷ 0 ∷ 1 ∷ []) ((float 5) ∷ (float 5) ∷ (float 100) ∷ [])) (float 100) (steps 2 512) (ofBits binary64 0x3fb999999999999a) ((float 0) ∷ (float 0) ∷ []) ((ofBits binary64 0x3f847ae147ae147b) ∷ (ofBits binary64 0x3f889374bc6a7efa) ∷ []) (ofBits binary64 0x3f747ae147ae147b) (pillars (100 ∷ 465 ∷ 900 ∷ []) ((float 1) ∷ (ofBits binary64 0x3fef0a3d70a3d70a) ∷ (ofBits binary64 0x3fedc28f5c28f5c3) ∷ []))) (calls (465 ∷ []) (465 ∷ []) ((float 101) ∷ [])) (room 64 96 9 9) ≡ tree.Refused (record { number = 6; place = 1 })
+pub number-6 : treeValue (market 100 (leg (465 ∷ 830 ∷ 830 ∷ []) (0 ∷ 0 ∷ 1 ∷ []) ((float 5) ∷ (float 5) ∷ (float 100) ∷ [])) (float 100) (steps 2 512) (ofBits binary64 0x3fb999999999999a) ((float 0) ∷ (float 0) ∷ []) ((ofBits binary64 0x3f847ae147ae147b) ∷ (ofBits binary64 0x3f889374bc6a7efa) ∷ []) (ofBits binary64 0x3f747ae147ae147b) (pillars (100 ∷ 465 ∷ 900 ∷ []) ((float 1) ∷ (ofBits binary64 0x3fef0a3d70a3d70a) ∷ (ofBits binary64 0x3fedc28f5c28f5c3) ∷ []))) (calls (465 ∷ []) (465 ∷ []) ((float 101) ∷ [])) (room 64 96 9 9) ≡ tree.Refused (record { number = 6; place = 1 })
 unfolding treeValue paidInto rawStep curveOver onOutcome onCheck lowest onAnswer rounded ieee.ofBits ieee.add ieee.sub ieee.mul ieee.div ieee.neg ieee.lt ieee.le ieee.ofInt ieee.toSigned
 number-6 = refl
 
-number-7 : treeValue (market 830 (leg (465 ∷ 830 ∷ 830 ∷ []) (0 ∷ 0 ∷ 1 ∷ []) ((float 5) ∷ (float 5) ∷ (float 100) ∷ [])) (float 100) (steps 2 512) (ofBits binary64 0x3fb999999999999a) ((float 0) ∷ (float 1) ∷ []) ((ofBits binary64 0x3f847ae147ae147b) ∷ (ofBits binary64 0x3f889374bc6a7efa) ∷ []) (ofBits binary64 0x3f747ae147ae147b) (pillars (100 ∷ 465 ∷ 900 ∷ []) ((float 1) ∷ (ofBits binary64 0x3fef0a3d70a3d70a) ∷ (ofBits binary64 0x3fedc28f5c28f5c3) ∷ []))) (calls (465 ∷ []) (465 ∷ []) ((float 101) ∷ [])) (room 64 96 9 9) ≡ tree.Refused (record { number = 7; place = 0 })
+pub number-7 : treeValue (market 830 (leg (465 ∷ 830 ∷ 830 ∷ []) (0 ∷ 0 ∷ 1 ∷ []) ((float 5) ∷ (float 5) ∷ (float 100) ∷ [])) (float 100) (steps 2 512) (ofBits binary64 0x3fb999999999999a) ((float 0) ∷ (float 1) ∷ []) ((ofBits binary64 0x3f847ae147ae147b) ∷ (ofBits binary64 0x3f889374bc6a7efa) ∷ []) (ofBits binary64 0x3f747ae147ae147b) (pillars (100 ∷ 465 ∷ 900 ∷ []) ((float 1) ∷ (ofBits binary64 0x3fef0a3d70a3d70a) ∷ (ofBits binary64 0x3fedc28f5c28f5c3) ∷ []))) (calls (465 ∷ []) (465 ∷ []) ((float 101) ∷ [])) (room 64 96 9 9) ≡ tree.Refused (record { number = 7; place = 0 })
 unfolding treeValue paidInto rawStep curveOver onOutcome onCheck lowest onAnswer rounded ieee.ofBits ieee.add ieee.sub ieee.mul ieee.div ieee.neg ieee.lt ieee.le ieee.ofInt ieee.toSigned
 number-7 = refl
 
-number-8 : treeValue (market 100 (leg (465 ∷ 830 ∷ 830 ∷ []) (0 ∷ 0 ∷ 1 ∷ []) ((float 5) ∷ (float 5) ∷ (float 100) ∷ [])) (float 100) (steps 2 512) (ofBits binary64 0x3fb999999999999a) ((float 0) ∷ (float 1) ∷ []) ((ofBits binary64 0x3f847ae147ae147b) ∷ (ofBits binary64 0x3f889374bc6a7efa) ∷ []) (ofBits binary64 0x3f747ae147ae147b) (pillars (100 ∷ 465 ∷ 829 ∷ []) ((float 1) ∷ (ofBits binary64 0x3fef0a3d70a3d70a) ∷ (ofBits binary64 0x3fedc28f5c28f5c3) ∷ []))) (calls (465 ∷ []) (465 ∷ []) ((float 101) ∷ [])) (room 64 96 9 9) ≡ tree.Refused (record { number = 8; place = 2 })
+pub number-8 : treeValue (market 100 (leg (465 ∷ 830 ∷ 830 ∷ []) (0 ∷ 0 ∷ 1 ∷ []) ((float 5) ∷ (float 5) ∷ (float 100) ∷ [])) (float 100) (steps 2 512) (ofBits binary64 0x3fb999999999999a) ((float 0) ∷ (float 1) ∷ []) ((ofBits binary64 0x3f847ae147ae147b) ∷ (ofBits binary64 0x3f889374bc6a7efa) ∷ []) (ofBits binary64 0x3f747ae147ae147b) (pillars (100 ∷ 465 ∷ 829 ∷ []) ((float 1) ∷ (ofBits binary64 0x3fef0a3d70a3d70a) ∷ (ofBits binary64 0x3fedc28f5c28f5c3) ∷ []))) (calls (465 ∷ []) (465 ∷ []) ((float 101) ∷ [])) (room 64 96 9 9) ≡ tree.Refused (record { number = 8; place = 2 })
 unfolding treeValue paidInto rawStep curveOver onOutcome onCheck lowest onAnswer rounded ieee.ofBits ieee.add ieee.sub ieee.mul ieee.div ieee.neg ieee.lt ieee.le ieee.ofInt ieee.toSigned
 number-8 = refl
 
-number-20 : treeValue (market 100 (leg (465 ∷ 830 ∷ 830 ∷ []) (0 ∷ 0 ∷ 1 ∷ []) ((float 5) ∷ (float 5) ∷ (float 100) ∷ [])) (float 100) (steps 2 512) (ofBits binary64 0x3fb999999999999a) ((float 0) ∷ (float 1) ∷ []) ((ofBits binary64 0x3f847ae147ae147b) ∷ (ofBits binary64 0x3f889374bc6a7efa) ∷ []) (ofBits binary64 0x3f747ae147ae147b) (pillars (100 ∷ 465 ∷ 900 ∷ []) ((float 1) ∷ (ofBits binary64 0x3fef0a3d70a3d70a) ∷ (ofBits binary64 0x3fedc28f5c28f5c3) ∷ []))) (calls (830 ∷ []) (830 ∷ []) ((float 100) ∷ [])) (room 64 96 9 9) ≡ tree.Refused (record { number = 20; place = 0 })
+pub number-20 : treeValue (market 100 (leg (465 ∷ 830 ∷ 830 ∷ []) (0 ∷ 0 ∷ 1 ∷ []) ((float 5) ∷ (float 5) ∷ (float 100) ∷ [])) (float 100) (steps 2 512) (ofBits binary64 0x3fb999999999999a) ((float 0) ∷ (float 1) ∷ []) ((ofBits binary64 0x3f847ae147ae147b) ∷ (ofBits binary64 0x3f889374bc6a7efa) ∷ []) (ofBits binary64 0x3f747ae147ae147b) (pillars (100 ∷ 465 ∷ 900 ∷ []) ((float 1) ∷ (ofBits binary64 0x3fef0a3d70a3d70a) ∷ (ofBits binary64 0x3fedc28f5c28f5c3) ∷ []))) (calls (830 ∷ []) (830 ∷ []) ((float 100) ∷ [])) (room 64 96 9 9) ≡ tree.Refused (record { number = 20; place = 0 })
 unfolding treeValue paidInto rawStep curveOver onOutcome onCheck lowest onAnswer rounded ieee.ofBits ieee.add ieee.sub ieee.mul ieee.div ieee.neg ieee.lt ieee.le ieee.ofInt ieee.toSigned
 number-20 = refl
 
@@ -112,27 +112,27 @@ repaid-negative : treeValue (market 100 (leg (100 ∷ 465 ∷ []) (1 ∷ 1 ∷ [
 unfolding treeValue paidInto rawStep curveOver onOutcome onCheck lowest onAnswer rounded ieee.ofBits ieee.add ieee.sub ieee.mul ieee.div ieee.neg ieee.lt ieee.le ieee.ofInt ieee.toSigned
 repaid-negative = refl
 
-number-21 : treeValue (market 100 (leg (465 ∷ 830 ∷ 830 ∷ []) (0 ∷ 0 ∷ 1 ∷ []) ((float 5) ∷ (float 5) ∷ (float 100) ∷ [])) (float 100) (steps 2 512) (ofBits binary64 0x3fb999999999999a) ((float 0) ∷ (float 1) ∷ []) ((ofBits binary64 0x3f847ae147ae147b) ∷ (ofBits binary64 0x3f889374bc6a7efa) ∷ []) (ofBits binary64 0x3f747ae147ae147b) (pillars (100 ∷ 465 ∷ 900 ∷ []) ((float 1) ∷ (ofBits binary64 0x3fef0a3d70a3d70a) ∷ (ofBits binary64 0x3fedc28f5c28f5c3) ∷ []))) (calls (465 ∷ []) (465 ∷ []) ((float 101) ∷ [])) (room 64 11 9 9) ≡ tree.Refused (record { number = 21; place = 1 })
+pub number-21 : treeValue (market 100 (leg (465 ∷ 830 ∷ 830 ∷ []) (0 ∷ 0 ∷ 1 ∷ []) ((float 5) ∷ (float 5) ∷ (float 100) ∷ [])) (float 100) (steps 2 512) (ofBits binary64 0x3fb999999999999a) ((float 0) ∷ (float 1) ∷ []) ((ofBits binary64 0x3f847ae147ae147b) ∷ (ofBits binary64 0x3f889374bc6a7efa) ∷ []) (ofBits binary64 0x3f747ae147ae147b) (pillars (100 ∷ 465 ∷ 900 ∷ []) ((float 1) ∷ (ofBits binary64 0x3fef0a3d70a3d70a) ∷ (ofBits binary64 0x3fedc28f5c28f5c3) ∷ []))) (calls (465 ∷ []) (465 ∷ []) ((float 101) ∷ [])) (room 64 11 9 9) ≡ tree.Refused (record { number = 21; place = 1 })
 unfolding treeValue paidInto rawStep curveOver onOutcome onCheck lowest onAnswer rounded ieee.ofBits ieee.add ieee.sub ieee.mul ieee.div ieee.neg ieee.lt ieee.le ieee.ofInt ieee.toSigned
 number-21 = refl
 
-number-22 : treeValue (market 100 (leg (465 ∷ 830 ∷ 830 ∷ []) (0 ∷ 0 ∷ 1 ∷ []) ((float 5) ∷ (float 5) ∷ (float 100) ∷ [])) (float 100) (steps 1 512) (ofBits binary64 0x3fb999999999999a) ((float 0) ∷ (float 1) ∷ []) ((ofBits binary64 0x3fe0000000000000) ∷ (float 0) ∷ []) (ofBits binary64 0x3f747ae147ae147b) (pillars (100 ∷ 465 ∷ 900 ∷ []) ((float 1) ∷ (ofBits binary64 0x3fef0a3d70a3d70a) ∷ (ofBits binary64 0x3fedc28f5c28f5c3) ∷ []))) (calls (465 ∷ []) (465 ∷ []) ((float 101) ∷ [])) (room 64 96 9 9) ≡ tree.Refused (record { number = 22; place = 1 })
+pub number-22 : treeValue (market 100 (leg (465 ∷ 830 ∷ 830 ∷ []) (0 ∷ 0 ∷ 1 ∷ []) ((float 5) ∷ (float 5) ∷ (float 100) ∷ [])) (float 100) (steps 1 512) (ofBits binary64 0x3fb999999999999a) ((float 0) ∷ (float 1) ∷ []) ((ofBits binary64 0x3fe0000000000000) ∷ (float 0) ∷ []) (ofBits binary64 0x3f747ae147ae147b) (pillars (100 ∷ 465 ∷ 900 ∷ []) ((float 1) ∷ (ofBits binary64 0x3fef0a3d70a3d70a) ∷ (ofBits binary64 0x3fedc28f5c28f5c3) ∷ []))) (calls (465 ∷ []) (465 ∷ []) ((float 101) ∷ [])) (room 64 96 9 9) ≡ tree.Refused (record { number = 22; place = 1 })
 unfolding treeValue paidInto rawStep curveOver onOutcome onCheck lowest onAnswer rounded ieee.ofBits ieee.add ieee.sub ieee.mul ieee.div ieee.neg ieee.lt ieee.le ieee.ofInt ieee.toSigned
 number-22 = refl
 
-number-23 : treeValue (market 100 (leg (465 ∷ 830 ∷ 830 ∷ []) (0 ∷ 0 ∷ 1 ∷ []) ((float 5) ∷ (float 5) ∷ (float 100) ∷ [])) (float 100) (steps 1 512) (ofBits binary64 0x3fb999999999999a) ((float 0) ∷ (float 1) ∷ []) ((float 10) ∷ (ofBits binary64 0x3ed4f8b588e368f1) ∷ []) (ofBits binary64 0x3f747ae147ae147b) (pillars (100 ∷ 465 ∷ 900 ∷ []) ((float 1) ∷ (ofBits binary64 0x3fef0a3d70a3d70a) ∷ (ofBits binary64 0x3fedc28f5c28f5c3) ∷ []))) (calls (465 ∷ []) (465 ∷ []) ((float 101) ∷ [])) (room 64 96 9 9) ≡ tree.Refused (record { number = 23; place = 1 })
+pub number-23 : treeValue (market 100 (leg (465 ∷ 830 ∷ 830 ∷ []) (0 ∷ 0 ∷ 1 ∷ []) ((float 5) ∷ (float 5) ∷ (float 100) ∷ [])) (float 100) (steps 1 512) (ofBits binary64 0x3fb999999999999a) ((float 0) ∷ (float 1) ∷ []) ((float 10) ∷ (ofBits binary64 0x3ed4f8b588e368f1) ∷ []) (ofBits binary64 0x3f747ae147ae147b) (pillars (100 ∷ 465 ∷ 900 ∷ []) ((float 1) ∷ (ofBits binary64 0x3fef0a3d70a3d70a) ∷ (ofBits binary64 0x3fedc28f5c28f5c3) ∷ []))) (calls (465 ∷ []) (465 ∷ []) ((float 101) ∷ [])) (room 64 96 9 9) ≡ tree.Refused (record { number = 23; place = 1 })
 unfolding treeValue paidInto rawStep curveOver onOutcome onCheck lowest onAnswer rounded ieee.ofBits ieee.add ieee.sub ieee.mul ieee.div ieee.neg ieee.lt ieee.le ieee.ofInt ieee.toSigned
 number-23 = refl
 
-number-25 : treeValue (market 100 (leg (465 ∷ 830 ∷ 830 ∷ []) (0 ∷ 0 ∷ 1 ∷ []) ((float 5) ∷ (float 5) ∷ (float 100) ∷ [])) (float 100) (steps 2 512) (ofBits binary64 0x3fb999999999999a) ((float 0) ∷ (float 1) ∷ []) ((ofBits binary64 0x3f847ae147ae147b) ∷ (ofBits binary64 0x3f889374bc6a7efa) ∷ []) (ofBits binary64 0x3f747ae147ae147b) (pillars (100 ∷ 465 ∷ 900 ∷ []) ((float 1) ∷ (ofBits binary64 0x3fef0a3d70a3d70a) ∷ (ofBits binary64 0xbfedc28f5c28f5c3) ∷ []))) (calls (465 ∷ []) (465 ∷ []) ((float 101) ∷ [])) (room 64 96 9 9) ≡ tree.Refused (record { number = 25; place = 3 })
+pub number-25 : treeValue (market 100 (leg (465 ∷ 830 ∷ 830 ∷ []) (0 ∷ 0 ∷ 1 ∷ []) ((float 5) ∷ (float 5) ∷ (float 100) ∷ [])) (float 100) (steps 2 512) (ofBits binary64 0x3fb999999999999a) ((float 0) ∷ (float 1) ∷ []) ((ofBits binary64 0x3f847ae147ae147b) ∷ (ofBits binary64 0x3f889374bc6a7efa) ∷ []) (ofBits binary64 0x3f747ae147ae147b) (pillars (100 ∷ 465 ∷ 900 ∷ []) ((float 1) ∷ (ofBits binary64 0x3fef0a3d70a3d70a) ∷ (ofBits binary64 0xbfedc28f5c28f5c3) ∷ []))) (calls (465 ∷ []) (465 ∷ []) ((float 101) ∷ [])) (room 64 96 9 9) ≡ tree.Refused (record { number = 25; place = 3 })
 unfolding treeValue paidInto rawStep curveOver onOutcome onCheck lowest onAnswer rounded ieee.ofBits ieee.add ieee.sub ieee.mul ieee.div ieee.neg ieee.lt ieee.le ieee.ofInt ieee.toSigned
 number-25 = refl
 
-number-26 : treeValue (market 100 (leg (465 ∷ 13240 ∷ 13240 ∷ []) (0 ∷ 0 ∷ 1 ∷ []) ((float 5) ∷ (float 5) ∷ (float 100) ∷ [])) (float 100) (steps 1 1) (ofBits binary64 0xc024000000000000) ((float 0) ∷ []) ((float 0) ∷ []) (ofBits binary64 0x3f747ae147ae147b) (pillars (100 ∷ 465 ∷ 20000 ∷ []) ((float 1) ∷ (ofBits binary64 0x3fef0a3d70a3d70a) ∷ (ofBits binary64 0x3fedc28f5c28f5c3) ∷ []))) (calls (465 ∷ []) (465 ∷ []) ((float 101) ∷ [])) (room 64 96 9 9) ≡ tree.Refused (record { number = 26; place = 0 })
+pub number-26 : treeValue (market 100 (leg (465 ∷ 13240 ∷ 13240 ∷ []) (0 ∷ 0 ∷ 1 ∷ []) ((float 5) ∷ (float 5) ∷ (float 100) ∷ [])) (float 100) (steps 1 1) (ofBits binary64 0xc024000000000000) ((float 0) ∷ []) ((float 0) ∷ []) (ofBits binary64 0x3f747ae147ae147b) (pillars (100 ∷ 465 ∷ 20000 ∷ []) ((float 1) ∷ (ofBits binary64 0x3fef0a3d70a3d70a) ∷ (ofBits binary64 0x3fedc28f5c28f5c3) ∷ []))) (calls (465 ∷ []) (465 ∷ []) ((float 101) ∷ [])) (room 64 96 9 9) ≡ tree.Refused (record { number = 26; place = 0 })
 unfolding treeValue paidInto rawStep curveOver onOutcome onCheck lowest onAnswer rounded ieee.ofBits ieee.add ieee.sub ieee.mul ieee.div ieee.neg ieee.lt ieee.le ieee.ofInt ieee.toSigned
 number-26 = refl
 
-number-27 : treeValue (market 100 (leg (465 ∷ 830 ∷ 830 ∷ []) (0 ∷ 0 ∷ 1 ∷ []) ((float 5) ∷ (float 5) ∷ (float 100) ∷ [])) (ofBits binary64 0x12688b70e62b) (steps 2 512) (ofBits binary64 0x3fb999999999999a) ((float 0) ∷ (float 1) ∷ []) ((ofBits binary64 0x3f847ae147ae147b) ∷ (ofBits binary64 0x3f889374bc6a7efa) ∷ []) (ofBits binary64 0x3f747ae147ae147b) (pillars (100 ∷ 465 ∷ 900 ∷ []) ((float 1) ∷ (ofBits binary64 0x3fef0a3d70a3d70a) ∷ (ofBits binary64 0x3fedc28f5c28f5c3) ∷ []))) (calls (465 ∷ []) (465 ∷ []) ((float 101) ∷ [])) (room 64 96 9 9) ≡ tree.Refused (record { number = 27; place = 0 })
+pub number-27 : treeValue (market 100 (leg (465 ∷ 830 ∷ 830 ∷ []) (0 ∷ 0 ∷ 1 ∷ []) ((float 5) ∷ (float 5) ∷ (float 100) ∷ [])) (ofBits binary64 0x12688b70e62b) (steps 2 512) (ofBits binary64 0x3fb999999999999a) ((float 0) ∷ (float 1) ∷ []) ((ofBits binary64 0x3f847ae147ae147b) ∷ (ofBits binary64 0x3f889374bc6a7efa) ∷ []) (ofBits binary64 0x3f747ae147ae147b) (pillars (100 ∷ 465 ∷ 900 ∷ []) ((float 1) ∷ (ofBits binary64 0x3fef0a3d70a3d70a) ∷ (ofBits binary64 0x3fedc28f5c28f5c3) ∷ []))) (calls (465 ∷ []) (465 ∷ []) ((float 101) ∷ [])) (room 64 96 9 9) ≡ tree.Refused (record { number = 27; place = 0 })
 unfolding treeValue paidInto rawStep curveOver onOutcome onCheck lowest onAnswer rounded ieee.ofBits ieee.add ieee.sub ieee.mul ieee.div ieee.neg ieee.lt ieee.le ieee.ofInt ieee.toSigned
 number-27 = refl
 

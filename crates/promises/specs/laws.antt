@@ -8,7 +8,9 @@ pub mod GridNumbers
 pub mod LatticeNumbers
 pub mod WalkNumbers
 pub mod TreeNumbers
+pub mod NumbersMet
 pub mod SpreadPromise
 pub mod SpreadNumbers
+pub mod Rooms
 pub mod ProbabilityPromise
 pub mod NoticeLists

@@ -11,6 +11,7 @@ use interestrate::RateDefinition;
 use sought::Priced;
 use sought::Sought;
 use terms::Check;
+use terms::curve::pillar_times;
 use treebasedbondpricer::fitted::FittedTree;
 use treebasedbondpricer::fitted::fitted_tree;
 use treebasedbondpricer::zero::zero_floats;
@@ -20,15 +21,16 @@ ghost use Prim.Native.Nat.{_+_, _<_, _≤_};
 ghost use lib.ListN.{length};
 ghost use lib.Ieee.{binary64, div};
 ghost use Rattle.terms.specs.Numbers.{float};
+ghost use Rattle.terms.specs.Curve.{curveOver};
 ghost use Rattle.terms.specs.Outcomes.{finiteThen};
 ghost use Rattle.hullwhite.specs.laws.Filled.{modelOf};
-ghost use Rattle.treebasedbondpricer.specs.Entry.{marketOf, callsIn};
-ghost use Rattle.lattice.specs.laws.Growing.{roomLeft};
 ghost use Rattle.backwardinduction.specs.laws.WalkMore.{callsOf};
 ghost use Rattle.treebasedbondpricer.specs.laws.FittedIn.{fittedOver};
 ghost use Rattle.spreads.specs.Spreads.{Solved};
 ghost use Rattle.spreads.specs.laws.SpreadTree.{foundOver};
 ghost use Rattle.spreads.specs.laws.SpreadSolved.{foundFor, unfitRoot, uncheckedRoot};
+ghost use Rattle.terms.specs.Slices.{legIn, callsIn, sigmaIn, pillarsIn, marketIn};
+ghost use Rattle.treebasedbondpricer.specs.Slices.{lentIn, lentOut, roomIn};
 
 // What is refused before the walk is met at the first try.
 fn unfit_root(tree: FittedTree) -> Root
@@ -52,7 +54,6 @@ fn unchecked_root(check: Check, tried: u32) -> Root
 
 // Fit once, then the root. Counts, spacings and shifts have room for the steps.
 fn solve_over(
-    settlement: u32,
     maturity: f64,
     steps: u32,
     cashflows: &[f64],
@@ -62,7 +63,7 @@ fn solve_over(
     times: &[f64],
     sigmas: &[f64],
     target: f64,
-    days: &[u32],
+    curve_times: &[f64],
     factors: &[f64],
     counts: &mut [usize],
     spacings: &mut [f64],
@@ -74,16 +75,20 @@ fn solve_over(
 ) -> Root
     requires { ⌜ (0 < steps) × (steps ≤ 512) × (length (now cashflows) ≡ 513) × (length (now marks) ≡ 513) × (length (now prices) ≡ 513) ⌝ }
     requires { ⌜ (length (now counts) ≡ steps + 1) × (length (now spacings) ≡ steps) × (length (now shifts) ≡ steps) ⌝ }
-    ensures { λ r. ⌜ r ≡ foundOver target (now (cashflows .entry)) (callsOf (now (marks .entry)) (now (prices .entry))) (finiteThen (div binary64 maturity (float steps)) 0 λ dt. fittedOver settlement (modelOf alpha (now (times .entry)) (now (sigmas .entry))) (record { days = now (days .entry); factors = now (factors .entry) }) (roomLeft (now (nodes .entry)) (now (probabilities .entry)) (length (now (first .entry))) (length (now (second .entry)))) steps dt) ⌝ }
+    ensures { λ r. ⌜ r ≡ foundOver target
+        (now (cashflows .entry))
+        (callsOf (now (marks .entry)) (now (prices .entry)))
+        (finiteThen (div binary64 maturity (float steps)) 0 λ dt. fittedOver
+        (curveOver (now («curve_times» .entry)) (now (factors .entry)))
+        (modelOf alpha (now (times .entry)) (now (sigmas .entry))) (roomIn nodes probabilities first second) steps dt) ⌝ }
 {
     let f = fitted_tree(
-        settlement,
         maturity,
         steps,
         alpha,
         times,
         sigmas,
-        days,
+        curve_times,
         factors,
         counts,
         spacings,
@@ -128,13 +133,12 @@ fn solve_over(
 
 // The root over a grid.
 fn solve_grid(
-    settlement: u32,
     grid: BondEventGrid,
     alpha: f64,
     times: &[f64],
     sigmas: &[f64],
     target: f64,
-    days: &[u32],
+    curve_times: &[f64],
     factors: &[f64],
     nodes: &mut [i32],
     probabilities: &mut [f64],
@@ -142,7 +146,12 @@ fn solve_grid(
     second: &mut [f64],
 ) -> Root
     requires { ⌜ (0 < grid .steps) × (grid .steps ≤ 512) ⌝ }
-    ensures { λ r. ⌜ r ≡ foundOver target (grid .cashflows) (grid .calls) (finiteThen (div binary64 (grid .«maturity_time») (float (grid .steps))) 0 λ dt. fittedOver settlement (modelOf alpha (now (times .entry)) (now (sigmas .entry))) (record { days = now (days .entry); factors = now (factors .entry) }) (roomLeft (now (nodes .entry)) (now (probabilities .entry)) (length (now (first .entry))) (length (now (second .entry)))) (grid .steps) dt) ⌝ }
+    ensures { λ r. ⌜ r ≡ foundOver target
+        (grid .cashflows)
+        (grid .calls)
+        (finiteThen (div binary64 (grid .«maturity_time») (float (grid .steps))) 0 λ dt. fittedOver
+        (curveOver (now («curve_times» .entry)) (now (factors .entry)))
+        (modelOf alpha (now (times .entry)) (now (sigmas .entry))) (roomIn nodes probabilities first second) (grid .steps) dt) ⌝ }
 {
     let maturity = grid.maturity_time;
     let steps = grid.steps;
@@ -155,7 +164,6 @@ fn solve_grid(
     let mut shifts = [0.0; 512];
     let n = steps as usize;
     solve_over(
-        settlement,
         maturity,
         steps,
         &cashflows,
@@ -165,7 +173,7 @@ fn solve_grid(
         times,
         sigmas,
         target,
-        days,
+        curve_times,
         factors,
         &mut counts[..n + 1],
         &mut spacings[..n],
@@ -203,7 +211,11 @@ fn checked_spread(
     requires { ⌜ (1 ≤ maximum) × (maximum ≤ 512) ⌝ }
     requires { ⌜ (length (now days) ≤ 256) × (length (now kinds) ≡ length (now days)) × (length (now amounts) ≡ length (now days)) ⌝ }
     requires { ⌜ (length (now ends) ≡ length (now starts)) × (length (now strikes) ≡ length (now starts)) ⌝ }
-    ensures { λ r. ⌜ r ≡ foundFor (marketOf settlement (now (days .entry)) (now (kinds .entry)) (now (amounts .entry)) units yearly maximum alpha (now (times .entry)) (now (sigmas .entry)) target (now (pillars .entry)) (now (factors .entry))) (callsIn (now (starts .entry)) (now (ends .entry)) (now (strikes .entry))) (roomLeft (now (nodes .entry)) (now (probabilities .entry)) (length (now (first .entry))) (length (now (second .entry)))) ⌝ }
+    requires { ⌜ length (now pillars) ≤ 256 ⌝ }
+    ensures { λ r. ⌜ r ≡ foundFor
+        (marketIn settlement (legIn days kinds amounts) units yearly maximum alpha (sigmaIn times sigmas) target (pillarsIn pillars factors))
+        (callsIn starts ends strikes)
+        (roomIn nodes probabilities first second) ⌝ }
 {
     let answer = event_grid(
         settlement,
@@ -222,14 +234,14 @@ fn checked_spread(
         return unchecked_root(check, 1);
     };
     let grid = answer.grid;
+    let curve_times = pillar_times(settlement, pillars);
     solve_grid(
-        settlement,
         grid,
         alpha,
         times,
         sigmas,
         target,
-        pillars,
+        &curve_times[..pillars.len()],
         factors,
         nodes,
         probabilities,
@@ -261,7 +273,13 @@ pub fn spread_from_price(
     first_row: &mut [f64],
     second_row: &mut [f64],
 ) -> Root
-    ensures { λ r. ⌜ Solved (marketOf settlement (now («cashflow_days» .entry)) (now («cashflow_kinds» .entry)) (now («cashflow_amounts» .entry)) units «steps_per_year» «max_steps» alpha (now («sigma_times» .entry)) (now (sigmas .entry)) target (now («pillar_days» .entry)) (now («pillar_factors» .entry))) (callsIn (now («call_starts» .entry)) (now («call_ends» .entry)) (now («call_strikes» .entry))) r (record { nodes = now (nodes .entry); probabilities = now (probabilities .entry); first = now («first_row» .entry); second = now («second_row» .entry) }) (record { nodes = now (nodes .exit); probabilities = now (probabilities .exit); first = now («first_row» .exit); second = now («second_row» .exit) }) ⌝ }
+    ensures { λ r. ⌜ Solved
+        (marketIn settlement (legIn «cashflow_days» «cashflow_kinds» «cashflow_amounts») units «steps_per_year» «max_steps» alpha
+        (sigmaIn «sigma_times» sigmas) target (pillarsIn «pillar_days» «pillar_factors»))
+        (callsIn «call_starts» «call_ends» «call_strikes»)
+        r
+        (lentIn nodes probabilities «first_row» «second_row»)
+        (lentOut nodes probabilities «first_row» «second_row») ⌝ }
 {
     let check = spread_checks(
         settlement,

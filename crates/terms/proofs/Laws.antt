@@ -3,7 +3,7 @@ use Prim.Native.Nat.{ℕ, zero, suc, _<_}
 use native.Mathlib.Omega.{arith}
 use mathlib.Core.Path.{_≡_, refl, sym, ap, _∙_}
 use mathlib.Core.Bool.{Bool, true, false, cond, not, _&&_, _||_}
-use mathlib.Core.List.{List, [], _∷_}
+use mathlib.Core.List.{List, [], _∷_, _++_}
 use lib.ListN.{length, getD}
 use lib.Dec.{ltb, leb·suc-zero}
 use borrow.Author.Needs.{needs}
@@ -14,8 +14,9 @@ use Rattle.terms.specs.declared.Check.the-variants.{Passed, Refused}
 use Rattle.terms.specs.Checks.{onCheck, firstOf, single, outside, legCount, anyPaid}
 use lib.Ieee.{Float}
 use Rattle.terms.specs.Terms.{Leg, CallSchedule, Pillars, Bond, TimeGrid, Market}
-use Rattle.terms.specs.Entries.{gridChecks, marketChecks, straightChecks, yieldChecks}
-use Rattle.terms.specs.laws.Stages.{gridCounts, gridDays, gridNumbers, gridOrders, grid-in-stages, modelCounts, treeDays, treeFields, treeNumbers, treeOrders, market-in-stages, straightCounts, straightDays, straightNumbers, straightOrders, straight-in-stages, yieldDays, yieldNumbers, yield-in-stages}
+use Rattle.terms.specs.Entries.{settingChecks, gridCounts, gridDays, gridNumbers, gridOrders, gridChecks, treeCounts, treeDays, treeNumbers, treeOrders, lateChecks, marketChecks, straightCounts, straightDays, straightNumbers, straightOrders, straightChecks, yieldDays, yieldNumbers, yieldChecks}
+use Rattle.terms.specs.laws.Sequence.{passes-of-first, first-after}
+use Rattle.terms.specs.laws.Stages.{first-stopped, grid-in-stages, market-in-stages, straight-in-stages, yield-in-stages}
 use Rattle.floats.proofs.Laws.{taken, left}
 
 -- ---- a test made of two
@@ -88,6 +89,13 @@ only-one a e = e ∙ alone a
     alone Passed = refl
     alone (Refused q) = refl
 
+-- A group of checks, then others.
+pub passed-group : {s r : Check} (xs ys : List Check) → s ≡ firstOf xs → s ≡ Passed → r ≡ firstOf ys → r ≡ firstOf (xs ++ ys)
+passed-group xs ys e t p = p ∙ sym (first-after xs ys (passes-of-first xs (sym e ∙ t)))
+
+pub refused-group : {s r : Check} (xs ys : List Check) {q : Refusal} → s ≡ firstOf xs → s ≡ Refused q → r ≡ s → r ≡ firstOf (xs ++ ys)
+refused-group xs ys {q} e t p = p ∙ t ∙ sym (first-stopped xs ys q (sym e ∙ t))
+
 -- ---- an element of a list, whatever stands for one past its end
 
 pub same-at : {A : Type 0} (xs : List A) (i : ℕ) (d e : A) → i < length xs → getD xs i d ≡ getD xs i e
@@ -103,14 +111,14 @@ pub ruleset sequence = (passed-first, refused-first, only-one, needs)
 
 -- ---- an entry's checks by their stages
 
-pub as-grid : {r : Check} (d : ℕ) (b : Bond) (k : CallSchedule) (g : TimeGrid) → r ≡ firstOf (gridCounts g (b .leg) k ∷ gridDays d (b .leg) k ∷ gridNumbers (b .units) (b .leg) k ∷ gridOrders d (b .leg) k ∷ []) → r ≡ gridChecks d b k g
+pub as-grid : {r : Check} (d : ℕ) (b : Bond) (k : CallSchedule) (g : TimeGrid) → r ≡ firstOf (firstOf (settingChecks g ++ gridCounts (b .leg) k) ∷ firstOf (gridDays d (b .leg) k) ∷ firstOf (gridNumbers (b .units) (b .leg) k) ∷ firstOf (gridOrders d (b .leg) k) ∷ []) → r ≡ gridChecks d b k g
 as-grid d b k g p = p ∙ sym (grid-in-stages d b k g)
 
-pub as-market : {r : Check} (limit : Float) (m : Market) (k : CallSchedule) → r ≡ firstOf (gridCounts (m .controls) (m .bond .leg) k ∷ modelCounts (m .model .sigma) (m .pillars) ∷ treeDays (m .settlement) (m .bond .leg) k (m .pillars) ∷ treeFields limit (m .bond .units) (m .model .alpha) (m .spread) ∷ treeNumbers (m .bond .leg) k (m .model .sigma) (m .pillars) ∷ treeOrders (m .settlement) (m .bond .leg) k (m .model .sigma) (m .pillars) ∷ []) → r ≡ marketChecks limit m k
+pub as-market : {r : Check} (limit : Float) (m : Market) (k : CallSchedule) → r ≡ firstOf (firstOf (settingChecks (m .controls) ++ treeCounts (m .bond .leg) k (m .model .sigma) (m .pillars)) ∷ firstOf (treeDays (m .settlement) (m .bond .leg) k (m .pillars)) ∷ firstOf (treeNumbers limit (m .bond .units) (m .model .alpha) (m .spread) (m .bond .leg) k (m .model .sigma) (m .pillars)) ∷ firstOf (treeOrders (m .settlement) (m .bond .leg) k (m .model .sigma)) ∷ firstOf (lateChecks (m .settlement) (m .bond .leg) (m .pillars)) ∷ []) → r ≡ marketChecks limit m k
 as-market limit m k p = p ∙ sym (market-in-stages limit m k)
 
-pub as-straight : {r : Check} (d : ℕ) (l : Leg) (spread : Float) (q : Pillars) → r ≡ firstOf (straightCounts l q ∷ straightDays d l q ∷ straightNumbers spread l q ∷ straightOrders d l q ∷ []) → r ≡ straightChecks d l spread q
+pub as-straight : {r : Check} (d : ℕ) (l : Leg) (spread : Float) (q : Pillars) → r ≡ firstOf (firstOf (straightCounts l q) ∷ firstOf (straightDays d l q) ∷ firstOf (straightNumbers spread l q) ∷ firstOf (straightOrders d l q) ∷ []) → r ≡ straightChecks d l spread q
 as-straight d l spread q p = p ∙ sym (straight-in-stages d l spread q)
 
-pub as-yield : {r : Check} (limit : Float) (d : ℕ) (l : Leg) (x : Float) (rate : Check) → r ≡ firstOf (legCount l ∷ yieldDays d l ∷ yieldNumbers limit x l ∷ anyPaid d l ∷ rate ∷ []) → r ≡ yieldChecks limit d l x rate
+pub as-yield : {r : Check} (limit : Float) (d : ℕ) (l : Leg) (x : Float) (rate : Check) → r ≡ firstOf (legCount l ∷ firstOf (yieldDays d l) ∷ firstOf (yieldNumbers limit x l) ∷ anyPaid d l ∷ rate ∷ []) → r ≡ yieldChecks limit d l x rate
 as-yield limit d l x rate p = p ∙ sym (yield-in-stages limit d l x rate)

@@ -1,3 +1,4 @@
 pub mod Laws
 pub mod Seeking
 pub mod Curving
+pub mod Timing

@@ -1,56 +1,97 @@
 -- Definitions only. The checks of each entry: in number order, inside one number by single fields, cashflows, calls, sigma, pillars. Each entry checks only what it takes.
+-- The checks of one number, or of a few that follow one another, are a group; an entry's checks are its groups, one after the other.
 use Prim.Native.Nat.{ℕ}
-use mathlib.Core.List.{List, [], _∷_}
+use mathlib.Core.List.{List, [], _∷_, _++_}
 use lib.Ieee.{Float}
 use Rattle.terms.specs.declared.Check.{Check}
 use Rattle.terms.specs.Numbers.{float, million, targetLimit}
 use Rattle.terms.specs.Terms.{Leg, CallSchedule, SigmaSchedule, Pillars, Bond, TimeGrid, HullWhite, Market}
 use Rattle.terms.specs.Checks.{firstOf, settings, legCount, callCount, sigmaCount, pillarCount, settlementDay, legDays, callDays, pillarDays, unitsRange, within, amountRange, strikeRange, sigmaRange, factorRange, callOrder, sigmaOrder, lastDay, anyPaid, pillarOrder}
 
--- The grid takes settlement, cashflows, units, calls and the two step settings.
+-- ---- the grid: settlement, cashflows, units, calls and the two step settings
+
+-- 1.
+abbrev pub settingChecks : TimeGrid → List Check
+settingChecks controls = settings controls ∷ []
+
+-- 2.
+abbrev pub gridCounts : Leg → CallSchedule → List Check
+gridCounts leg calls = legCount leg ∷ callCount calls ∷ []
+
+-- 3.
+abbrev pub gridDays : ℕ → Leg → CallSchedule → List Check
+gridDays settlement leg calls = settlementDay settlement ∷ legDays leg ∷ callDays calls ∷ []
+
+-- 4 of the lists.
+abbrev pub listNumbers : Leg → CallSchedule → List Check
+listNumbers leg calls = amountRange leg ∷ strikeRange calls ∷ []
+
+-- 4.
+abbrev pub gridNumbers : Float → Leg → CallSchedule → List Check
+gridNumbers units leg calls = unitsRange units ∷ listNumbers leg calls
+
+-- 5.
+abbrev pub callOrders : CallSchedule → List Check
+callOrders calls = callOrder calls ∷ []
+
+-- 5 and 7.
+abbrev pub gridOrders : ℕ → Leg → CallSchedule → List Check
+gridOrders settlement leg calls = callOrders calls ++ anyPaid settlement leg ∷ []
+
 unfoldable pub gridChecks : ℕ → Bond → CallSchedule → TimeGrid → Check
 unfolding firstOf
 gridChecks settlement bond calls controls =
     firstOf
-    (settings controls
-    ∷ legCount (bond .leg)
-    ∷ callCount calls
-    ∷ settlementDay settlement
-    ∷ legDays (bond .leg)
-    ∷ callDays calls
-    ∷ unitsRange (bond .units)
-    ∷ amountRange (bond .leg)
-    ∷ strikeRange calls
-    ∷ callOrder calls
-    ∷ anyPaid settlement (bond .leg)
-    ∷ [])
+    (settingChecks controls
+    ++ gridCounts (bond .leg) calls
+    ++ gridDays settlement (bond .leg) calls
+    ++ gridNumbers (bond .units) (bond .leg) calls
+    ++ gridOrders settlement (bond .leg) calls)
 
--- The tree value takes these, alpha, sigma, spread and pillars. The limit is the spread's, or that of what stands in its place.
+-- ---- the tree value: these, alpha, sigma, spread and pillars
+
+-- 2.
+abbrev pub modelCounts : SigmaSchedule → Pillars → List Check
+modelCounts sigma pillars = sigmaCount sigma ∷ pillarCount pillars ∷ []
+
+abbrev pub treeCounts : Leg → CallSchedule → SigmaSchedule → Pillars → List Check
+treeCounts leg calls sigma pillars = gridCounts leg calls ++ modelCounts sigma pillars
+
+-- 3.
+abbrev pub treeDays : ℕ → Leg → CallSchedule → Pillars → List Check
+treeDays settlement leg calls pillars = gridDays settlement leg calls ++ pillarDays pillars ∷ []
+
+-- 4 of single fields. The limit is the spread's, or that of what stands in its place.
+abbrev pub treeFields : Float → Float → Float → Float → List Check
+treeFields limit units alpha spread = unitsRange units ∷ within (float 10) alpha ∷ within limit spread ∷ []
+
+-- 4 of sigma and pillars.
+abbrev pub modelNumbers : SigmaSchedule → Pillars → List Check
+modelNumbers sigma pillars = sigmaRange sigma ∷ factorRange pillars ∷ []
+
+-- 4.
+abbrev pub treeNumbers : Float → Float → Float → Float → Leg → CallSchedule → SigmaSchedule → Pillars → List Check
+treeNumbers limit units alpha spread leg calls sigma pillars =
+    treeFields limit units alpha spread ++ listNumbers leg calls ++ modelNumbers sigma pillars
+
+-- 5 to 7.
+abbrev pub treeOrders : ℕ → Leg → CallSchedule → SigmaSchedule → List Check
+treeOrders settlement leg calls sigma = callOrders calls ++ sigmaOrder sigma ∷ anyPaid settlement leg ∷ []
+
+-- 8.
+abbrev pub lateChecks : ℕ → Leg → Pillars → List Check
+lateChecks settlement leg pillars = pillarOrder settlement (lastDay (leg .days)) pillars ∷ []
+
 unfoldable pub marketChecks : Float → Market → CallSchedule → Check
 unfolding firstOf
 marketChecks limit m calls =
     firstOf
-    (settings (m .controls)
-    ∷ legCount (m .bond .leg)
-    ∷ callCount calls
-    ∷ sigmaCount (m .model .sigma)
-    ∷ pillarCount (m .pillars)
-    ∷ settlementDay (m .settlement)
-    ∷ legDays (m .bond .leg)
-    ∷ callDays calls
-    ∷ pillarDays (m .pillars)
-    ∷ unitsRange (m .bond .units)
-    ∷ within (float 10) (m .model .alpha)
-    ∷ within limit (m .spread)
-    ∷ amountRange (m .bond .leg)
-    ∷ strikeRange calls
-    ∷ sigmaRange (m .model .sigma)
-    ∷ factorRange (m .pillars)
-    ∷ callOrder calls
-    ∷ sigmaOrder (m .model .sigma)
-    ∷ anyPaid (m .settlement) (m .bond .leg)
-    ∷ pillarOrder (m .settlement) (lastDay (m .bond .leg .days)) (m .pillars)
-    ∷ [])
+    (settingChecks (m .controls)
+    ++ treeCounts (m .bond .leg) calls (m .model .sigma) (m .pillars)
+    ++ treeDays (m .settlement) (m .bond .leg) calls (m .pillars)
+    ++ treeNumbers limit (m .bond .units) (m .model .alpha) (m .spread) (m .bond .leg) calls (m .model .sigma) (m .pillars)
+    ++ treeOrders (m .settlement) (m .bond .leg) calls (m .model .sigma)
+    ++ lateChecks (m .settlement) (m .bond .leg) (m .pillars))
 
 -- Spread within ±1.
 unfoldable pub treeChecks : Market → CallSchedule → Check
@@ -62,36 +103,48 @@ unfoldable pub spreadChecks : Market → CallSchedule → Check
 unfolding marketChecks
 spreadChecks m calls = marketChecks targetLimit m calls
 
--- Straight value takes settlement, cashflows, spread and pillars.
+-- ---- the straight value: settlement, cashflows, spread and pillars
+
+-- 2.
+abbrev pub straightCounts : Leg → Pillars → List Check
+straightCounts leg pillars = legCount leg ∷ pillarCount pillars ∷ []
+
+-- 3.
+abbrev pub straightDays : ℕ → Leg → Pillars → List Check
+straightDays settlement leg pillars = settlementDay settlement ∷ legDays leg ∷ pillarDays pillars ∷ []
+
+-- 4.
+abbrev pub straightNumbers : Float → Leg → Pillars → List Check
+straightNumbers spread leg pillars = within (float 1) spread ∷ amountRange leg ∷ factorRange pillars ∷ []
+
+-- 7 and 8.
+abbrev pub straightOrders : ℕ → Leg → Pillars → List Check
+straightOrders settlement leg pillars = anyPaid settlement leg ∷ lateChecks settlement leg pillars
+
 unfoldable pub straightChecks : ℕ → Leg → Float → Pillars → Check
 unfolding firstOf
 straightChecks settlement leg spread pillars =
     firstOf
-    (legCount leg
-    ∷ pillarCount pillars
-    ∷ settlementDay settlement
-    ∷ legDays leg
-    ∷ pillarDays pillars
-    ∷ within (float 1) spread
-    ∷ amountRange leg
-    ∷ factorRange pillars
-    ∷ anyPaid settlement leg
-    ∷ pillarOrder settlement (lastDay (leg .days)) pillars
-    ∷ [])
+    (straightCounts leg pillars
+    ++ straightDays settlement leg pillars
+    ++ straightNumbers spread leg pillars
+    ++ straightOrders settlement leg pillars)
 
--- The yield entries take settlement, cashflows, a rate definition and a yield or a target; 9, the rate definition's, comes last.
+-- ---- the yield entries: settlement, cashflows, a rate definition and a yield or a target
+
+-- 3.
+abbrev pub yieldDays : ℕ → Leg → List Check
+yieldDays settlement leg = settlementDay settlement ∷ legDays leg ∷ []
+
+-- 4.
+abbrev pub yieldNumbers : Float → Float → Leg → List Check
+yieldNumbers limit x leg = within limit x ∷ amountRange leg ∷ []
+
+-- 9, the rate definition's, comes last.
 unfoldable pub yieldChecks : Float → ℕ → Leg → Float → Check → Check
 unfolding firstOf
 yieldChecks limit settlement leg x rate =
-    firstOf
-    (legCount leg
-    ∷ settlementDay settlement
-    ∷ legDays leg
-    ∷ within limit x
-    ∷ amountRange leg
-    ∷ anyPaid settlement leg
-    ∷ rate
-    ∷ [])
+    firstOf (legCount leg ∷ [] ++ yieldDays settlement leg ++ yieldNumbers limit x leg ++ anyPaid settlement leg ∷ rate ∷ [])
 
 abbrev pub priceChecks : ℕ → Leg → Float → Check → Check
 priceChecks = yieldChecks million

@@ -6,13 +6,11 @@ use floats::Answer;
 use floats::Refusal;
 use floats::finite::not_finite;
 ghost use mathlib.Core.Path.{_≡_};
-ghost use Prim.Native.Nat.{_+_, _<_};
+ghost use Prim.Native.Nat.{_+_, _<_, _≤_};
 ghost use lib.Ieee.{lt};
-ghost use lib.ListN.{length, getD};
+ghost use lib.ListN.{length, getD, take};
 ghost use Rattle.floats.specs.Answers.{plusZero};
-ghost use Rattle.terms.specs.Terms.{Pillars};
-ghost use Rattle.terms.specs.Times.{yearFraction};
-ghost use Rattle.terms.specs.Curve.{between, curveAt, factorOf};
+ghost use Rattle.terms.specs.Curve.{between, curveOver, pillarTimes};
 
 // d0 + (d1 − d0) × ((t − t0)/(t1 − t0)).
 fn on_line(t: f64, t0: f64, d0: f64, t1: f64, d1: f64, place: u32) -> Answer
@@ -64,58 +62,60 @@ fn on_line(t: f64, t0: f64, d0: f64, t1: f64, d1: f64, place: u32) -> Answer
 }
 
 // Before the pillar that follows i.
-fn before_next(settlement: u32, days: &[u32], i: usize, t: f64) -> bool
-    requires { ⌜ i + 1 < length (now days) ⌝ }
-    ensures { λ r. ⌜ r ≡ lt t (yearFraction settlement (getD (now (days .entry)) (i + 1) 0)) ⌝ }
+fn before_next(times: &[f64], i: usize, t: f64) -> bool
+    requires { ⌜ i + 1 < length (now times) ⌝ }
+    ensures { λ r. ⌜ r ≡ lt t (getD (now (times .entry)) (i + 1) plusZero) ⌝ }
 {
-    t < year_fraction(settlement, days[i + 1])
+    t < number_at(times, i + 1)
 }
 
 // Between pillar i and the one that follows it.
-fn on_piece(settlement: u32, days: &[u32], factors: &[f64], i: usize, t: f64, place: u32) -> Answer
-    requires { ⌜ i + 1 < length (now days) ⌝ }
+fn on_piece(times: &[f64], factors: &[f64], i: usize, t: f64, place: u32) -> Answer
+    requires { ⌜ i + 1 < length (now times) ⌝ }
     requires { ⌜ i + 1 < length (now factors) ⌝ }
-    ensures { λ r. ⌜ r ≡ between t (yearFraction settlement (getD (now (days .entry)) i 0)) (getD (now (factors .entry)) i plusZero) (yearFraction settlement (getD (now (days .entry)) (i + 1) 0)) (getD (now (factors .entry)) (i + 1) plusZero) place ⌝ }
+    ensures { λ r. ⌜ r ≡ between t (getD (now (times .entry)) i plusZero) (getD (now (factors .entry)) i plusZero) (getD (now (times .entry)) (i + 1) plusZero) (getD (now (factors .entry)) (i + 1) plusZero) place ⌝ }
 {
-    let t0 = year_fraction(settlement, days[i]);
+    let t0 = number_at(times, i);
     let d0 = number_at(factors, i);
-    let t1 = year_fraction(settlement, days[i + 1]);
+    let t1 = number_at(times, i + 1);
     let d1 = number_at(factors, i + 1);
     on_line(t, t0, d0, t1, d1, place)
 }
 
-// The curve at time t.
-pub fn curve_at(settlement: u32, days: &[u32], factors: &[f64], t: f64, place: u32) -> Answer
-    ensures { λ r. ⌜ r ≡ curveAt settlement (record { days = now (days .entry); factors = now (factors .entry) }) t place ⌝ }
+// The curve at time t, over the pillars' times and factors.
+pub fn curve_at(times: &[f64], factors: &[f64], t: f64, place: u32) -> Answer
+    ensures { λ r. ⌜ r ≡ curveOver (now (times .entry)) (now (factors .entry)) t place ⌝ }
 {
-    if days.len() == 0 {
+    if times.len() == 0 {
         return Answer::Value(0.0);
     }
     if factors.len() == 0 {
         return Answer::Value(0.0);
     }
     let mut i = 0;
-    while i + 1 < days.len() {
+    while i + 1 < times.len() {
         if factors.len() <= i + 1 {
             return Answer::Value(number_at(factors, i));
         }
-        if before_next(settlement, days, i, t) {
-            return on_piece(settlement, days, factors, i, t, place);
+        if before_next(times, i, t) {
+            return on_piece(times, factors, i, t, place);
         }
         i += 1;
     }
     Answer::Value(number_at(factors, i))
 }
 
-// A day's factor: the curve at the day's time.
-pub fn factor_of(settlement: u32, days: &[u32], factors: &[f64], day: u32, place: u32) -> Answer
-    ensures { λ r. ⌜ r ≡ factorOf settlement (record { days = now (days .entry); factors = now (factors .entry) }) day place ⌝ }
+// The time of each pillar, worked out once: at the front of a table that has room for the most pillars.
+pub fn pillar_times(settlement: u32, days: &[u32]) -> [f64; 256]
+    requires { ⌜ length (now days) ≤ 256 ⌝ }
+    ensures { λ r. ⌜ take (length (now (days .entry))) r ≡ pillarTimes settlement (now (days .entry)) ⌝ }
 {
-    curve_at(
-        settlement,
-        days,
-        factors,
-        year_fraction(settlement, day),
-        place,
-    )
+    let mut times = [0.0; 256];
+    let mut i = 0;
+    while i < days.len() {
+        let time = year_fraction(settlement, days[i]);
+        times[i] = time;
+        i += 1;
+    }
+    times
 }

@@ -4,13 +4,14 @@ use mathlib.Core.Path.{_≡_}
 use mathlib.Core.Logic.{_↔_}
 use lib.Dec.{T}
 use lib.Ieee.{Float, le}
+use Rattle.floats.specs.declared.Answer.{Answer}
 use Rattle.terms.specs.Terms.{CallSchedule, Market}
 use Rattle.terms.specs.CallLists.{MadeFrom, Reordered, StrikeAbove}
 use Rattle.bondevents.specs.Grid.{gridAnswer}
 use Rattle.treebasedbondpricer.specs.declared.TreeValue.{TreeValue}
 use Rattle.treebasedbondpricer.specs.declared.TreeValue.the-variants.{Value, Refused}
 use Rattle.lattice.specs.Layers.{Room}
-use Rattle.treebasedbondpricer.specs.Tree.{treeValue, Lent, lentAfter, numberOf}
+use Rattle.treebasedbondpricer.specs.Tree.{treeValueOver, treeValue, Lent, lentAfter, numberOf}
 
 -- Accepted with a value no lower than x, as numbers, both zeros equal; or refused with 27.
 pub data NoLowerOr27 (x : Float) : TreeValue → Type 0 where
@@ -43,3 +44,19 @@ ReorderingRule =
     → Reordered first second
     → gridAnswer (m .settlement) (m .bond) first (m .controls) .refusal .number ≡ 0
     → SameAnswers m first second
+
+-- Nothing that is promised of call lists leans on the shape of the curve: whatever the curve gives at each time, both rules hold of the tree value over it. The tree value itself is that over the curve of the market's pillars.
+pub record OverCurve (curve : Float → ℕ → Answer) : Type 0 where
+  pub dropped-or-raised :
+      (m : Market) (room : Room) (first second : CallSchedule) (x : Float) (n : ℕ)
+      → MadeFrom first second
+      → treeValueOver curve m first room ≡ Value x n
+      → Thinned x second (treeValueOver curve m second room)
+  pub reordered :
+      (m : Market) (first second : CallSchedule)
+      → Reordered first second
+      → gridAnswer (m .settlement) (m .bond) first (m .controls) .refusal .number ≡ 0
+      → (room : Room) → treeValueOver curve m second room ≡ treeValueOver curve m first room
+
+abbrev pub AnyCurveRule : Type 0
+AnyCurveRule = (curve : Float → ℕ → Answer) → OverCurve curve

@@ -12,21 +12,6 @@ use Rattle.treebasedbondpricer.specs.declared.TreeValue.the-variants.{Va
 use Rattle.treebasedbondpricer.specs.Tree.{treeValue, Lent, roomOf, lentAfter}
 use Rattle.treebasedbondpricer.specs.CallLists.{Thinned}
 
--- What the slices and numbers of a call make together.
-abbrev pub marketOf : ℕ → List ℕ → List ℕ → List Float → Float → ℕ → ℕ → Float → List Float → List Float → Float → List ℕ → List Float → Market
-marketOf settlement days kinds amounts units yearly maximum alpha times sigmas spread pillars factors =
-    record {
-      settlement = settlement;
-      bond = record { leg = record { days = days; kinds = kinds; amounts = amounts }; units = units };
-      controls = record { perYear = yearly; maximum = maximum };
-      model = record { alpha = alpha; sigma = record { times = times; sigmas = sigmas } };
-      spread = spread;
-      pillars = record { days = pillars; factors = factors };
-    }
-
-abbrev pub callsIn : List ℕ → List ℕ → List Float → CallSchedule
-callsIn starts ends strikes = record { starts = starts; ends = ends; strikes = strikes }
-
 -- The answer is the tree value, and the slices are left as 01 says.
 pub record Entered (m : Market) (calls : CallSchedule) (answer : TreeValue) (before after : Lent) : Type 0 where
   pub value : answer ≡ treeValue m calls (roomOf before)

@@ -1,4 +1,5 @@
 pub mod Tree
 pub mod CallLists
 pub mod Entry
+pub mod Slices
 pub mod laws

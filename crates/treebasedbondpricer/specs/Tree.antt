@@ -5,10 +5,13 @@ use lib.ListN.{length, replicate}
 use lib.IntN.{ℤ, pos}
 use lib.Ieee.{Float, binary64, div}
 use Rattle.floats.specs.declared.Refusal.{Refusal}
+use Rattle.floats.specs.declared.Answer.{Answer}
 use Rattle.floats.specs.Answers.{plusZero}
 use Rattle.terms.specs.declared.Check.{Check}
 use Rattle.terms.specs.Numbers.{float}
 use Rattle.terms.specs.Terms.{CallSchedule, Market}
+use Rattle.terms.specs.Times.{yearFraction}
+use Rattle.terms.specs.Curve.{curveAt, curveOver}
 use Rattle.terms.specs.Checks.{onCheck}
 use Rattle.terms.specs.Entries.{treeChecks}
 use Rattle.terms.specs.Outcomes.{Outcome, given, follow, finiteThen, onOutcome}
@@ -28,14 +31,14 @@ pub record Fitted : Type 0 where
   pub tree : Lattice
   pub shifts : List Float
 
--- time_step = T/steps; variances, transitions, then the fit, which ends entirely before the walk.
-unfoldable pub fittedTree : Market → Room → Float → ℕ → Outcome Fitted
+-- time_step = T/steps; variances, transitions, then the fit to the curve, which ends entirely before the walk.
+unfoldable pub fittedTreeOver : (Float → ℕ → Answer) → Market → Room → Float → ℕ → Outcome Fitted
 unfolding variancesFrom lattice shiftsFrom div
-fittedTree m room maturity steps =
+fittedTreeOver curve m room maturity steps =
     finiteThen (div binary64 maturity (float steps)) 0 λ dt.
     follow (transitionVariances (m .model) steps dt) λ variances.
     follow (lattice room (m .model .alpha) dt variances) λ tree.
-    follow (fitted (m .settlement) (m .pillars) dt (tree .layers)) λ shifts.
+    follow (fitted curve dt (tree .layers)) λ shifts.
     given (record { dt = dt; tree = tree; shifts = shifts })
 
 abbrev pub valueWith : Float → BondEventGrid → Fitted → Outcome TreeValue
@@ -45,19 +48,35 @@ valueWith spread grid f =
     λ row. given (Value (valueAt (pos 0) row) (nodeCount (f .tree)))
 
 -- The root's value is the answer.
-unfoldable pub latticeValue : Market → Room → BondEventGrid → Outcome TreeValue
-unfolding fittedTree walkFrom valueAt countOf
-latticeValue m room grid = follow (fittedTree m room (grid .«maturity_time») (grid .steps)) λ f. valueWith (m .spread) grid f
+unfoldable pub latticeValueOver : (Float → ℕ → Answer) → Market → Room → BondEventGrid → Outcome TreeValue
+unfolding fittedTreeOver walkFrom valueAt countOf
+latticeValueOver curve m room grid =
+    follow (fittedTreeOver curve m room (grid .«maturity_time») (grid .steps)) λ f. valueWith (m .spread) grid f
 
 -- The terms are checked, the grid is built, then the tree.
-unfoldable pub treeValue : Market → CallSchedule → Room → TreeValue
-unfolding treeChecks eventGrid latticeValue
-treeValue m calls room =
+unfoldable pub treeValueOver : (Float → ℕ → Answer) → Market → CallSchedule → Room → TreeValue
+unfolding treeChecks eventGrid latticeValueOver
+treeValueOver curve m calls room =
     onCheck (treeChecks m calls) Refused
     (onOutcome
-    (follow (eventGrid (m .settlement) (m .bond) calls (m .controls)) λ grid. latticeValue m room grid)
+    (follow (eventGrid (m .settlement) (m .bond) calls (m .controls)) λ grid. latticeValueOver curve m room grid)
     Refused
     λ v. v)
+
+-- ---- over the curve of the market's pillars
+
+abbrev pub curveOf : Market → Float → ℕ → Answer
+curveOf m = curveAt (m .settlement) (m .pillars)
+
+abbrev pub fittedTree : Market → Room → Float → ℕ → Outcome Fitted
+fittedTree m = fittedTreeOver (curveOf m) m
+
+abbrev pub latticeValue : Market → Room → BondEventGrid → Outcome TreeValue
+latticeValue m = latticeValueOver (curveOf m) m
+
+unfoldable pub treeValue : Market → CallSchedule → Room → TreeValue
+unfolding treeValueOver curveOver yearFraction
+treeValue m = treeValueOver (curveOf m) m
 
 -- ---- lent slices
 

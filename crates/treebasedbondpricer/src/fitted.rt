@@ -1,4 +1,4 @@
-// The tree before the walk: time_step, layers and shifts. Nothing of it reads the calls, the cashflows or the spread.
+// The tree before the walk: time_step, layers and shifts. Nothing of it reads the calls, the cashflows or the spread. The curve is that over the times and factors of its pillars.
 
 use floats::Refusal;
 use floats::finite::not_finite;
@@ -12,6 +12,7 @@ ghost use Prim.Native.Nat.{_+_, _<_, _≤_};
 ghost use lib.ListN.{length};
 ghost use lib.Ieee.{binary64, div};
 ghost use Rattle.terms.specs.Numbers.{float};
+ghost use Rattle.terms.specs.Curve.{curveOver};
 ghost use Rattle.terms.specs.Outcomes.{finiteThen};
 ghost use Rattle.hullwhite.specs.laws.Filled.{modelOf};
 ghost use Rattle.lattice.specs.laws.Growing.{roomLeft};
@@ -35,10 +36,9 @@ fn unfitted(check: Check) -> FittedTree
 
 // Transitions, then the fit.
 fn fitted_with(
-    settlement: u32,
     dt: f64,
     alpha: f64,
-    days: &[u32],
+    curve_times: &[f64],
     factors: &[f64],
     variances: &[f64],
     counts: &mut [usize],
@@ -51,7 +51,7 @@ fn fitted_with(
 ) -> FittedTree
     requires { ⌜ (0 < length (now variances)) × (length (now variances) ≤ 512) ⌝ }
     requires { ⌜ (length (now counts) ≡ length (now variances) + 1) × (length (now spacings) ≡ length (now variances)) × (length (now shifts) ≡ length (now variances)) ⌝ }
-    ensures { λ r. ⌜ FitsTree (fittedWith settlement (record { days = now (days .entry); factors = now (factors .entry) }) (roomLeft (now (nodes .entry)) (now (probabilities .entry)) (length (now (first .entry))) (length (now (second .entry)))) alpha dt (now (variances .entry))) (length (now (first .entry))) (length (now (second .entry))) (now (counts .exit)) (now (spacings .exit)) (now (shifts .exit)) (now (nodes .exit)) (now (probabilities .exit)) r ⌝ }
+    ensures { λ r. ⌜ FitsTree (fittedWith (curveOver (now («curve_times» .entry)) (now (factors .entry))) (roomLeft (now (nodes .entry)) (now (probabilities .entry)) (length (now (first .entry))) (length (now (second .entry)))) alpha dt (now (variances .entry))) (length (now (first .entry))) (length (now (second .entry))) (now (counts .exit)) (now (spacings .exit)) (now (shifts .exit)) (now (nodes .exit)) (now (probabilities .exit)) r ⌝ }
 {
     let one = first.len();
     let two = second.len();
@@ -76,8 +76,7 @@ fn fitted_with(
         counts,
         spacings,
         flat,
-        settlement,
-        days,
+        curve_times,
         factors,
         dt,
         first,
@@ -92,13 +91,12 @@ fn fitted_with(
 
 // Variances, transitions, then the fit.
 fn fitted_over(
-    settlement: u32,
     steps: u32,
     dt: f64,
     alpha: f64,
     times: &[f64],
     sigmas: &[f64],
-    days: &[u32],
+    curve_times: &[f64],
     factors: &[f64],
     variances: &mut [f64],
     counts: &mut [usize],
@@ -111,17 +109,16 @@ fn fitted_over(
 ) -> FittedTree
     requires { ⌜ (0 < steps) × (steps ≤ 512) × (length (now variances) ≡ steps) ⌝ }
     requires { ⌜ (length (now counts) ≡ steps + 1) × (length (now spacings) ≡ steps) × (length (now shifts) ≡ steps) ⌝ }
-    ensures { λ r. ⌜ FitsTree (fittedOver settlement (modelOf alpha (now (times .entry)) (now (sigmas .entry))) (record { days = now (days .entry); factors = now (factors .entry) }) (roomLeft (now (nodes .entry)) (now (probabilities .entry)) (length (now (first .entry))) (length (now (second .entry)))) steps dt) (length (now (first .entry))) (length (now (second .entry))) (now (counts .exit)) (now (spacings .exit)) (now (shifts .exit)) (now (nodes .exit)) (now (probabilities .exit)) r ⌝ }
+    ensures { λ r. ⌜ FitsTree (fittedOver (curveOver (now («curve_times» .entry)) (now (factors .entry))) (modelOf alpha (now (times .entry)) (now (sigmas .entry))) (roomLeft (now (nodes .entry)) (now (probabilities .entry)) (length (now (first .entry))) (length (now (second .entry)))) steps dt) (length (now (first .entry))) (length (now (second .entry))) (now (counts .exit)) (now (spacings .exit)) (now (shifts .exit)) (now (nodes .exit)) (now (probabilities .exit)) r ⌝ }
 {
     let v = transition_variances(alpha, times, sigmas, steps, dt, variances);
     let Check::Passed = v else {
         return unfitted(v);
     };
     fitted_with(
-        settlement,
         dt,
         alpha,
-        days,
+        curve_times,
         factors,
         variances,
         counts,
@@ -136,13 +133,12 @@ fn fitted_over(
 
 // time_step = T/steps, then the tree.
 pub fn fitted_tree(
-    settlement: u32,
     maturity: f64,
     steps: u32,
     alpha: f64,
     times: &[f64],
     sigmas: &[f64],
-    days: &[u32],
+    curve_times: &[f64],
     factors: &[f64],
     counts: &mut [usize],
     spacings: &mut [f64],
@@ -154,7 +150,7 @@ pub fn fitted_tree(
 ) -> FittedTree
     requires { ⌜ (0 < steps) × (steps ≤ 512) ⌝ }
     requires { ⌜ (length (now counts) ≡ steps + 1) × (length (now spacings) ≡ steps) × (length (now shifts) ≡ steps) ⌝ }
-    ensures { λ r. ⌜ FitsTree (finiteThen (div binary64 maturity (float steps)) 0 λ dt. fittedOver settlement (modelOf alpha (now (times .entry)) (now (sigmas .entry))) (record { days = now (days .entry); factors = now (factors .entry) }) (roomLeft (now (nodes .entry)) (now (probabilities .entry)) (length (now (first .entry))) (length (now (second .entry)))) steps dt) (length (now (first .entry))) (length (now (second .entry))) (now (counts .exit)) (now (spacings .exit)) (now (shifts .exit)) (now (nodes .exit)) (now (probabilities .exit)) r ⌝ }
+    ensures { λ r. ⌜ FitsTree (finiteThen (div binary64 maturity (float steps)) 0 λ dt. fittedOver (curveOver (now («curve_times» .entry)) (now (factors .entry))) (modelOf alpha (now (times .entry)) (now (sigmas .entry))) (roomLeft (now (nodes .entry)) (now (probabilities .entry)) (length (now (first .entry))) (length (now (second .entry)))) steps dt) (length (now (first .entry))) (length (now (second .entry))) (now (counts .exit)) (now (spacings .exit)) (now (shifts .exit)) (now (nodes .exit)) (now (probabilities .exit)) r ⌝ }
 {
     let dt = maturity / (steps as f64);
     if not_finite(dt) {
@@ -165,13 +161,12 @@ pub fn fitted_tree(
     }
     let mut variances = [0.0; 512];
     fitted_over(
-        settlement,
         steps,
         dt,
         alpha,
         times,
         sigmas,
-        days,
+        curve_times,
         factors,
         &mut variances[..steps as usize],
         counts,

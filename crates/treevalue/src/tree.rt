@@ -4,15 +4,17 @@ use entrychecks::entries::tree_checks;
 use eventgrid::grid::event_grid;
 use latticevalue::value::lattice_value;
 use terms::Check;
+use terms::curve::pillar_times;
 use treebasedbondpricer::TreeValue;
 use treebasedbondpricer::zero::zero_floats;
 use treebasedbondpricer::zero::zero_numbers;
 ghost use mathlib.Core.Path.{_≡_};
 ghost use Prim.Native.Nat.{_≤_};
 ghost use lib.ListN.{length};
-ghost use Rattle.treebasedbondpricer.specs.Entry.{marketOf, callsIn, Entered};
-ghost use Rattle.lattice.specs.laws.Growing.{roomLeft};
+ghost use Rattle.treebasedbondpricer.specs.Entry.{Entered};
 ghost use Rattle.treebasedbondpricer.specs.laws.Entered.{uncheckedOf, valueOn};
+ghost use Rattle.terms.specs.Slices.{legIn, callsIn, sigmaIn, pillarsIn, marketIn};
+ghost use Rattle.treebasedbondpricer.specs.Slices.{lentIn, lentOut, roomIn};
 
 // A refusal met on the way is handed up unchanged.
 fn unchecked(check: Check) -> TreeValue
@@ -25,7 +27,7 @@ fn unchecked(check: Check) -> TreeValue
 }
 
 // The grid of checked terms, then the tree.
-fn checked_value(
+pub fn checked_value(
     settlement: u32,
     days: &[u32],
     kinds: &[u8],
@@ -50,7 +52,11 @@ fn checked_value(
     requires { ⌜ (1 ≤ maximum) × (maximum ≤ 512) ⌝ }
     requires { ⌜ (length (now days) ≤ 256) × (length (now kinds) ≡ length (now days)) × (length (now amounts) ≡ length (now days)) ⌝ }
     requires { ⌜ (length (now ends) ≡ length (now starts)) × (length (now strikes) ≡ length (now starts)) ⌝ }
-    ensures { λ r. ⌜ r ≡ valueOn (marketOf settlement (now (days .entry)) (now (kinds .entry)) (now (amounts .entry)) units yearly maximum alpha (now (times .entry)) (now (sigmas .entry)) spread (now (pillars .entry)) (now (factors .entry))) (callsIn (now (starts .entry)) (now (ends .entry)) (now (strikes .entry))) (roomLeft (now (nodes .entry)) (now (probabilities .entry)) (length (now (first .entry))) (length (now (second .entry)))) ⌝ }
+    requires { ⌜ length (now pillars) ≤ 256 ⌝ }
+    ensures { λ r. ⌜ r ≡ valueOn
+        (marketIn settlement (legIn days kinds amounts) units yearly maximum alpha (sigmaIn times sigmas) spread (pillarsIn pillars factors))
+        (callsIn starts ends strikes)
+        (roomIn nodes probabilities first second) ⌝ }
 {
     let answer = event_grid(
         settlement,
@@ -69,14 +75,14 @@ fn checked_value(
         return unchecked(check);
     };
     let grid = answer.grid;
+    let curve_times = pillar_times(settlement, pillars);
     lattice_value(
-        settlement,
         grid,
         alpha,
         times,
         sigmas,
         spread,
-        pillars,
+        &curve_times[..pillars.len()],
         factors,
         nodes,
         probabilities,
@@ -108,7 +114,13 @@ pub fn tree_value(
     first_row: &mut [f64],
     second_row: &mut [f64],
 ) -> TreeValue
-    ensures { λ r. ⌜ Entered (marketOf settlement (now («cashflow_days» .entry)) (now («cashflow_kinds» .entry)) (now («cashflow_amounts» .entry)) units «steps_per_year» «max_steps» alpha (now («sigma_times» .entry)) (now (sigmas .entry)) spread (now («pillar_days» .entry)) (now («pillar_factors» .entry))) (callsIn (now («call_starts» .entry)) (now («call_ends» .entry)) (now («call_strikes» .entry))) r (record { nodes = now (nodes .entry); probabilities = now (probabilities .entry); first = now («first_row» .entry); second = now («second_row» .entry) }) (record { nodes = now (nodes .exit); probabilities = now (probabilities .exit); first = now («first_row» .exit); second = now («second_row» .exit) }) ⌝ }
+    ensures { λ r. ⌜ Entered
+        (marketIn settlement (legIn «cashflow_days» «cashflow_kinds» «cashflow_amounts») units «steps_per_year» «max_steps» alpha
+        (sigmaIn «sigma_times» sigmas) spread (pillarsIn «pillar_days» «pillar_factors»))
+        (callsIn «call_starts» «call_ends» «call_strikes»)
+        r
+        (lentIn nodes probabilities «first_row» «second_row»)
+        (lentOut nodes probabilities «first_row» «second_row») ⌝ }
 {
     let check = tree_checks(
         settlement,

@@ -1,17 +1,17 @@
 -- `all_flows` meets its contract. Assumes nothing.
 use Prim.Native.Nat.{_-_}
 use lib.ListN.{length}
-use Rattle.terms.specs.Terms.{Pillars}
+use Rattle.terms.specs.Curve.{curveOver}
 use Rattle.bondpricer.proofs.Flowing.{Going, start, paid, unpaid, stopped, done}
 use Rattle.floats.proofs.Laws.{answers}
 use Rattle.bondpricer.proofs.all_flows.Statement.{statement}
 use Rattle.bondpricer.proofs.all_flows.Tie as tie
 
 abbrev Inv-loop : tie.InvT-loop
-Inv-loop settlement days amounts spread pillars factors reference value₀ i₀ value i = Going settlement (record { days = pillars; factors = factors }) spread reference days amounts i value
+Inv-loop settlement days amounts spread times factors reference value₀ i₀ value i = Going (curveOver times factors) settlement spread reference days amounts i value
 
 abbrev μ-loop : tie.MeasureT-loop
-μ-loop settlement days amounts spread pillars factors reference value₀ i₀ value i = length days - i
+μ-loop settlement days amounts spread times factors reference value₀ i₀ value i = length days - i
 
 loop-holds : tie.Need-loop-holds Inv-loop μ-loop
 loop-holds c = search (answers, start)

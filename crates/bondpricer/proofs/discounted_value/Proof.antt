@@ -1,11 +1,14 @@
 -- `discounted_value` meets its contract. Assumes nothing.
-use Rattle.bondpricer.specs.Straight.{discountedValue}
+use Rattle.bondpricer.proofs.Flowing.{at-settlement, no-reference}
 use Rattle.floats.proofs.Laws.{answers}
 use Rattle.bondpricer.proofs.discounted_value.Statement.{statement}
 use Rattle.bondpricer.proofs.discounted_value.Tie as tie
 
-factor-of-requires : tie.Need-factor-of-requires
-factor-of-requires c κs = search answers
+year-fraction-requires : tie.Need-year-fraction-requires
+year-fraction-requires c κs = search answers
+
+curve-at-requires : tie.Need-curve-at-requires
+curve-at-requires c κs = search answers
 
 enum-known-a : tie.Need-enum-known-a
 enum-known-a c = search answers
@@ -14,28 +17,26 @@ enum-told : tie.Need-enum-told
 enum-told c = search answers
 
 returns : tie.Need-returns
-unfolding discountedValue
-returns c = search answers
+returns c = search (answers, no-reference)
 
 refused-requires : tie.Need-refused-requires
 refused-requires c κs = search answers
 
 returns-2 : tie.Need-returns-2
-unfolding discountedValue
-returns-2 c = search answers
+returns-2 c = search (answers, at-settlement)
 
 all-flows-requires : tie.Need-all-flows-requires
 all-flows-requires c κs = search answers
 
 returns-3 : tie.Need-returns-3
-unfolding discountedValue
-returns-3 c = search answers
+returns-3 c = search (answers, at-settlement)
 
 pub discounted-value-spec : {M : Type 1} → statement M
 discounted-value-spec =
     tie.close
     (tie.spec
-    factor-of-requires
+    year-fraction-requires
+    curve-at-requires
     enum-known-a
     enum-told
     returns

@@ -1,12 +1,14 @@
 -- `with_flow` meets its contract. Assumes nothing.
-use Rattle.bondpricer.specs.Straight.{withFlow}
-use Rattle.bondpricer.proofs.Flowing.{at-time}
+use Rattle.bondpricer.proofs.Flowing.{at-time, no-factor}
 use Rattle.floats.proofs.Laws.{answers}
 use Rattle.bondpricer.proofs.with_flow.Statement.{statement}
 use Rattle.bondpricer.proofs.with_flow.Tie as tie
 
-factor-of-requires : tie.Need-factor-of-requires
-factor-of-requires c κs = search answers
+year-fraction-requires : tie.Need-year-fraction-requires
+year-fraction-requires c κs = search answers
+
+curve-at-requires : tie.Need-curve-at-requires
+curve-at-requires c κs = search answers
 
 enum-known-a : tie.Need-enum-known-a
 enum-known-a c = search answers
@@ -15,8 +17,7 @@ enum-told : tie.Need-enum-told
 enum-told c = search answers
 
 returns : tie.Need-returns
-unfolding withFlow
-returns c = search answers
+returns c = search (answers, no-factor)
 
 not-finite-requires : tie.Need-not-finite-requires
 not-finite-requires c κs = search answers
@@ -25,11 +26,7 @@ refused-requires : tie.Need-refused-requires
 refused-requires c κs = search answers
 
 returns-2 : tie.Need-returns-2
-unfolding withFlow
-returns-2 c = search answers
-
-year-fraction-requires : tie.Need-year-fraction-requires
-year-fraction-requires c κs = search answers
+returns-2 c = search (answers, at-time) depth 20 fits 4000
 
 not-finite-requires-2 : tie.Need-not-finite-requires-2
 not-finite-requires-2 c κs = search answers
@@ -68,7 +65,7 @@ refused-requires-4 : tie.Need-refused-requires-4
 refused-requires-4 c κs = search answers
 
 returns-6 : tie.Need-returns-6
-returns-6 c = search (answers, at-time, c .before .before .before .before .before .before .before .before .before .before .before .before .before .before .before .before .before .factor-of .ensures, c .before .before .before .before .before .before .before .before .before .before .before .before .before .before .before .a .given .1, c .before .before .before .before .before .before .before .before .before .before .before .before .before .not-finite .ensures, c .before .before .before .before .before .before .before .before .before .before .before .before .if1 .left, c .before .before .before .before .before .before .before .before .before .before .before .year-fraction .ensures, c .before .before .before .before .before .before .before .before .before .before .not-finite2 .ensures, c .before .before .before .before .before .before .before .before .before .if2 .left, c .before .before .before .before .before .before .before .before .exp-at .ensures, c .before .before .before .before .before .before .e .given .1, c .before .before .before .before .not-finite3 .ensures, c .before .before .before .if3 .left, c .before .before .not-finite4 .ensures, c .before .if4 .taken, c .refused4 .ensures) depth 30 fits 4000
+returns-6 c = search (answers, at-time, c .before .before .before .before .before .before .before .before .before .before .before .before .before .before .before .before .before .year-fraction .ensures, c .before .before .before .before .before .before .before .before .before .before .before .before .before .before .before .before .curve-at .ensures, c .before .before .before .before .before .before .before .before .before .before .before .before .before .before .a .given .1, c .before .before .before .before .before .before .before .before .before .before .before .before .not-finite .ensures, c .before .before .before .before .before .before .before .before .before .before .before .if1 .left, c .before .before .before .before .before .before .before .before .before .before .not-finite2 .ensures, c .before .before .before .before .before .before .before .before .before .if2 .left, c .before .before .before .before .before .before .before .before .exp-at .ensures, c .before .before .before .before .before .before .e .given .1, c .before .before .before .before .not-finite3 .ensures, c .before .before .before .if3 .left, c .before .before .not-finite4 .ensures, c .before .if4 .taken, c .refused4 .ensures) depth 30 fits 4000
 
 not-finite-requires-5 : tie.Need-not-finite-requires-5
 not-finite-requires-5 c κs = search answers
@@ -77,23 +74,23 @@ refused-requires-5 : tie.Need-refused-requires-5
 refused-requires-5 c κs = search answers
 
 returns-7 : tie.Need-returns-7
-returns-7 c = search (answers, at-time, c .before .before .before .before .before .before .before .before .before .before .before .before .before .before .before .before .before .before .before .factor-of .ensures, c .before .before .before .before .before .before .before .before .before .before .before .before .before .before .before .before .before .a .given .1, c .before .before .before .before .before .before .before .before .before .before .before .before .before .before .before .not-finite .ensures, c .before .before .before .before .before .before .before .before .before .before .before .before .before .before .if1 .left, c .before .before .before .before .before .before .before .before .before .before .before .before .before .year-fraction .ensures, c .before .before .before .before .before .before .before .before .before .before .before .before .not-finite2 .ensures, c .before .before .before .before .before .before .before .before .before .before .before .if2 .left, c .before .before .before .before .before .before .before .before .before .before .exp-at .ensures, c .before .before .before .before .before .before .before .before .e .given .1, c .before .before .before .before .before .before .not-finite3 .ensures, c .before .before .before .before .before .if3 .left, c .before .before .before .before .not-finite4 .ensures, c .before .before .before .if4 .left, c .before .before .not-finite5 .ensures, c .before .if5 .taken, c .refused5 .ensures) depth 30 fits 4000
+returns-7 c = search (answers, at-time, c .before .before .before .before .before .before .before .before .before .before .before .before .before .before .before .before .before .before .before .year-fraction .ensures, c .before .before .before .before .before .before .before .before .before .before .before .before .before .before .before .before .before .before .curve-at .ensures, c .before .before .before .before .before .before .before .before .before .before .before .before .before .before .before .before .a .given .1, c .before .before .before .before .before .before .before .before .before .before .before .before .before .before .not-finite .ensures, c .before .before .before .before .before .before .before .before .before .before .before .before .before .if1 .left, c .before .before .before .before .before .before .before .before .before .before .before .before .not-finite2 .ensures, c .before .before .before .before .before .before .before .before .before .before .before .if2 .left, c .before .before .before .before .before .before .before .before .before .before .exp-at .ensures, c .before .before .before .before .before .before .before .before .e .given .1, c .before .before .before .before .before .before .not-finite3 .ensures, c .before .before .before .before .before .if3 .left, c .before .before .before .before .not-finite4 .ensures, c .before .before .before .if4 .left, c .before .before .not-finite5 .ensures, c .before .if5 .taken, c .refused5 .ensures) depth 30 fits 4000
 
 returns-8 : tie.Need-returns-8
-returns-8 c = search (answers, at-time, c .before .before .before .before .before .before .before .before .before .before .before .before .before .before .before .before .before .before .factor-of .ensures, c .before .before .before .before .before .before .before .before .before .before .before .before .before .before .before .before .a .given .1, c .before .before .before .before .before .before .before .before .before .before .before .before .before .before .not-finite .ensures, c .before .before .before .before .before .before .before .before .before .before .before .before .before .if1 .left, c .before .before .before .before .before .before .before .before .before .before .before .before .year-fraction .ensures, c .before .before .before .before .before .before .before .before .before .before .before .not-finite2 .ensures, c .before .before .before .before .before .before .before .before .before .before .if2 .left, c .before .before .before .before .before .before .before .before .before .exp-at .ensures, c .before .before .before .before .before .before .before .e .given .1, c .before .before .before .before .before .not-finite3 .ensures, c .before .before .before .before .if3 .left, c .before .before .before .not-finite4 .ensures, c .before .before .if4 .left, c .before .not-finite5 .ensures, c .if5 .left) depth 30 fits 4000
+returns-8 c = search (answers, at-time, c .before .before .before .before .before .before .before .before .before .before .before .before .before .before .before .before .before .before .year-fraction .ensures, c .before .before .before .before .before .before .before .before .before .before .before .before .before .before .before .before .before .curve-at .ensures, c .before .before .before .before .before .before .before .before .before .before .before .before .before .before .before .a .given .1, c .before .before .before .before .before .before .before .before .before .before .before .before .before .not-finite .ensures, c .before .before .before .before .before .before .before .before .before .before .before .before .if1 .left, c .before .before .before .before .before .before .before .before .before .before .before .not-finite2 .ensures, c .before .before .before .before .before .before .before .before .before .before .if2 .left, c .before .before .before .before .before .before .before .before .before .exp-at .ensures, c .before .before .before .before .before .before .before .e .given .1, c .before .before .before .before .before .not-finite3 .ensures, c .before .before .before .before .if3 .left, c .before .before .before .not-finite4 .ensures, c .before .before .if4 .left, c .before .not-finite5 .ensures, c .if5 .left) depth 30 fits 4000
 
 pub with-flow-spec : {M : Type 1} → statement M
 with-flow-spec =
     tie.close
     (tie.spec
-    factor-of-requires
+    year-fraction-requires
+    curve-at-requires
     enum-known-a
     enum-told
     returns
     not-finite-requires
     refused-requires
     returns-2
-    year-fraction-requires
     not-finite-requires-2
     refused-requires-2
     returns-3

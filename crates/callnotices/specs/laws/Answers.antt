@@ -4,19 +4,17 @@ use mathlib.Core.List.{[], _∷_}
 use Prim.Native.Nat.{ℕ}
 use native.Mathlib.Omega.{arith}
 use lib.ListN.{length, getD}
-use lib.Dec.{ltb}
 use Rattle.floats.specs.declared.Refusal.{Refusal}
 use Rattle.terms.specs.declared.Check.{Check}
 use Rattle.terms.specs.declared.Check.the-variants.{Passed, Refused}
 use Rattle.terms.specs.Checks.{onCheck}
-use Rattle.terms.specs.laws.Sequence.{passed-at}
-use Rattle.terms.specs.laws.Numbered.{Numbered, none, one-more, single-numbered, lowest-numbered, first-numbered}
+use Rattle.terms.specs.laws.Numbered.{Numbered, numbered}
 use Rattle.callnotices.specs.declared.CallList.{CallList}
 use Rattle.callnotices.specs.Notices.{Notices}
 use Rattle.callnotices.specs.Standing.{entries}
-use Rattle.callnotices.specs.Checks.{unequal, wrongAt, repeatsAt, setDayWrong, setStrikeWrong, setEndsEarly, noticeCount, tooMany, noticeRange, noRepeats, setDays, setStrikes, setOrder, noticeChecks}
+use Rattle.callnotices.specs.Checks.{noticeCount, tooMany, noticeRange, noRepeats, setDays, setStrikes, setOrder, noticeChecks}
 use Rattle.callnotices.specs.Lists.{listOf, refusedList, callList}
-use Rattle.callnotices.specs.laws.Stages.{Counted, noticeCounts, noticeFields, setFields, notices-in-stages, counted}
+use Rattle.callnotices.specs.laws.Stages.{passed-at, Counted, noticeCounts, noticeFields, setFields, notices-in-stages, counted}
 
 module _ (n : Notices) where
   pub accepted : {c : Check} {r : CallList} → c ≡ noticeChecks n → c ≡ Passed → r ≡ listOf n (entries n) → r ≡ callList n
@@ -48,16 +46,7 @@ module _ (n : Notices) where
 
 checks-numbered : (n : Notices) → Numbered (noticeChecks n)
 unfolding noticeChecks
-checks-numbered n =
-    first-numbered
-    (one-more (single-numbered 2 0 (unequal (length (n .series)) (length (n .versions)) (length (n .actions)) (length (n .starts)) (length (n .ends)) (length (n .strikes))) (omega arith))
-    (one-more (single-numbered 41 0 (ltb 256 (length (n .series))) (omega arith))
-    (one-more (lowest-numbered 42 (wrongAt (n .series) (n .versions) (n .actions)) (length (n .series)) 0 (omega arith))
-    (one-more (lowest-numbered 43 (repeatsAt (n .series) (n .versions)) (length (n .series)) 0 (omega arith))
-    (one-more (lowest-numbered 3 (setDayWrong (n .actions) (n .starts) (n .ends)) (length (n .actions)) 0 (omega arith))
-    (one-more (lowest-numbered 4 (setStrikeWrong (n .actions) (n .strikes)) (length (n .actions)) 0 (omega arith))
-    (one-more (lowest-numbered 5 (setEndsEarly (n .actions) (n .starts) (n .ends)) (length (n .actions)) 0 (omega arith))
-    none)))))))
+checks-numbered n = search numbered depth 24
 
 -- An accepted list comes from passed checks.
 pub passed-of : (n : Notices) → callList n .refusal .number ≡ 0 → noticeChecks n ≡ Passed

@@ -1,19 +1,28 @@
 -- The checks of notices in stages, and what is known of the notices where the first stage passes. Assumes nothing.
-use mathlib.Core.Path.{_≡_, sym, _∙_}
+use mathlib.Core.Path.{_≡_, refl, sym, _∙_}
 use mathlib.Core.Bool.{not, _||_}
 use mathlib.Core.List.{List, [], _∷_}
-use Prim.Native.Nat.{ℕ, _≤_}
-use lib.ListN.{length}
+use Prim.Native.Nat.{ℕ, zero, suc, _≤_}
+use lib.ListN.{length, getD}
 use lib.Dec.{eqb, ltb, nltb→le}
 use lib.Ieee.{Float}
 use Rattle.terms.specs.declared.Check.{Check}
 use Rattle.terms.specs.declared.Check.the-variants.{Passed}
 use Rattle.terms.specs.Checks.{firstOf}
-use Rattle.terms.specs.laws.Sequence.{passed-at, single-passed}
+use Rattle.terms.specs.laws.Sequence.{Passes, passes-of-first, single-passed}
 use Rattle.terms.specs.laws.Ranges.{not-or-l, not-or-r, same-length}
 use Rattle.terms.specs.laws.Stages.{Tells, in-stages}
 use Rattle.callnotices.specs.Notices.{Notices, Parallel, size}
 use Rattle.callnotices.specs.Checks.{noticeCount, tooMany, noticeRange, noRepeats, setDays, setStrikes, setOrder, noticeChecks}
+
+-- Each of the checks is passed, by index.
+pub passed-at : (cs : List Check) → firstOf cs ≡ Passed → (i : ℕ) → getD cs i Passed ≡ Passed
+passed-at cs h i = at cs i (passes-of-first cs h)
+  where
+    at : (xs : List Check) (k : ℕ) → Passes xs → getD xs k Passed ≡ Passed
+    at [] k p = refl
+    at (x ∷ xs) zero p = p .0
+    at (x ∷ xs) (suc k) p = at xs k (p .1)
 
 -- 2 and 41.
 abbrev pub noticeCounts : Notices → Check

@@ -14,7 +14,7 @@ use Rattle.floats.specs.laws.Whole.{round-answers}
 use Rattle.rounded.specs.Root.{rootOf, sqrtAt}
 use Rattle.rounded.specs.laws.RootBounds.{rootOf-bounds}
 use Rattle.terms.specs.Numbers.{float, epsilon, million}
-use Rattle.terms.specs.Outcomes.{given}
+use Rattle.terms.specs.Outcomes.{given, onOutcome}
 use Rattle.lattice.specs.Transitions.{Step, tooFar, clamped, probabilities, transitionOf}
 use Rattle.lattice.specs.Lattice.{stepOf}
 use Rattle.lattice.specs.laws.Making.{stateOf, expectationOf, quotientOf}
@@ -71,7 +71,7 @@ module _ (spacing decay variance : Float) (k : ℕ) (n : ℤ) (above : T (lt eps
 
       -- neither 23 nor 24 is met, and no result of the node is refused
       pub transition-clamps : transitionOf (stepOver spacing decay variance k) n ≡ clamped (toSigned 31 (middleOf (stepOver spacing decay variance k) n)) (downOf (stepOver spacing decay variance k) n) (midOf (stepOver spacing decay variance k) n) (upOf (stepOver spacing decay variance k) n) k
-      unfolding transitionOf probabilities onAnswer
+      unfolding transitionOf probabilities onAnswer onOutcome
       transition-clamps =
           rw (
             is-finite (stateOf s n) (f .state),

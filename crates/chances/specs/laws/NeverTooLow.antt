@@ -21,11 +21,13 @@ use Rattle.floats.specs.laws.Whole.{round-answers}
 use Rattle.elementary.specs.laws.Values.{passed, finite-passed, value-of}
 use Rattle.rounded.specs.Root.{rootOf, sqrtAt}
 use Rattle.terms.specs.Numbers.{float, epsilon, tolerance}
-use Rattle.terms.specs.Outcomes.{Outcome, given, refused, refuse, valued}
+use Rattle.terms.specs.Outcomes.{Outcome, given, refused, onOutcome, follow, refuse, valued}
 use Rattle.terms.specs.laws.Outcomes.{Gives, gives, nothing, given-of, gives-finite}
-use Rattle.lattice.specs.Layers.{nodeFloat}
-use Rattle.lattice.specs.Transitions.{Step, sixth, twoThirds, tooLow, tooFar, clamped, probabilities, transitionOf}
+use Rattle.lattice.specs.declared.Middle.{Middle}
+use Rattle.lattice.specs.Transitions.{Step, sixth, twoThirds, tooLow, tooFar, clamped, probabilities, middleOf, fromMiddle, transitionOf}
 use Rattle.lattice.specs.Lattice.{spacingOf, stepOf}
+use Rattle.lattice.specs.laws.Making.{stateOf, expectationOf, quotientOf}
+use Rattle.lattice.specs.laws.Middles.{MiddleFrom, middle-from}
 use Rattle.chances.specs.Unclamped.{leastProbability}
 use Rattle.chances.specs.laws.Near.{counted}
 use Rattle.chances.specs.laws.Spaced.{Spaced, spaced}
@@ -50,6 +52,12 @@ module _ {A : Type 0} where
   only-near : (b : Bool) (place : ℕ) (o : Outcome A) → (b ≡ false → Only23Or27 o) → Only23Or27 (cond b (refuse 23 place) o)
   only-near true place o h = too-far
   only-near false place o h = h refl
+
+only-follow : {A B : Type 0} (o : Outcome A) (k : A → Outcome B) → Only23Or27 o → ((x : A) → o ≡ given x → Only23Or27 (k x)) → Only23Or27 (follow o k)
+unfolding onOutcome
+only-follow o k (was-given {x = x}) h = h x refl
+only-follow o k too-far h = too-far
+only-follow o k not-finite h = not-finite
 
 -- ---- a probability of at least 0.04 isn't too low
 
@@ -96,25 +104,31 @@ module _ (s : Step) (sp : Spaced (s .newSpacing) (s .denominator) (s .scale)) wh
       rw (none-low down mid up (floored (s .newSpacing) (s .denominator) (s .scale) error sp er fq ft fa fk fw))
       (clamped-only n down mid up (s .place))
 
-  pub transition-only : (n : ℤ) → Only23Or27 (transitionOf s n)
-  unfolding transitionOf onAnswer
-  transition-only n =
-      let state = mul binary64 (s .spacing) (nodeFloat n) in
-      let expectation = mul binary64 state (s .decay) in
-      let quotient = div binary64 expectation (s .newSpacing) in
-      let middle = rounded quotient in
-      let centre = mul binary64 (s .newSpacing) middle in
+  middle-only : (n : ℤ) → Only23Or27 (middleOf (s .spacing) (s .decay) (s .newSpacing) (s .place) n)
+  unfolding middleOf onAnswer
+  middle-only n =
+      only-finite (stateOf s n) (s .place) _ λ _.
+      only-finite (expectationOf s n) (s .place) _ λ _.
+      only-finite (quotientOf s n) (s .place) _ λ fq.
+      rw (round-answers (quotientOf s n) (s .place) (div-fits binary64 (expectationOf s n) (s .newSpacing)) fq)
+      (only-near (tooFar (rounded (quotientOf s n))) (s .place) _ λ _. was-given)
+
+  from-middle-only : (n : ℤ) (m : Middle) → MiddleFrom s n m → Only23Or27 (fromMiddle s m)
+  unfolding fromMiddle
+  from-middle-only n m f =
+      let expectation = expectationOf s n in
+      let centre = mul binary64 (s .newSpacing) (rounded (quotientOf s n)) in
       let error = sub binary64 expectation centre in
-      only-finite state (s .place) _ λ _.
-      only-finite expectation (s .place) _ λ fe.
-      only-finite quotient (s .place) _ λ fq.
-      rw (round-answers quotient (s .place) (div-fits binary64 expectation (s .newSpacing)) fq)
-      (only-near (tooFar middle) (s .place) _ λ near.
-      only-finite centre (s .place) _ λ fc.
+      let c = counted expectation (mul-fits binary64 (stateOf s n) (s .decay)) (f .expectation-finite) in
+      rw (f .is)
+      (only-finite centre (s .place) _ λ fc.
       only-finite error (s .place) _ λ fr.
-      let c = counted expectation (mul-fits binary64 state (s .decay)) fe in
-      probabilities-only (toSigned 31 middle) error
-      (small-error (s .newSpacing) expectation (sp .H) (c .0) (sp .spacing) (sp .wide) (sp .spacing-above) (c .1) fq near fc fr))
+      probabilities-only (toSigned 31 (rounded (quotientOf s n))) error
+      (small-error (s .newSpacing) expectation (sp .H) (c .0) (sp .spacing) (sp .wide) (sp .spacing-above) (c .1) (f .quotient-finite) (f .not-far) fc fr))
+
+  pub transition-only : (n : ℤ) → Only23Or27 (transitionOf s n)
+  unfolding transitionOf
+  transition-only n = only-follow (middleOf (s .spacing) (s .decay) (s .newSpacing) (s .place) n) _ (middle-only n) λ m e. from-middle-only n m (given-of (middle-from s n) e)
 
 -- ---- every step that is made: 22 is tried first, so its variance is above 2^−52
 

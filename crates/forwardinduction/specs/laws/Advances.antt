@@ -7,7 +7,6 @@ use lib.IntN.{ℤ}
 use lib.Ieee.{Float}
 use Rattle.floats.specs.declared.Answer.{Answer}
 use Rattle.floats.specs.Answers.{plusZero, andThen}
-use Rattle.terms.specs.Terms.{Pillars}
 use Rattle.terms.specs.Outcomes.{Outcome, given, follow, valued}
 use Rattle.lattice.specs.Layers.{At}
 use Rattle.forwardinduction.specs.Fit.{weighted, shiftOf}
@@ -17,8 +16,8 @@ use Rattle.lattice.specs.laws.Rows.{even, currentPart, Both}
 use Rattle.forwardinduction.specs.laws.FitSteps.{onwardAt}
 
 -- The weighted sum, then the shift.
-abbrev pub layerShift : ℕ → Pillars → Float → ℕ → Float → List At → Answer
-layerShift settlement pillars dt place spacing row = andThen (weighted spacing dt place row plusZero) λ sum. shiftOf settlement pillars dt place sum
+abbrev pub layerShift : (Float → ℕ → Answer) → Float → ℕ → Float → List At → Answer
+layerShift curve dt place spacing row = andThen (weighted spacing dt place row plusZero) λ sum. shiftOf curve dt place sum
 
 -- The contributions of the current row into the other.
 unfoldable pub advancedAt : Float → Float → Float → ℕ → Bool → ℕ → List ℤ → List Float → Both → Outcome Both
@@ -34,8 +33,8 @@ pub record Moved : Type 0 where
   pub rows : Both
 
 -- One step of the fit: the shift of the current row, then the other row.
-unfoldable pub stepAt : ℕ → Pillars → Float → ℕ → Bool → ℕ → Float → List ℤ → List Float → Both → Outcome Moved
+unfoldable pub stepAt : (Float → ℕ → Answer) → Float → ℕ → Bool → ℕ → Float → List ℤ → List Float → Both → Outcome Moved
 unfolding advancedAt weighted shiftOf
-stepAt settlement pillars dt step flat count spacing nodes probabilities rows =
-    valued (layerShift settlement pillars dt step spacing (rowOf (numbersIn nodes) (currentPart step count (rows .first) (rows .second)))) λ shift.
+stepAt curve dt step flat count spacing nodes probabilities rows =
+    valued (layerShift curve dt step spacing (rowOf (numbersIn nodes) (currentPart step count (rows .first) (rows .second)))) λ shift.
     follow (advancedAt spacing dt shift step flat count nodes probabilities rows) λ rows. given (record { shift = shift; rows = rows })

@@ -14,7 +14,6 @@ use Rattle.floats.specs.declared.Answer.the-variants as answer
 use Rattle.floats.specs.Answers.{one, onAnswer}
 use Rattle.terms.specs.declared.Check.{Check}
 use Rattle.terms.specs.declared.Check.the-variants.{Passed}
-use Rattle.terms.specs.Terms.{Pillars}
 use Rattle.terms.specs.Outcomes.{Outcome, given, refused, onOutcome, follow}
 use Rattle.terms.specs.laws.Outcomes.{same-given, given-or-refused, follow-given, follow-refused}
 use Rattle.hullwhite.specs.laws.Filled.{checkOf}
@@ -39,11 +38,11 @@ unfolding onOutcome checkOf
 one-more shift (given ys) r shifts f = record { outcome = f .outcome; slice = λ xs g. ap (λ (l : List Float). shift ∷ l) (f .slice ys refl) ∙ same-given g }
 one-more shift (refused q) r shifts f = record { outcome = f .outcome; slice = λ xs g. absurd (given-or-refused g refl) }
 
-module _ (settlement : ℕ) (pillars : Pillars) (dt : Float) where
+module _ (curve : Float → ℕ → Answer) (dt : Float) where
   -- no layer but the last
   pub found-none : {flat : Bool} {one two : ℕ} {counts : List ℕ} {spacings : List Float} {nodes : List ℤ} {probabilities : List Float} (step : ℕ) (row : List At) (shifts : List Float)
       → Laid flat one two counts spacings nodes probabilities → length shifts ≡ length spacings → length spacings ≡ 0
-      → Found (shiftsFrom settlement pillars dt step (layersIn flat counts spacings nodes probabilities) row) Passed shifts
+      → Found (shiftsFrom curve dt step (layersIn flat counts spacings nodes probabilities) row) Passed shifts
   unfolding layersIn shiftsFrom checkOf
   found-none step row [] (last-laid p q r) e h = record { outcome = refl; slice = λ xs g. same-given g }
   found-none step row (x ∷ shifts) (last-laid p q r) e h = absurd (omega arith)
@@ -51,19 +50,19 @@ module _ (settlement : ℕ) (pillars : Pillars) (dt : Float) where
 
   module _ (step : ℕ) (flat : Bool) (counts : List ℕ) (spacings : List Float) (nodes : List ℤ) (probabilities : List Float) (lent left : Both) (a : Behind flat (length (lent .first)) (length (lent .second)) counts spacings nodes probabilities) where
     abbrev pub whole : Outcome (List Float)
-    whole = shiftsFrom settlement pillars dt step (layersIn flat counts spacings nodes probabilities) (rowIn step (frontCount counts) nodes lent)
+    whole = shiftsFrom curve dt step (layersIn flat counts spacings nodes probabilities) (rowIn step (frontCount counts) nodes lent)
 
     -- the layers behind, from the rows that the step left
     abbrev pub others : Both → Outcome (List Float)
-    others rows = shiftsFrom settlement pillars dt (step + 1) (layersIn flat (partFrom 1 counts) (partFrom 1 spacings) (partFrom (frontCount counts * 2) nodes) (partFrom (frontCount counts * 3) probabilities)) (rowIn (step + 1) (frontCount (partFrom 1 counts)) (partFrom (frontCount counts * 2) nodes) rows)
+    others rows = shiftsFrom curve dt (step + 1) (layersIn flat (partFrom 1 counts) (partFrom 1 spacings) (partFrom (frontCount counts * 2) nodes) (partFrom (frontCount counts * 3) probabilities)) (rowIn (step + 1) (frontCount (partFrom 1 counts)) (partFrom (frontCount counts * 2) nodes) rows)
 
     abbrev one-step : Outcome Moved
-    one-step = stepAt settlement pillars dt step flat (frontCount counts) (getD spacings 0 nan) (frontNodes (frontCount counts) nodes) (take (frontCount counts * 3) probabilities) lent
+    one-step = stepAt curve dt step flat (frontCount counts) (getD spacings 0 nan) (frontNodes (frontCount counts) nodes) (take (frontCount counts * 3) probabilities) lent
 
     turn : whole ≡ follow one-step λ m. follow (others (m .rows)) λ shifts. given (m .shift ∷ shifts)
     turn =
         rw (a .layers, part-from 1 counts, part-from 1 spacings, part-from (frontCount counts * 2) nodes, part-from (frontCount counts * 3) probabilities, a .next)
-        (rw (← add-one step) at (fit-more (a .stepped) settlement pillars dt (getD spacings 0 nan) step lent (layersIn flat (drop 1 counts) (drop 1 spacings) (drop (frontCount counts * 2) nodes) (drop (frontCount counts * 3) probabilities)) (a .stepped .first-room) (a .stepped .second-room) (a .stepped .next-first) (a .stepped .next-second)))
+        (rw (← add-one step) at (fit-more (a .stepped) curve dt (getD spacings 0 nan) step lent (layersIn flat (drop 1 counts) (drop 1 spacings) (drop (frontCount counts * 2) nodes) (drop (frontCount counts * 3) probabilities)) (a .stepped .first-room) (a .stepped .second-room) (a .stepped .next-first) (a .stepped .next-second)))
 
     module _ {s : Answer} (e : movedOf s left ≡ one-step) where
       -- the step refused

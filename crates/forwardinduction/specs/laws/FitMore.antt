@@ -11,7 +11,7 @@ use lib.Seq.{length-take-le}
 use lib.IntN.{ℤ}
 use lib.Ieee.{Float}
 use Rattle.floats.specs.Answers.{plusZero}
-use Rattle.terms.specs.Terms.{Pillars}
+use Rattle.floats.specs.declared.Answer.{Answer}
 use Rattle.terms.specs.Outcomes.{Outcome, given, follow, valued}
 use Rattle.lattice.specs.Layers.{At}
 use Rattle.lattice.specs.Lattice.{Layer}
@@ -100,17 +100,17 @@ module _ {flat : Bool} {one two c n : ℕ} {nodes : List ℤ} {probabilities : L
           ∙ sym (follow-follow kn body _ _ (λ o. follow-given kn _ ∙ ap k (rw f (sym (next-row step o)))))
 
   -- one step, then the others
-  pub fit-more : (settlement : ℕ) (pillars : Pillars) (dt spacing : Float) (step : ℕ) (rows : Both) (layers : List Layer) → c ≤ length (rows .first) → c ≤ length (rows .second) → n ≤ length (rows .first) → n ≤ length (rows .second)
-      → shiftsFrom settlement pillars dt step (frontLayer flat c spacing nodes probabilities ∷ layers) (rowOf (numbersIn (frontNodes c nodes)) (currentPart step c (rows .first) (rows .second)))
-      ≡ follow (stepAt settlement pillars dt step flat c spacing (frontNodes c nodes) (take (c * 3) probabilities) rows) λ m. follow (shiftsFrom settlement pillars dt (suc step) layers (nextRow step (m .rows))) λ shifts. given (m .shift ∷ shifts)
+  pub fit-more : (curve : Float → ℕ → Answer) (dt spacing : Float) (step : ℕ) (rows : Both) (layers : List Layer) → c ≤ length (rows .first) → c ≤ length (rows .second) → n ≤ length (rows .first) → n ≤ length (rows .second)
+      → shiftsFrom curve dt step (frontLayer flat c spacing nodes probabilities ∷ layers) (rowOf (numbersIn (frontNodes c nodes)) (currentPart step c (rows .first) (rows .second)))
+      ≡ follow (stepAt curve dt step flat c spacing (frontNodes c nodes) (take (c * 3) probabilities) rows) λ m. follow (shiftsFrom curve dt (suc step) layers (nextRow step (m .rows))) λ shifts. given (m .shift ∷ shifts)
   unfolding shiftsFrom stepAt
-  fit-more settlement pillars dt spacing step rows layers a b d e =
+  fit-more curve dt spacing step rows layers a b d e =
       let row : List At = rowOf (numbersIn (frontNodes c nodes)) (currentPart step c (rows .first) (rows .second)) in
-      let rest : Float → List At → Outcome (List Float) = λ shift next. follow (shiftsFrom settlement pillars dt (suc step) layers next) λ shifts. given (shift ∷ shifts) in
+      let rest : Float → List At → Outcome (List Float) = λ shift next. follow (shiftsFrom curve dt (suc step) layers next) λ shifts. given (shift ∷ shifts) in
       let after : Moved → Outcome (List Float) = λ m. rest (m .shift) (nextRow step (m .rows)) in
       let adv : Float → Outcome Both = λ shift. advancedAt spacing dt shift step flat c (frontNodes c nodes) (take (c * 3) probabilities) rows in
       let on : Float → Outcome (List Float) = λ shift. follow (onward spacing dt shift step (transitionsIn flat (frontNodes c nodes) (take (c * 3) probabilities)) row []) (rest shift) in
-      sym (valued-then on (weighted spacing dt step row plusZero) (λ sum. shiftOf settlement pillars dt step sum) _ (λ sum. refl))
-      ∙ valued-same (layerShift settlement pillars dt step spacing row) on (λ shift. follow (follow (adv shift) λ rows. given (record { shift = shift; rows = rows })) after)
+      sym (valued-then on (weighted spacing dt step row plusZero) (λ sum. shiftOf curve dt step sum) _ (λ sum. refl))
+      ∙ valued-same (layerShift curve dt step spacing row) on (λ shift. follow (follow (adv shift) λ rows. given (record { shift = shift; rows = rows })) after)
       (λ shift. advance-more spacing dt shift step rows (rest shift) a b d e ∙ sym (follow-follow after (adv shift) _ _ (λ rows. follow-given after _)))
-      ∙ sym (follow-valued after (layerShift settlement pillars dt step spacing row) _ _ (λ shift. refl))
+      ∙ sym (follow-valued after (layerShift curve dt step spacing row) _ _ (λ shift. refl))

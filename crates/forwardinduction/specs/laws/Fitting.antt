@@ -13,7 +13,6 @@ use Rattle.floats.specs.declared.Answer.the-variants.{Value, Refused}
 use Rattle.floats.specs.Answers.{onAnswer}
 use Rattle.terms.specs.declared.Check.{Check}
 use Rattle.terms.specs.declared.Check.the-variants as check
-use Rattle.terms.specs.Terms.{Pillars}
 use Rattle.terms.specs.Outcomes.{Outcome, given, valued}
 use Rattle.terms.specs.laws.Outcomes.{follow-given, follow-refused}
 use Rattle.lattice.specs.Layers.{At}
@@ -31,21 +30,21 @@ rowIn step c nodes rows = rowOf (numbersIn (frontNodes c nodes)) (currentPart st
 abbrev pub movedOf : Answer → Both → Outcome Moved
 movedOf r rows = valued r λ shift. given (record { shift = shift; rows = rows })
 
-module _ (settlement : ℕ) (pillars : Pillars) (dt : Float) (step : ℕ) (flat : Bool) (count : ℕ) (spacing : Float) (nodes : List ℤ) (probabilities : List Float) (rows after : Both) where
-  module _ {row : List Float} {s : Answer} (here : row ≡ currentPart step count (rows .first) (rows .second)) (e : s ≡ layerShift settlement pillars dt step spacing (rowOf (numbersIn nodes) row)) where
+module _ (curve : Float → ℕ → Answer) (dt : Float) (step : ℕ) (flat : Bool) (count : ℕ) (spacing : Float) (nodes : List ℤ) (probabilities : List Float) (rows after : Both) where
+  module _ {row : List Float} {s : Answer} (here : row ≡ currentPart step count (rows .first) (rows .second)) (e : s ≡ layerShift curve dt step spacing (rowOf (numbersIn nodes) row)) where
     -- no shift
-    pub step-refused : {q : Refusal} → s ≡ Refused q → movedOf s after ≡ stepAt settlement pillars dt step flat count spacing nodes probabilities rows
+    pub step-refused : {q : Refusal} → s ≡ Refused q → movedOf s after ≡ stepAt curve dt step flat count spacing nodes probabilities rows
     unfolding stepAt onAnswer
     step-refused v = rw v (sym (stopped-at _ _ (rw here at e) v))
 
     module _ {shift : Float} (v : s ≡ Value shift) {a : Check} (w : outcomeOf a after ≡ advancedAt spacing dt shift step flat count nodes probabilities rows) where
       -- a shift, and no other row
-      pub step-halted : {q : Refusal} → a ≡ check.Refused q → movedOf (Refused q) after ≡ stepAt settlement pillars dt step flat count spacing nodes probabilities rows
+      pub step-halted : {q : Refusal} → a ≡ check.Refused q → movedOf (Refused q) after ≡ stepAt curve dt step flat count spacing nodes probabilities rows
       unfolding stepAt onAnswer outcomeOf
       step-halted h = sym (went-on _ _ (rw here at e) v ∙ follow-refused _ _ (sym w ∙ ap (λ (z : Check). outcomeOf z after) h))
 
       -- both
-      pub step-moved : a ≡ check.Passed → movedOf (Value shift) after ≡ stepAt settlement pillars dt step flat count spacing nodes probabilities rows
+      pub step-moved : a ≡ check.Passed → movedOf (Value shift) after ≡ stepAt curve dt step flat count spacing nodes probabilities rows
       unfolding stepAt onAnswer outcomeOf
       step-moved h = sym (went-on _ _ (rw here at e) v ∙ follow-given _ _ (sym w ∙ ap (λ (z : Check). outcomeOf z after) h))
 

@@ -13,16 +13,24 @@ use Rattle.floats.specs.Whole.{roundAt, rounded}
 use Rattle.floats.specs.laws.Whole.{round-answers}
 use Rattle.terms.specs.Numbers.{float}
 use Rattle.terms.specs.Outcomes.{Outcome, given, refused, valued, finiteThen, refuse}
+use Rattle.lattice.specs.declared.Middle.{Middle}
 use Rattle.lattice.specs.declared.Transition.{Transition}
+use Rattle.lattice.specs.declared.node.MadeMiddle.{MadeMiddle}
+use Rattle.lattice.specs.declared.node.MadeMiddle.the-variants as middle
 use Rattle.lattice.specs.declared.node.MadeTransition.{MadeTransition}
 use Rattle.lattice.specs.declared.node.MadeTransition.the-variants.{Made, Refused}
 use Rattle.lattice.specs.Layers.{nodeFloat}
-use Rattle.lattice.specs.Transitions.{Step, tooFar, tooLow, clamped, probabilities, transitionOf}
+use Rattle.lattice.specs.Transitions.{Step, tooFar, tooLow, clamped, probabilities, middleOf, fromMiddle, transitionOf}
 
 -- A transition, or the refusal that was met.
 abbrev pub madeOutcome : MadeTransition → Outcome Transition
 madeOutcome (Made t) = given t
 madeOutcome (Refused r) = refused r
+
+-- A middle, or the refusal that was met.
+abbrev pub middleOutcome : MadeMiddle → Outcome Middle
+middleOutcome (middle.Made m) = given m
+middleOutcome (middle.Refused r) = refused r
 
 abbrev pub stepFrom : Float → Float → Float → Float → Float → ℕ → Step
 stepFrom spacing decay new denominator scale place =
@@ -82,24 +90,21 @@ pub chances-probabilities : (s : Step) (middle : ℤ) (error : Float) → chance
 unfolding chances probabilities
 chances-probabilities s middle error = rw (← six-is, ← three-is)
 
--- From the rounded middle on: 23, error and probabilities.
-unfoldable pub centred : Float → Float → Float → Float → Float → ℕ → Outcome Transition
-centred expectation middle new denominator scale place =
+-- From the middle on: error and probabilities.
+unfoldable pub centred : Middle → Float → Float → Float → ℕ → Outcome Transition
+centred m new denominator scale place =
+    finiteThen (mul binary64 new (m .middle)) place λ centre.
+    finiteThen (sub binary64 (m .expectation) centre) place λ error. chances (m .node) error denominator scale place
+
+pub centred-from : (s : Step) (m : Middle) → centred m (s .newSpacing) (s .denominator) (s .scale) (s .place) ≡ fromMiddle s m
+unfolding centred fromMiddle
+centred-from s m = simp (chances-probabilities s)
+
+-- 23, else the middle, as a node number too.
+unfoldable pub held : Float → Float → ℕ → Outcome Middle
+held expectation middle place =
     cond (tooFar middle) (refuse 23 place)
-    (finiteThen (mul binary64 new middle) place λ centre.
-    finiteThen (sub binary64 expectation centre) place λ error. chances (toSigned 31 middle) error denominator scale place)
-
--- State, expectation and its quotient, rounded.
-unfoldable pub centredFrom : Step → ℤ → Outcome Transition
-centredFrom s node =
-    finiteThen (mul binary64 (s .spacing) (nodeFloat node)) (s .place) λ state.
-    finiteThen (mul binary64 state (s .decay)) (s .place) λ expectation.
-    finiteThen (div binary64 expectation (s .newSpacing)) (s .place) λ quotient.
-    valued (roundAt quotient (s .place)) λ middle. centred expectation middle (s .newSpacing) (s .denominator) (s .scale) (s .place)
-
-pub centred-transition : (s : Step) (node : ℤ) → centredFrom s node ≡ transitionOf s node
-unfolding centredFrom centred transitionOf
-centred-transition s node = simp (chances-probabilities s)
+    (given (record { expectation = expectation; middle = middle; node = toSigned 31 middle }))
 
 -- Where state, expectation and quotient are finite.
 module _ (s : Step) (node : ℤ) where
@@ -113,8 +118,8 @@ module _ (s : Step) (node : ℤ) where
   quotientOf = div binary64 expectationOf (s .newSpacing)
 
   pub from-rounded : T (fits binary64 quotientOf) → notFinite stateOf ≡ false → notFinite expectationOf ≡ false → notFinite quotientOf ≡ false
-      → centredFrom s node ≡ centred expectationOf (rounded quotientOf) (s .newSpacing) (s .denominator) (s .scale) (s .place)
-  unfolding centredFrom onAnswer
+      → middleOf (s .spacing) (s .decay) (s .newSpacing) (s .place) node ≡ held expectationOf (rounded quotientOf) (s .place)
+  unfolding middleOf held onAnswer
   from-rounded f a b c = rw (a, b, round-answers quotientOf (s .place) f (finite-of (finite quotientOf) c), c)
     where
       finite-of : (b : Bool) → not b ≡ false → T b

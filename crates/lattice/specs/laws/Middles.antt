@@ -10,6 +10,7 @@ use lib.Signed.{leZ}
 use lib.Ieee.{Float, binary64, add, sub, mul, div, neg, le, lt, fits, toSigned}
 use lib.Ieee.Fits.{div-fits}
 use lib.Ieee.Scale.{finite}
+use Rattle.floats.specs.declared.Refusal.{Refusal}
 use Rattle.floats.specs.Answers.{plusZero, one, two, onAnswer}
 use Rattle.floats.specs.Extremes.{maxOf}
 use Rattle.floats.specs.Whole.{rounded, roundAt}
@@ -17,18 +18,21 @@ use Rattle.floats.specs.laws.Arithmetic.{mul-mono-left, mul-mono-right, div-mon
 use Rattle.floats.specs.laws.Cuts.{IsWhole, whole-finite}
 use Rattle.floats.specs.laws.Whole.{rounded-mono, rounded-whole, round-answers}
 use Rattle.terms.specs.Numbers.{million}
-use Rattle.terms.specs.Outcomes.{Outcome, given, refused, refuse}
+use Rattle.terms.specs.Outcomes.{Outcome, given, refused, onOutcome, refuse}
+use Rattle.lattice.specs.declared.Middle.{Middle}
 use Rattle.lattice.specs.declared.Transition.{Transition}
+use Rattle.lattice.specs.declared.node.MadeMiddle.{MadeMiddle}
+use Rattle.lattice.specs.declared.node.MadeMiddle.the-variants as made
 use Rattle.lattice.specs.Layers.{below, nodeFloat, insert}
-use Rattle.lattice.specs.Transitions.{Step, tooLow, tooFar, clamped, transitionOf}
+use Rattle.lattice.specs.Transitions.{Step, tooLow, tooFar, clamped, middleOf, fromMiddle, transitionOf}
 use Rattle.lattice.specs.Lattice.{transitionsOf, destinations}
 use Rattle.floats.specs.laws.Finite.{finite-of-mul, positive-of-div}
-use Rattle.terms.specs.laws.Outcomes.{Gives, gives, nothing, gives-follow, gives-finite, gives-cond}
+use Rattle.terms.specs.laws.Outcomes.{Gives, gives, nothing, given-of, gives-follow, gives-finite, gives-cond}
 use Rattle.lattice.specs.laws.Bounds.{Within}
 use Rattle.lattice.specs.laws.IntegerOrder.{up}
 use Rattle.lattice.specs.laws.CastOrder.{cast-mono, middle-within}
 use Rattle.lattice.specs.laws.Gaps.{Gap, gap-of, node-mono}
-use Rattle.lattice.specs.laws.Making.{six, three, shares, clamped-shares, chances, centred, centredFrom, centred-transition, stateOf, expectationOf, quotientOf}
+use Rattle.lattice.specs.laws.Making.{middleOutcome, six, three, shares, clamped-shares, chances, centred, centred-from, held, stateOf, expectationOf, quotientOf}
 use Rattle.lattice.specs.laws.RisingMiddles.{Rising, ends, next, Climbs, none, above, around}
 
 -- ---- one transition
@@ -69,14 +73,6 @@ chances-spread m error denominator scale place =
     gives-cond (tooLow down || (tooLow mid || tooLow up)) _ _ nothing
     (rw (← clamped-shares m down mid up place) (shares-spread m (maxOf down plusZero) (maxOf mid plusZero) (maxOf up plusZero) place))
 
--- What is known of a transition that was made from a node.
-pub record FromNode (s : Step) (n : ℤ) (t : Transition) : Type 0 where
-  pub state-finite : T (finite (stateOf s n))
-  pub expectation-finite : T (finite (expectationOf s n))
-  pub quotient-finite : T (finite (quotientOf s n))
-  pub within : Within (t .middle)
-  pub spread : Spread (toSigned 31 (rounded (quotientOf s n))) t
-
 module _ {B : Type 0} {Q : B → Type 0} where
   -- tests that were false
   gives-neither : (a b : Bool) (q : Outcome B) (n k : ℕ) → (a ≡ false → b ≡ false → Gives Q q) → Gives Q (cond (a || b) (refuse n k) q)
@@ -89,33 +85,85 @@ module _ {A : Type 0} {P Q : A → Type 0} where
   gives-map f (gives {x = x} p) = gives (f x p)
   gives-map f nothing = nothing
 
+-- What is known of a node's middle.
+pub record MiddleFrom (s : Step) (n : ℤ) (m : Middle) : Type 0 where
+  pub state-finite : T (finite (stateOf s n))
+  pub expectation-finite : T (finite (expectationOf s n))
+  pub quotient-finite : T (finite (quotientOf s n))
+  pub is : m ≡ record { expectation = expectationOf s n; middle = rounded (quotientOf s n); node = toSigned 31 (rounded (quotientOf s n)) }
+  pub not-far : tooFar (rounded (quotientOf s n)) ≡ false
+  pub within : Within (m .node)
+
+-- What is known of a transition that was made from a node.
+pub record FromNode (s : Step) (n : ℤ) (t : Transition) : Type 0 where
+  pub state-finite : T (finite (stateOf s n))
+  pub expectation-finite : T (finite (expectationOf s n))
+  pub quotient-finite : T (finite (quotientOf s n))
+  pub within : Within (t .middle)
+  pub spread : Spread (toSigned 31 (rounded (quotientOf s n))) t
+
 module _ (s : Step) (n : ℤ) where
   q-fits : T (fits binary64 (quotientOf s n))
   q-fits = div-fits binary64 (expectationOf s n) (s .newSpacing)
 
-  centred-from : T (finite (stateOf s n)) → T (finite (expectationOf s n)) → T (finite (quotientOf s n)) → Gives (FromNode s n) (centred (expectationOf s n) (rounded (quotientOf s n)) (s .newSpacing) (s .denominator) (s .scale) (s .place))
-  unfolding centred
-  centred-from a b c =
+  held-from : T (finite (stateOf s n)) → T (finite (expectationOf s n)) → T (finite (quotientOf s n)) → Gives (MiddleFrom s n) (held (expectationOf s n) (rounded (quotientOf s n)) (s .place))
+  unfolding held
+  held-from a b c =
       let y = rounded (quotientOf s n) in
       let w = rounded-whole (quotientOf s n) q-fits c in
-      let centre = mul binary64 (s .newSpacing) y in
-      let error = sub binary64 (expectationOf s n) centre in
       gives-neither (lt y (neg million)) (lt million y) _ 23 (s .place) λ low high.
-      gives-finite centre _ _ λ _.
-      gives-finite error _ _ λ _.
-      gives-map
-      (λ t p. record { state-finite = a; expectation-finite = b; quotient-finite = c; within = rw (p .middle) (middle-within y w low high); spread = p })
-      (chances-spread (toSigned 31 y) error (s .denominator) (s .scale) (s .place))
+      gives
+      (record {
+        state-finite = a;
+        expectation-finite = b;
+        quotient-finite = c;
+        is = refl;
+        not-far = rw (low, high);
+        within = middle-within y w low high;
+      })
 
-  from-node : Gives (FromNode s n) (centredFrom s n)
-  unfolding centredFrom onAnswer
-  from-node =
+  pub middle-from : Gives (MiddleFrom s n) (middleOf (s .spacing) (s .decay) (s .newSpacing) (s .place) n)
+  unfolding middleOf held onAnswer
+  middle-from =
       gives-finite (stateOf s n) _ _ λ a.
       gives-finite (expectationOf s n) _ _ λ b.
-      gives-finite (quotientOf s n) _ _ λ c. rw (round-answers (quotientOf s n) (s .place) q-fits c) (centred-from a b c)
+      gives-finite (quotientOf s n) _ _ λ c. rw (round-answers (quotientOf s n) (s .place) q-fits c) (held-from a b c)
+
+  from-middle-spread : (m : Middle) → Gives (Spread (m .node)) (fromMiddle s m)
+  unfolding centred
+  from-middle-spread m =
+      let centre = mul binary64 (s .newSpacing) (m .middle) in
+      let error = sub binary64 (m .expectation) centre in
+      rw (← centred-from s m)
+      (gives-finite centre _ _ λ _.
+      gives-finite error _ _ λ _. chances-spread (m .node) error (s .denominator) (s .scale) (s .place))
+
+  from-node : (m : Middle) → MiddleFrom s n m → (t : Transition) → Spread (m .node) t → FromNode s n t
+  from-node m f t p =
+      record {
+        state-finite = f .state-finite;
+        expectation-finite = f .expectation-finite;
+        quotient-finite = f .quotient-finite;
+        within = rw (p .middle) (f .within);
+        spread = subst (λ (k : Middle). Spread (k .node) t) (f .is) p;
+      }
 
   pub transition-from : Gives (FromNode s n) (transitionOf s n)
-  transition-from = rw (← centred-transition s n) from-node
+  unfolding transitionOf
+  transition-from = gives-follow _ _ middle-from λ m f. gives-map (from-node m f) (from-middle-spread m)
+
+-- What the code makes of a node's middle.
+module _ (s : Step) (n : ℤ) (found : MadeMiddle) (ensured : middleOutcome found ≡ middleOf (s .spacing) (s .decay) (s .newSpacing) (s .place) n) where
+  pub made-within : (m : Middle) → found ≡ made.Made m → Within (m .node)
+  made-within m e = given-of (middle-from s n) (sym ensured ∙ ap middleOutcome e) .within
+
+  pub made-transition : (m : Middle) → found ≡ made.Made m → centred m (s .newSpacing) (s .denominator) (s .scale) (s .place) ≡ transitionOf s n
+  unfolding transitionOf onOutcome
+  made-transition m e = rw (← ensured, e) (centred-from s m)
+
+  pub made-refused : (r : Refusal) → found ≡ made.Refused r → refused r ≡ transitionOf s n
+  unfolding transitionOf onOutcome
+  made-refused r e = rw (← ensured, e)
 
 -- ---- a layer
 

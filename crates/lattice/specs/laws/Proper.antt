@@ -6,7 +6,7 @@ use mathlib.Core.List.{List, [], _∷_}
 use lib.ListN.{length}
 use lib.Dec.{T}
 use lib.IntN.{ℤ}
-use lib.Ieee.{Float, binary64, add, sub, mul, div, le, ofBits, fits, toSigned}
+use lib.Ieee.{Float, binary64, add, sub, mul, div, le, ofBits, fits}
 use lib.Ieee.Bits.{ofBits-fits}
 use lib.Ieee.Fits.{add-fits, sub-fits}
 use lib.Ieee.Scale.{finite}
@@ -15,15 +15,15 @@ use Rattle.floats.specs.laws.Signs.{div-above}
 use Rattle.floats.specs.laws.Extremes.{max-keeps, max-finite, le-max-right}
 use Rattle.floats.specs.Extremes.{maxOf}
 use Rattle.floats.specs.Answers.{plusZero, one, two}
-use Rattle.floats.specs.Whole.{roundAt}
 use Rattle.floats.specs.laws.Finite.{positive-of-div}
 use Rattle.elementary.specs.laws.Values.{Above}
 use Rattle.terms.specs.Outcomes.{given}
 use Rattle.terms.specs.laws.Outcomes.{Gives, gives, nothing, given-of, gives-follow, gives-valued, gives-finite, gives-cond, gives-known}
+use Rattle.lattice.specs.declared.Middle.{Middle}
 use Rattle.lattice.specs.declared.Transition.{Transition}
-use Rattle.lattice.specs.Layers.{Room, nodeFloat}
+use Rattle.lattice.specs.Layers.{Room}
 use Rattle.lattice.specs.Layers as layers
-use Rattle.lattice.specs.Transitions.{Step, sixth, twoThirds, tooLow, tooFar, clamped, probabilities, transitionOf}
+use Rattle.lattice.specs.Transitions.{Step, sixth, twoThirds, tooLow, clamped, probabilities, middleOf, fromMiddle, transitionOf}
 use Rattle.lattice.specs.Lattice.{Layer, Lattice, transitionsOf, destinations, spacingOf, stepOf, grown, rootLayer, allFlat, flatLayer, flat, decayOf, curved, lattice}
 use Rattle.lattice.specs.laws.Shares.{Amount, sum-amount, left-part, right-part, share-at-most-one}
 
@@ -111,20 +111,17 @@ probabilities-weighted s n error =
     gives-cond (tooLow down || (tooLow mid || tooLow up)) _ _ nothing
     (clamped-weighted n down mid up (s .place) f g h (sub-fits binary64 a skew) (sub-fits binary64 twoThirds (mul binary64 term two)) (add-fits binary64 a skew))
 
+from-middle-weighted : (s : Step) (m : Middle) → Gives Weighted (fromMiddle s m)
+unfolding fromMiddle
+from-middle-weighted s m =
+    let centre = mul binary64 (s .newSpacing) (m .middle) in
+    let error = sub binary64 (m .expectation) centre in
+    gives-finite centre _ _ λ _.
+    gives-finite error _ _ λ _. probabilities-weighted s (m .node) error
+
 transition-weighted : (s : Step) (n : ℤ) → Gives Weighted (transitionOf s n)
 unfolding transitionOf
-transition-weighted s n =
-    let state = mul binary64 (s .spacing) (nodeFloat n) in
-    let expectation = mul binary64 state (s .decay) in
-    let quotient = div binary64 expectation (s .newSpacing) in
-    gives-finite state _ _ λ _.
-    gives-finite expectation _ _ λ _.
-    gives-finite quotient _ _ λ _.
-    gives-valued (roundAt quotient (s .place)) _ λ middle.
-    let error = sub binary64 expectation (mul binary64 (s .newSpacing) middle) in
-    gives-cond (tooFar middle) _ _ nothing
-    (gives-finite (mul binary64 (s .newSpacing) middle) _ _ λ _.
-    gives-finite error _ _ λ _. probabilities-weighted s (toSigned 31 middle) error)
+transition-weighted s n = gives-known (middleOf (s .spacing) (s .decay) (s .newSpacing) (s .place) n) _ λ m _. from-middle-weighted s m
 
 -- ---- layer by layer
 transitions-weighted : (s : Step) (nodes : List ℤ) → Gives (Each Weighted) (transitionsOf s nodes)

@@ -16,7 +16,7 @@ use Rattle.terms.specs.declared.Check.the-variants.{Passed, Refused}
 use Rattle.terms.specs.Numbers.{float, amountLimit}
 use Rattle.terms.specs.Terms.{Leg, CallSchedule, SigmaSchedule, Market}
 use Rattle.terms.specs.Checks.{firstOf, single, indexed, noDay, falls, beyond, notAbove, settings, legDays, callDays, within, amountRange, strikeRange, sigmaRange, callOrder, sigmaOrder, lastDay, anyPaid, pillarOrder}
-use Rattle.terms.specs.Entries.{marketChecks, treeChecks}
+use Rattle.terms.specs.Entries.{settingChecks, marketChecks, treeChecks}
 use Rattle.terms.specs.laws.Sequence.{passed-not-refused, indexed-passed, indexed-refused}
 use Rattle.terms.specs.laws.Searching.{below-or-not}
 use Rattle.terms.specs.laws.TermChecks.{LegCounted, SigmaCounted}
@@ -154,9 +154,13 @@ module _ (m : Market) (calls : CallSchedule) (r : Refusal) where
             ]
       ]
 
-  settings-blamed : settings (m .controls) ≡ Refused r → orderCheck m calls (whoseOrder (r .number)) ≡ Refused r
+  settings-blamed : firstOf (settingChecks (m .controls)) ≡ Refused r → orderCheck m calls (whoseOrder (r .number)) ≡ Refused r
   unfolding checksOf whoseOrder
-  settings-blamed = by-number 1 (settings (m .controls)) (search numbers) refl
+  settings-blamed h =
+      elim (first-refused _ _ r h) [
+        | inl e ↦ by-number 1 (settings (m .controls)) (search numbers) refl e
+        | inr a ↦ absurd (none-refused r (a .1))
+      ]
 
 module _ (limit : Float) (m : Market) (calls : CallSchedule) (r : Refusal) (h : marketChecks limit m calls ≡ Refused r) where
   -- 3: settlement, a cashflow, a call or a pillar.

@@ -1,20 +1,19 @@
 -- Which of the tree's checks refused, by the number of the refusal: the settings, then the counts, the days, the numbers and the orders. Assumes nothing.
 use Prim.Native.Nat.{ℕ, _≤_, _<_}
-use mathlib.Core.Path.{_≡_, refl, sym, ap, _∙_}
+use mathlib.Core.Path.{_≡_, refl, sym, _∙_}
 use mathlib.Core.Logic.{_⊎_, inl, inr}
 use mathlib.Core.Bool.{Bool, true, false}
-use mathlib.Core.List.{List, [], _∷_}
+use mathlib.Core.List.{List, [], _∷_, _++_}
 use native.Mathlib.Omega.{arith}
 use borrow.Author.Needs.{needs}
 use lib.Ieee.{Float}
 use Rattle.floats.specs.declared.Refusal.{Refusal}
 use Rattle.terms.specs.declared.Check.{Check}
 use Rattle.terms.specs.declared.Check.the-variants.{Passed, Refused}
-use Rattle.terms.specs.Numbers.{float}
 use Rattle.terms.specs.Terms.{CallSchedule, Market}
-use Rattle.terms.specs.Checks.{onCheck, firstOf, single, lowest, settings, legCount, callCount, sigmaCount, pillarCount, settlementDay, legDays, callDays, pillarDays, unitsRange, within, amountRange, strikeRange, sigmaRange, factorRange, callOrder, sigmaOrder, lastDay, anyPaid, pillarOrder}
-use Rattle.terms.specs.Entries.{marketChecks}
-use Rattle.terms.specs.laws.Sequence.{passed-not-refused, passed-at, lowest-refused}
+use Rattle.terms.specs.Checks.{onCheck, firstOf, single, lowest}
+use Rattle.terms.specs.Entries.{settingChecks, gridCounts, modelCounts, treeCounts, treeDays, treeNumbers, treeOrders, lateChecks, marketChecks}
+use Rattle.terms.specs.laws.Sequence.{passed-not-refused, groups-of-first, lowest-refused}
 use Rattle.terms.specs.laws.TermChecks.{LegCounted, leg-counted, SigmaCounted, sigma-counted}
 use Rattle.terms.specs.laws.CallChecks.{CallCounted, call-counted}
 use Rattle.terms.specs.laws.Stages.{in-stages}
@@ -60,31 +59,18 @@ pub ruleset numbers = (single-numbers, lowest-numbers, none-numbers, first-numbe
 
 module _ (m : Market) (calls : CallSchedule) where
   abbrev pub countChecks : List Check
-  countChecks = legCount (m .bond .leg) ∷ callCount calls ∷ sigmaCount (m .model .sigma) ∷ pillarCount (m .pillars) ∷ []
+  countChecks = treeCounts (m .bond .leg) calls (m .model .sigma) (m .pillars)
 
   abbrev pub dayChecks : List Check
-  dayChecks = settlementDay (m .settlement) ∷ legDays (m .bond .leg) ∷ callDays calls ∷ pillarDays (m .pillars) ∷ []
+  dayChecks = treeDays (m .settlement) (m .bond .leg) calls (m .pillars)
 
   abbrev pub numberChecks : Float → List Check
-  numberChecks limit =
-      unitsRange (m .bond .units)
-      ∷ within (float 10) (m .model .alpha)
-      ∷ within limit (m .spread)
-      ∷ amountRange (m .bond .leg)
-      ∷ strikeRange calls
-      ∷ sigmaRange (m .model .sigma)
-      ∷ factorRange (m .pillars)
-      ∷ []
+  numberChecks limit = treeNumbers limit (m .bond .units) (m .model .alpha) (m .spread) (m .bond .leg) calls (m .model .sigma) (m .pillars)
 
   abbrev pub orderChecks : List Check
-  orderChecks =
-      callOrder calls
-      ∷ sigmaOrder (m .model .sigma)
-      ∷ anyPaid (m .settlement) (m .bond .leg)
-      ∷ pillarOrder (m .settlement) (lastDay (m .bond .leg .days)) (m .pillars)
-      ∷ []
+  orderChecks = treeOrders (m .settlement) (m .bond .leg) calls (m .model .sigma) ++ lateChecks (m .settlement) (m .bond .leg) (m .pillars)
 
-  setting-numbers : Numbers 1 1 (settings (m .controls))
+  setting-numbers : Numbers 1 1 (firstOf (settingChecks (m .controls)))
   setting-numbers = search numbers
 
   count-numbers : Numbers 2 2 (firstOf countChecks)
@@ -107,25 +93,24 @@ module _ (m : Market) (calls : CallSchedule) where
 
   counted : firstOf countChecks ≡ Passed → Counted
   counted h =
-      let at = passed-at countChecks h in
+      let g = groups-of-first (gridCounts (m .bond .leg) calls ∷ modelCounts (m .model .sigma) (m .pillars) ∷ []) h in
       record {
-        leg = leg-counted (m .bond .leg) (at 0);
-        call = call-counted calls (at 1);
-        sigma = sigma-counted (m .model .sigma) (at 2);
+        leg = leg-counted (m .bond .leg) (g .0 .0);
+        call = call-counted calls (g .0 .1 .0);
+        sigma = sigma-counted (m .model .sigma) (g .1 .0 .0);
       }
 
   -- Which group a refusal came from; those before it passed.
   pub data Refusing (limit : Float) (r : Refusal) : Type 0 where
-    by-settings : r .number ≡ 1 → settings (m .controls) ≡ Refused r → Refusing limit r
+    by-settings : r .number ≡ 1 → firstOf (settingChecks (m .controls)) ≡ Refused r → Refusing limit r
     by-counts : r .number ≡ 2 → Refusing limit r
     by-days : r .number ≡ 3 → Counted → firstOf dayChecks ≡ Refused r → Refusing limit r
     by-numbers : r .number ≡ 4 → Counted → firstOf (numberChecks limit) ≡ Refused r → Refusing limit r
     by-orders : 4 < r .number → firstOf orderChecks ≡ Refused r → Refusing limit r
 
-  in-groups : (limit : Float) → marketChecks limit m calls ≡ firstOf (settings (m .controls) ∷ firstOf countChecks ∷ firstOf dayChecks ∷ firstOf (numberChecks limit) ∷ firstOf orderChecks ∷ [])
+  in-groups : (limit : Float) → marketChecks limit m calls ≡ firstOf (firstOf (settingChecks (m .controls)) ∷ firstOf countChecks ∷ firstOf dayChecks ∷ firstOf (numberChecks limit) ∷ firstOf orderChecks ∷ [])
   unfolding marketChecks
-  in-groups limit =
-      ap (onCheck (settings (m .controls)) Refused) (in-stages (countChecks ∷ dayChecks ∷ numberChecks limit ∷ orderChecks ∷ []))
+  in-groups limit = in-stages (settingChecks (m .controls) ∷ countChecks ∷ dayChecks ∷ numberChecks limit ∷ orderChecks ∷ [])
 
   pub refusing : (limit : Float) (r : Refusal) → marketChecks limit m calls ≡ Refused r → Refusing limit r
   refusing limit r h =

@@ -9,7 +9,7 @@ use lib.Ieee.{Float, binary64, sub, neg, le}
 use Rattle.floats.specs.declared.Refusal.{Refusal}
 use Rattle.floats.specs.declared.Answer.{Answer}
 use Rattle.floats.specs.declared.Answer.the-variants as answer
-use Rattle.floats.specs.Answers.{one, numberOf}
+use Rattle.floats.specs.Answers.{one}
 use Rattle.floats.specs.Middle.{midpointAt}
 use Rattle.rounded.specs.Fused.{mulAddAt}
 use Rattle.terms.specs.Numbers.{widthTolerance}
@@ -20,7 +20,7 @@ use Rattle.brackets.specs.declared.Halved.{Halved}
 use Rattle.brackets.specs.declared.Halved.the-variants as halved
 use Rattle.brackets.specs.declared.Root.{Root}
 use Rattle.brackets.specs.declared.Root.the-variants.{Found, Refused}
-use Rattle.brackets.specs.Brackets.{small, raised, widen, halve, onWidened, onHalved, halving, settled, widening, bracketedRoot, rootNumber}
+use Rattle.brackets.specs.Brackets.{small, raised, widen, halve, onWidened, onHalved, halving, settled, widening, bracketedRoot}
 use Rattle.brackets.specs.laws.Cases.{Holds, cases}
 use Rattle.brackets.specs.laws.Roots.{Ends}
 use Rattle.promises.specs.laws.Cells.{fine, cell, Cell, cell-of}
@@ -29,7 +29,8 @@ use Rattle.promises.specs.laws.Narrowing.{midpoint-cell, narrow}
 -- ---- what each outcome keeps: Q holds of the number of every refusal
 
 abbrev Gives : (ℕ → Type 0) → Answer → Type 0
-Gives Q a = Q (numberOf a)
+Gives Q (answer.Value x) = Unit
+Gives Q (answer.Refused r) = Q (r .number)
 
 abbrev HalvedTo : (ℕ → Type 0) → (Bracket → Type 0) → Halved → Type 0
 HalvedTo Q P (halved.Next b) = P b
@@ -42,13 +43,14 @@ WidenedTo Q P (widened.Last b) = P b
 WidenedTo Q P (widened.Refused r n) = Q (r .number)
 
 abbrev pub Settles : (ℕ → Type 0) → Root → Type 0
-Settles Q r = Q (rootNumber r)
+Settles Q (Found x n) = Unit
+Settles Q (Refused r n) = Q (r .number)
 
-module _ (Q : ℕ → Type 0) (of-0 : Q 0) (of-27 : Q 27) (of-29 : Q 29) (objective : Float → Answer) (inside : (x y : Float) → objective x ≡ answer.Value y → T (le (neg one) x) × T (le x one)) (otherwise : (x : Float) (r : Refusal) → objective x ≡ answer.Refused r → Q (r .number)) where
+module _ (Q : ℕ → Type 0) (of-27 : Q 27) (of-29 : Q 29) (objective : Float → Answer) (inside : (x y : Float) → objective x ≡ answer.Value y → T (le (neg one) x) × T (le x one)) (otherwise : (x : Float) (r : Refusal) → objective x ≡ answer.Refused r → Q (r .number)) where
   -- ---- an operation's own refusal is 27
 
   gives-value : (x : Float) → Holds (Gives Q) (answer.Value x)
-  gives-value x = record { it = of-0 }
+  gives-value x = record { it = tt }
 
   gives-27 : (place : ℕ) → Holds (Gives Q) (answer.Refused (record { number = 27; place = place }))
   gives-27 place = record { it = of-27 }
@@ -127,7 +129,7 @@ module _ (Q : ℕ → Type 0) (of-0 : Q 0) (of-27 : Q 27) (of-29 : Q 29) (object
   by-halved : (P : Bracket → Type 0) (go : Bracket → Root) → ((c : Bracket) → P c → Holds (Settles Q) (go c)) → (h : Halved) → Holds (HalvedTo Q P) h → Holds (Settles Q) (onHalved h Refused Found go)
   unfolding onHalved
   by-halved P go p (halved.Next c) w = p c (w .it)
-  by-halved P go p (halved.Found x n) w = record { it = of-0 }
+  by-halved P go p (halved.Found x n) w = record { it = tt }
   by-halved P go p (halved.Refused r n) w = record { it = w .it }
 
   halving-settles : (left : ℕ) (b : Bracket) → Near (2 + 4 * 2 ^ left) b → Holds (Settles Q) (halving objective (suc left) b)
@@ -154,7 +156,7 @@ module _ (Q : ℕ → Type 0) (of-0 : Q 0) (of-27 : Q 27) (of-29 : Q 29) (object
   -- ---- the whole search
 
   found-r : (x : Float) (n : ℕ) → Holds (Settles Q) (Found x n)
-  found-r x n = record { it = of-0 }
+  found-r x n = record { it = tt }
 
   no-bracket : (n : ℕ) → Holds (Settles Q) (Refused (record { number = 29; place = 0 }) n)
   no-bracket n = record { it = of-29 }
@@ -202,6 +204,6 @@ module _ (Q : ℕ → Type 0) (of-0 : Q 0) (of-27 : Q 27) (of-29 : Q 29) (object
   unfolding bracketedRoot
   root-settles lower upper lowest = search (cases, refused-r, widening-from) depth 8
 
-  -- bracketed_root refuses with 27, with 29 or as the objective does; a root has number 0.
-  pub converges : (lower upper lowest : Float) → Q (rootNumber (bracketedRoot objective lower upper lowest))
+  -- bracketed_root refuses with 27, with 29 or as the objective does.
+  pub converges : (lower upper lowest : Float) → Settles Q (bracketedRoot objective lower upper lowest)
   converges lower upper lowest = root-settles lower upper lowest .it

@@ -1,4 +1,4 @@
--- What the input checks of the tree entries and the event grid refuse with has a number of at most 27. Assumes nothing.
+-- What the input checks of the tree entries and the event grid refuse with has a number of the tree value's list. Assumes nothing.
 use Prim.Native.Nat.{ℕ, zero, suc}
 use mathlib.Core.List.{List, [], _∷_}
 use lib.Ieee.{Float}
@@ -9,18 +9,19 @@ use Rattle.bondevents.specs.Steps.{Axis}
 use Rattle.bondevents.specs.Calls.{Entry, callPrice, overSteps, withEntry, overEntries}
 use Rattle.bondevents.specs.Grid.{eventGrid}
 use Rattle.brackets.specs.laws.Cases.{Holds}
-use Rattle.promises.specs.laws.Numbers.{AnswerWithin, OutcomeWithin, CheckWithin, numbers}
+use Rattle.promises.specs.RefusalNumbers.{treeRefusals}
+use Rattle.promises.specs.laws.Numbers.{AnswerAmong, OutcomeAmong, CheckAmong, numbers}
 
 -- The limit is the spread's, or that of the target in its place.
-pub checks-number : (limit : Float) (m : Market) (calls : CallSchedule) → Holds (CheckWithin 27) (marketChecks limit m calls)
+pub checks-number : (limit : Float) (m : Market) (calls : CallSchedule) → Holds (CheckAmong treeRefusals) (marketChecks limit m calls)
 unfolding marketChecks
 checks-number limit m calls = search numbers depth 24
 
-price-number : (a : Axis) (bond : Bond) (e : Entry) (step : ℕ) → Holds (AnswerWithin 27) (callPrice a bond e step)
+price-number : (a : Axis) (bond : Bond) (e : Entry) (step : ℕ) → Holds (AnswerAmong treeRefusals) (callPrice a bond e step)
 unfolding callPrice
 price-number a bond e step = search numbers
 
-steps-number : (count : ℕ) (cs : List CallStep) (a : Axis) (bond : Bond) (e : Entry) (step : ℕ) → Holds (OutcomeWithin 27) (overSteps a bond e count step cs)
+steps-number : (count : ℕ) (cs : List CallStep) (a : Axis) (bond : Bond) (e : Entry) (step : ℕ) → Holds (OutcomeAmong treeRefusals) (overSteps a bond e count step cs)
 unfolding overSteps
 steps-number zero cs a bond e step = search numbers
 steps-number (suc count) [] a bond e step = search numbers
@@ -28,11 +29,11 @@ steps-number (suc count) (c ∷ cs) a bond e step =
     let later = steps-number count cs in
     search (price-number, numbers)
 
-entry-number : (a : Axis) (bond : Bond) (e : Entry) (cs : List CallStep) → Holds (OutcomeWithin 27) (withEntry a bond e cs)
+entry-number : (a : Axis) (bond : Bond) (e : Entry) (cs : List CallStep) → Holds (OutcomeAmong treeRefusals) (withEntry a bond e cs)
 unfolding withEntry
 entry-number a bond e cs = search (steps-number, numbers)
 
-entries-number : (starts ends : List ℕ) (strikes : List Float) (a : Axis) (bond : Bond) (cs : List CallStep) → Holds (OutcomeWithin 27) (overEntries a bond starts ends strikes cs)
+entries-number : (starts ends : List ℕ) (strikes : List Float) (a : Axis) (bond : Bond) (cs : List CallStep) → Holds (OutcomeAmong treeRefusals) (overEntries a bond starts ends strikes cs)
 unfolding overEntries
 entries-number (s ∷ starts) (e ∷ ends) (k ∷ strikes) a bond cs =
     let later = entries-number starts ends strikes in
@@ -41,6 +42,6 @@ entries-number (s ∷ starts) (e ∷ ends) [] a bond cs = search numbers
 entries-number (s ∷ starts) [] strikes a bond cs = search numbers
 entries-number [] ends strikes a bond cs = search numbers
 
-pub grid-number : (settlement : ℕ) (bond : Bond) (calls : CallSchedule) (controls : TimeGrid) → Holds (OutcomeWithin 27) (eventGrid settlement bond calls controls)
+pub grid-number : (settlement : ℕ) (bond : Bond) (calls : CallSchedule) (controls : TimeGrid) → Holds (OutcomeAmong treeRefusals) (eventGrid settlement bond calls controls)
 unfolding eventGrid
 grid-number settlement bond calls controls = search (entries-number, numbers)

@@ -1,4 +1,4 @@
--- What the variances, the transitions and the layers refuse with has a number of at most 27 that isn't 24. Assumes nothing.
+-- What the variances, the transitions and the layers refuse with has a number of the tree value's list. Assumes nothing.
 use Prim.Native.Nat.{ℕ, zero, suc}
 use mathlib.Core.List.{List, [], _∷_}
 use lib.IntN.{ℤ}
@@ -11,19 +11,20 @@ use Rattle.lattice.specs.Lattice.{transitionsOf, stepOf, grown, flat, curved, l
 use Rattle.terms.specs.Outcomes.{Outcome}
 use Rattle.chances.specs.laws.NeverTooLow.{Only23Or27, was-given, too-far, not-finite, SpacedStep, transition-only, made-spaced}
 use Rattle.brackets.specs.laws.Cases.{Holds}
-use Rattle.promises.specs.laws.Numbers.{AnswerWithin, OutcomeWithin, then-known, numbers}
+use Rattle.promises.specs.RefusalNumbers.{treeRefusals}
+use Rattle.promises.specs.laws.Numbers.{AnswerAmong, OutcomeAmong, then-known, numbers}
 use Rattle.promises.specs.laws.ElementaryNumbers.{exp-number, expM1-number, sqrt-number}
 
 -- ---- variances
 
-weight-number : (alpha lower upper end : Float) (place : ℕ) → Holds (AnswerWithin 27) (weight alpha lower upper end place)
+weight-number : (alpha lower upper end : Float) (place : ℕ) → Holds (AnswerAmong treeRefusals) (weight alpha lower upper end place)
 weight-number alpha lower upper end place = search (exp-number, expM1-number, numbers) depth 24
 
-piece-number : (alpha lower upper end sigma total : Float) (place : ℕ) → Holds (AnswerWithin 27) (withPiece alpha lower upper end sigma total place)
+piece-number : (alpha lower upper end sigma total : Float) (place : ℕ) → Holds (AnswerAmong treeRefusals) (withPiece alpha lower upper end sigma total place)
 unfolding withPiece
 piece-number alpha lower upper end sigma total place = search (weight-number, numbers) depth 24
 
-pieces-number : (times sigmas : List Float) (alpha start end lower total : Float) (place : ℕ) → Holds (AnswerWithin 27) (pieces alpha start end lower times sigmas total place)
+pieces-number : (times sigmas : List Float) (alpha start end lower total : Float) (place : ℕ) → Holds (AnswerAmong treeRefusals) (pieces alpha start end lower times sigmas total place)
 unfolding pieces
 pieces-number (next ∷ times) (sigma ∷ sigmas) alpha start end lower total place =
     let later = pieces-number times sigmas in
@@ -32,16 +33,16 @@ pieces-number [] (sigma ∷ sigmas) alpha start end lower total place = piece-nu
 pieces-number (next ∷ times) [] alpha start end lower total place = search numbers
 pieces-number [] [] alpha start end lower total place = search numbers
 
-variance-number : (alpha : Float) (times sigmas : List Float) (start end : Float) (place : ℕ) → Holds (AnswerWithin 27) (varianceOver alpha times sigmas start end place)
+variance-number : (alpha : Float) (times sigmas : List Float) (start end : Float) (place : ℕ) → Holds (AnswerAmong treeRefusals) (varianceOver alpha times sigmas start end place)
 unfolding varianceOver
 variance-number alpha (first ∷ times) sigmas start end place = pieces-number times sigmas alpha start end start _ place
 variance-number alpha [] sigmas start end place = search numbers
 
-step-variance-number : (model : HullWhite) (dt : Float) (k : ℕ) → Holds (AnswerWithin 27) (stepVariance model dt k)
+step-variance-number : (model : HullWhite) (dt : Float) (k : ℕ) → Holds (AnswerAmong treeRefusals) (stepVariance model dt k)
 unfolding stepVariance
 step-variance-number model dt k = search (variance-number, numbers)
 
-pub variances-number : (model : HullWhite) (dt : Float) (count k : ℕ) → Holds (OutcomeWithin 27) (variancesFrom model dt count k)
+pub variances-number : (model : HullWhite) (dt : Float) (count k : ℕ) → Holds (OutcomeAmong treeRefusals) (variancesFrom model dt count k)
 unfolding variancesFrom
 variances-number model dt zero k = search numbers
 variances-number model dt (suc count) k =
@@ -51,15 +52,15 @@ variances-number model dt (suc count) k =
 -- ---- transitions
 
 -- a step that is made never meets 24
-transition-number : (s : Step) → SpacedStep s → (node : ℤ) → Holds (OutcomeWithin 27) (transitionOf s node)
+transition-number : (s : Step) → SpacedStep s → (node : ℤ) → Holds (OutcomeAmong treeRefusals) (transitionOf s node)
 transition-number s sp node = go (transition-only s sp node)
   where
-    go : {A : Type 0} {o : Outcome A} → Only23Or27 o → Holds (OutcomeWithin 27) o
+    go : {A : Type 0} {o : Outcome A} → Only23Or27 o → Holds (OutcomeAmong treeRefusals) o
     go was-given = search numbers
     go too-far = search numbers
     go not-finite = search numbers
 
-transitions-number : (s : Step) → SpacedStep s → (nodes : List ℤ) → Holds (OutcomeWithin 27) (transitionsOf s nodes)
+transitions-number : (s : Step) → SpacedStep s → (nodes : List ℤ) → Holds (OutcomeAmong treeRefusals) (transitionsOf s nodes)
 unfolding transitionsOf
 transitions-number s sp [] = search numbers
 transitions-number s sp (n ∷ ns) =
@@ -69,11 +70,11 @@ transitions-number s sp (n ∷ ns) =
 
 -- ---- layers
 
-step-number : (spacing decay variance : Float) (k : ℕ) → Holds (OutcomeWithin 27) (stepOf spacing decay variance k)
+step-number : (spacing decay variance : Float) (k : ℕ) → Holds (OutcomeAmong treeRefusals) (stepOf spacing decay variance k)
 unfolding stepOf
 step-number spacing decay variance k = search (sqrt-number, numbers) depth 24
 
-grown-number : (variances : List Float) (room : Room) (decay spacing : Float) (before : ℕ) (nodes : List ℤ) (k : ℕ) → Holds (OutcomeWithin 27) (grown room decay spacing before nodes k variances)
+grown-number : (variances : List Float) (room : Room) (decay spacing : Float) (before : ℕ) (nodes : List ℤ) (k : ℕ) → Holds (OutcomeAmong treeRefusals) (grown room decay spacing before nodes k variances)
 unfolding grown
 grown-number [] room decay spacing before nodes k = search numbers
 grown-number (v ∷ vs) room decay spacing before nodes k =
@@ -82,18 +83,18 @@ grown-number (v ∷ vs) room decay spacing before nodes k =
     let now = transitions-number s (made-spaced spacing decay v k s e) nodes in
     search numbers
 
-flat-number : (left : ℕ) (room : Room) (k : ℕ) → Holds (OutcomeWithin 27) (flat room k left)
+flat-number : (left : ℕ) (room : Room) (k : ℕ) → Holds (OutcomeAmong treeRefusals) (flat room k left)
 unfolding flat
 flat-number zero room k = search numbers
 flat-number (suc left) room k =
     let later = flat-number left in
     search numbers
 
-curved-number : (room : Room) (alpha dt : Float) (variances : List Float) → Holds (OutcomeWithin 27) (curved room alpha dt variances)
+curved-number : (room : Room) (alpha dt : Float) (variances : List Float) → Holds (OutcomeAmong treeRefusals) (curved room alpha dt variances)
 unfolding curved
 curved-number room alpha dt [] = search numbers
 curved-number room alpha dt (v ∷ vs) = search (exp-number, sqrt-number, grown-number, numbers)
 
-pub lattice-number : (room : Room) (alpha dt : Float) (variances : List Float) → Holds (OutcomeWithin 27) (lattice room alpha dt variances)
+pub lattice-number : (room : Room) (alpha dt : Float) (variances : List Float) → Holds (OutcomeAmong treeRefusals) (lattice room alpha dt variances)
 unfolding lattice
 lattice-number room alpha dt variances = search (flat-number, curved-number, numbers)

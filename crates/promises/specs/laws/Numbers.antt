@@ -1,83 +1,78 @@
--- What a bound on a refusal's number, which isn't 24, says of an answer, an outcome and a check, and how it passes from the parts of a definition to the whole. Assumes nothing.
-use Prim.Native.Nat.{ℕ, zero, suc, _≤_}
-use mathlib.Core.Path.{_≡_, refl, subst}
-use mathlib.Core.Bool.{Bool, true, false}
-use native.Mathlib.Omega.{arith}
-use borrow.Author.Tests.{leb-true, eqb-false}
-use lib.Dec.{leb, eqb}
+-- That a refusal's number is one of a list: what it says of an answer, an outcome and a check, and how it passes from the parts of a definition to the whole. Assumes nothing.
+use Prim.Native.Nat.{ℕ, zero, suc}
+use mathlib.Core.Path.{_≡_, refl, sym, subst}
+use mathlib.Core.Bool.{Bool, true, false, _||_}
+use mathlib.Core.List.{List, _∷_}
+use lib.Dec.{T, eqb}
 use lib.Ieee.{Float}
 use Rattle.floats.specs.declared.Refusal.{Refusal}
 use Rattle.floats.specs.declared.Answer.{Answer}
 use Rattle.floats.specs.declared.Answer.the-variants as answer
-use Rattle.floats.specs.Answers.{numberOf, onAnswer}
+use Rattle.floats.specs.Answers.{onAnswer}
 use Rattle.terms.specs.declared.Check.{Check}
 use Rattle.terms.specs.declared.Check.the-variants as check
 use Rattle.terms.specs.Checks.{onCheck, lowest}
 use Rattle.terms.specs.Outcomes.{Outcome, given, refused, onOutcome}
 use Rattle.brackets.specs.laws.Cases.{Holds, of-cond, of-answer}
+use Rattle.promises.specs.RefusalNumbers.{member, Among}
 
--- ---- a bound on the number; what is no refusal has number 0
+-- ---- a number of a list; what is no refusal has none
 
--- k is at most n, and isn't 24.
-pub record Allowed (n k : ℕ) : Type 0 where
-  pub at-most : k ≤ n
-  pub not-24 : k ≡ 24 → ⊥
+-- at a numeral and a list of numerals the test computes
+pub one-of : {ns : List ℕ} (n : ℕ) → member n ns ≡ true → Among ns n
+one-of n e = record { is-one = subst T (sym e) tt }
 
--- at two numerals both tests compute
-pub allowed : (n k : ℕ) → leb k n ≡ true → eqb k 24 ≡ false → Allowed n k
-allowed n k a b = record { at-most = leb-true k n a; not-24 = eqb-false k 24 b }
+or-also : (b c : Bool) → T c → T (b || c)
+or-also true c h = tt
+or-also false c h = h
 
-pub no-refusal : (n : ℕ) → Allowed n 0
-no-refusal n = record { at-most = omega arith; not-24 = λ (e : _≡_ {A = ℕ} 0 24). omega arith }
+-- A longer list.
+pub one-more : {ns : List ℕ} (k n : ℕ) → Among ns n → Among (k ∷ ns) n
+one-more {ns} k n h = record { is-one = or-also (eqb n k) (member n ns) (h .is-one) }
 
-abbrev pub outcomeNumber : {A : Type 0} → Outcome A → ℕ
-outcomeNumber (given x) = 0
-outcomeNumber (refused r) = r .number
+abbrev pub AnswerAmong : List ℕ → Answer → Type 0
+AnswerAmong ns (answer.Value x) = Unit
+AnswerAmong ns (answer.Refused r) = Among ns (r .number)
 
-abbrev pub checkNumber : Check → ℕ
-checkNumber check.Passed = 0
-checkNumber (check.Refused r) = r .number
+abbrev pub OutcomeAmong : {A : Type 0} → List ℕ → Outcome A → Type 0
+OutcomeAmong ns (given x) = Unit
+OutcomeAmong ns (refused r) = Among ns (r .number)
 
-abbrev pub AnswerWithin : ℕ → Answer → Type 0
-AnswerWithin n a = Allowed n (numberOf a)
-
-abbrev pub OutcomeWithin : {A : Type 0} → ℕ → Outcome A → Type 0
-OutcomeWithin n a = Allowed n (outcomeNumber a)
-
-abbrev pub CheckWithin : ℕ → Check → Type 0
-CheckWithin n c = Allowed n (checkNumber c)
+abbrev pub CheckAmong : List ℕ → Check → Type 0
+CheckAmong ns check.Passed = Unit
+CheckAmong ns (check.Refused r) = Among ns (r .number)
 
 -- ---- values and refusals
 
-pub value-answer : {n : ℕ} (x : Float) → Holds (AnswerWithin n) (answer.Value x)
-value-answer {n} x = record { it = no-refusal n }
+pub value-answer : {ns : List ℕ} (x : Float) → Holds (AnswerAmong ns) (answer.Value x)
+value-answer x = record { it = tt }
 
-pub refuse-answer : {n : ℕ} (r : Refusal) → Allowed n (r .number) → Holds (AnswerWithin n) (answer.Refused r)
+pub refuse-answer : {ns : List ℕ} (r : Refusal) → Among ns (r .number) → Holds (AnswerAmong ns) (answer.Refused r)
 refuse-answer r h = record { it = h }
 
-pub give-outcome : {A : Type 0} {n : ℕ} (x : A) → Holds (OutcomeWithin n) (given x)
-give-outcome {A} {n} x = record { it = no-refusal n }
+pub give-outcome : {A : Type 0} {ns : List ℕ} (x : A) → Holds (OutcomeAmong ns) (given x)
+give-outcome x = record { it = tt }
 
-pub refuse-outcome : {A : Type 0} {n : ℕ} (r : Refusal) → Allowed n (r .number) → Holds (OutcomeWithin {A = A} n) (refused r)
+pub refuse-outcome : {A : Type 0} {ns : List ℕ} (r : Refusal) → Among ns (r .number) → Holds (OutcomeAmong {A = A} ns) (refused r)
 refuse-outcome r h = record { it = h }
 
-pub pass-check : {n : ℕ} → Holds (CheckWithin n) check.Passed
-pass-check {n} = record { it = no-refusal n }
+pub pass-check : {ns : List ℕ} → Holds (CheckAmong ns) check.Passed
+pass-check = record { it = tt }
 
-pub refuse-check : {n : ℕ} (r : Refusal) → Allowed n (r .number) → Holds (CheckWithin n) (check.Refused r)
+pub refuse-check : {ns : List ℕ} (r : Refusal) → Among ns (r .number) → Holds (CheckAmong ns) (check.Refused r)
 refuse-check r h = record { it = h }
 
--- ---- what holds of a part's refusals within the bound, and of what follows its value, holds of both
+-- ---- what holds of a part's refusals of the list, and of what follows its value, holds of both
 
-pub on-answer : {A : Type 0} {P : A → Type 0} {n : ℕ} (a : Answer) (f : Refusal → A) (k : Float → A) → Holds (AnswerWithin n) a → ((r : Refusal) → Allowed n (r .number) → Holds P (f r)) → ((x : Float) → Holds P (k x)) → Holds P (onAnswer a f k)
-on-answer {n = n} a f k h p q = of-answer a f k (λ r e. p r (subst (AnswerWithin n) e (h .it))) (λ x e. q x)
+pub on-answer : {A : Type 0} {P : A → Type 0} {ns : List ℕ} (a : Answer) (f : Refusal → A) (k : Float → A) → Holds (AnswerAmong ns) a → ((r : Refusal) → Among ns (r .number) → Holds P (f r)) → ((x : Float) → Holds P (k x)) → Holds P (onAnswer a f k)
+on-answer {ns = ns} a f k h p q = of-answer a f k (λ r e. p r (subst (AnswerAmong ns) e (h .it))) (λ x e. q x)
 
-pub on-outcome : {A B : Type 0} {P : B → Type 0} {n : ℕ} (a : Outcome A) (f : Refusal → B) (k : A → B) → Holds (OutcomeWithin n) a → ((r : Refusal) → Allowed n (r .number) → Holds P (f r)) → ((x : A) → Holds P (k x)) → Holds P (onOutcome a f k)
+pub on-outcome : {A B : Type 0} {P : B → Type 0} {ns : List ℕ} (a : Outcome A) (f : Refusal → B) (k : A → B) → Holds (OutcomeAmong ns) a → ((r : Refusal) → Among ns (r .number) → Holds P (f r)) → ((x : A) → Holds P (k x)) → Holds P (onOutcome a f k)
 unfolding onOutcome
 on-outcome (given x) f k h p q = q x
 on-outcome (refused r) f k h p q = p r (h .it)
 
-pub on-check : {A : Type 0} {P : A → Type 0} {n : ℕ} (c : Check) (f : Refusal → A) (x : A) → Holds (CheckWithin n) c → ((r : Refusal) → Allowed n (r .number) → Holds P (f r)) → Holds P x → Holds P (onCheck c f x)
+pub on-check : {A : Type 0} {P : A → Type 0} {ns : List ℕ} (c : Check) (f : Refusal → A) (x : A) → Holds (CheckAmong ns) c → ((r : Refusal) → Among ns (r .number) → Holds P (f r)) → Holds P x → Holds P (onCheck c f x)
 unfolding onCheck
 on-check check.Passed f x h p q = q
 on-check (check.Refused r) f x h p q = p r (h .it)
@@ -85,33 +80,33 @@ on-check (check.Refused r) f x h p q = p r (h .it)
 -- ---- the same where the refusal is handed up, as `search` wants it; whenFinite, finiteThen, tested and single open to cond
 
 -- andThen
-pub then-answer : {n : ℕ} (a : Answer) (k : Float → Answer) → Holds (AnswerWithin n) a → ((x : Float) → Holds (AnswerWithin n) (k x)) → Holds (AnswerWithin n) (onAnswer a answer.Refused k)
+pub then-answer : {ns : List ℕ} (a : Answer) (k : Float → Answer) → Holds (AnswerAmong ns) a → ((x : Float) → Holds (AnswerAmong ns) (k x)) → Holds (AnswerAmong ns) (onAnswer a answer.Refused k)
 then-answer a k h = on-answer a answer.Refused k h refuse-answer
 
 -- valued
-pub then-valued : {A : Type 0} {n : ℕ} (a : Answer) (k : Float → Outcome A) → Holds (AnswerWithin n) a → ((x : Float) → Holds (OutcomeWithin n) (k x)) → Holds (OutcomeWithin n) (onAnswer a refused k)
+pub then-valued : {A : Type 0} {ns : List ℕ} (a : Answer) (k : Float → Outcome A) → Holds (AnswerAmong ns) a → ((x : Float) → Holds (OutcomeAmong ns) (k x)) → Holds (OutcomeAmong ns) (onAnswer a refused k)
 then-valued a k h = on-answer a refused k h refuse-outcome
 
 -- follow
-pub then-outcome : {A B : Type 0} {n : ℕ} (a : Outcome A) (k : A → Outcome B) → Holds (OutcomeWithin n) a → ((x : A) → Holds (OutcomeWithin n) (k x)) → Holds (OutcomeWithin n) (onOutcome a refused k)
+pub then-outcome : {A B : Type 0} {ns : List ℕ} (a : Outcome A) (k : A → Outcome B) → Holds (OutcomeAmong ns) a → ((x : A) → Holds (OutcomeAmong ns) (k x)) → Holds (OutcomeAmong ns) (onOutcome a refused k)
 then-outcome a k h = on-outcome a refused k h refuse-outcome
 
 -- follow, where what is given is known
-pub then-known : {A B : Type 0} {n : ℕ} (a : Outcome A) (k : A → Outcome B) → Holds (OutcomeWithin n) a → ((x : A) → a ≡ given x → Holds (OutcomeWithin n) (k x)) → Holds (OutcomeWithin n) (onOutcome a refused k)
+pub then-known : {A B : Type 0} {ns : List ℕ} (a : Outcome A) (k : A → Outcome B) → Holds (OutcomeAmong ns) a → ((x : A) → a ≡ given x → Holds (OutcomeAmong ns) (k x)) → Holds (OutcomeAmong ns) (onOutcome a refused k)
 unfolding onOutcome
 then-known (given x) k h q = q x refl
 then-known (refused r) k h q = refuse-outcome r (h .it)
 
 -- firstOf, which opens to these
-pub then-check : {n : ℕ} (c d : Check) → Holds (CheckWithin n) c → Holds (CheckWithin n) d → Holds (CheckWithin n) (onCheck c check.Refused d)
+pub then-check : {ns : List ℕ} (c d : Check) → Holds (CheckAmong ns) c → Holds (CheckAmong ns) d → Holds (CheckAmong ns) (onCheck c check.Refused d)
 then-check c d h = on-check c check.Refused d h refuse-check
 
 -- indexed
-pub lowest-check : {n : ℕ} (number : ℕ) (bad : ℕ → Bool) (count i : ℕ) → Allowed n number → Holds (CheckWithin n) (lowest number bad count i)
+pub lowest-check : {ns : List ℕ} (number : ℕ) (bad : ℕ → Bool) (count i : ℕ) → Among ns number → Holds (CheckAmong ns) (lowest number bad count i)
 unfolding lowest
 lowest-check number bad zero i h = pass-check
 lowest-check number bad (suc count) i h =
     let later = lowest-check number bad count (suc i) h in
     search (of-cond, refuse-check)
 
-pub ruleset numbers = (allowed, of-cond, value-answer, refuse-answer, give-outcome, refuse-outcome, pass-check, refuse-check, then-answer, then-valued, then-outcome, then-check, lowest-check)
+pub ruleset numbers = (one-of, of-cond, value-answer, refuse-answer, give-outcome, refuse-outcome, pass-check, refuse-check, then-answer, then-valued, then-outcome, then-check, lowest-check)

@@ -1,8 +1,7 @@
--- What spread from price refuses with is at most 27 and not 24, or 29, or 36. Assumes nothing.
-use Prim.Native.Nat.{ℕ, _≤_}
+-- What spread from price refuses with has a number of its list, on which 24 and 30 are not. Assumes nothing.
+use Prim.Native.Nat.{ℕ}
 use mathlib.Core.Path.{_≡_, refl, subst}
-use mathlib.Core.Logic.{_⊎_, inl, inr}
-use native.Mathlib.Omega.{arith}
+use mathlib.Core.List.{_∷_}
 use lib.Dec.{T}
 use lib.Ieee.{Float, binary64, ofBits, ofInt, sub, neg, lt, le}
 use Rattle.floats.specs.declared.Refusal.{Refusal}
@@ -23,24 +22,29 @@ use Rattle.lattice.specs.Layers.{Room}
 use Rattle.treebasedbondpricer.specs.declared.TreeValue.{TreeValue}
 use Rattle.treebasedbondpricer.specs.declared.TreeValue.the-variants as tree
 use Rattle.treebasedbondpricer.specs.Tree.{treeValue}
-use Rattle.brackets.specs.declared.Root.the-variants.{Refused}
+use Rattle.brackets.specs.declared.Root.{Root}
+use Rattle.brackets.specs.declared.Root.the-variants.{Found, Refused}
 use Rattle.brackets.specs.Brackets.{rootNumber}
 use Rattle.brackets.specs.laws.Cases.{Holds, of-cond}
 use Rattle.sought.specs.Objectives.{firstLower, firstUpper}
 use Rattle.spreads.specs.Spreads.{onTreeValue, spreadObjective, solveSpread, spreadFromPrice}
+use Rattle.promises.specs.RefusalNumbers.{Among, treeRefusals, spreadRefusals, SpreadNumbers}
 use Rattle.promises.specs.laws.Converges.{Settles, converges}
-use Rattle.promises.specs.laws.Numbers.{Allowed, allowed, on-check}
+use Rattle.promises.specs.laws.Numbers.{one-of, one-more, on-check}
 use Rattle.promises.specs.laws.GridNumbers.{checks-number}
-use Rattle.promises.specs.laws.TreeNumbers.{tree-allowed}
+use Rattle.promises.specs.laws.TreeNumbers.{tree-numbers}
 
--- A spread that is found has number 0.
-abbrev Among : ℕ → Type 0
-Among n = Allowed 27 n ⊎ ((n ≡ 29) ⊎ (n ≡ 36))
+abbrev SpreadAmong : ℕ → Type 0
+SpreadAmong = Among spreadRefusals
+
+-- The tree value's are there too.
+of-tree : (n : ℕ) → Among treeRefusals n → SpreadAmong n
+of-tree n h = one-more 29 n (one-more 36 n h)
 
 -- A tried spread with a value is within ±1.
 abbrev Tried : Float → Answer → Type 0
 Tried s (answer.Value y) = PlusMinus (float 1) s
-Tried s (answer.Refused r) = Among (r .number)
+Tried s (answer.Refused r) = SpreadAmong (r .number)
 
 -- What has a value has passed its checks.
 passed : (c : Check) (v : TreeValue) (x : Float) (n : ℕ) → onCheck c tree.Refused v ≡ tree.Value x n → c ≡ check.Passed
@@ -58,34 +62,38 @@ module _ (m : Market) (calls : CallSchedule) (room : Room) where
 
   tried : (s : Float) → Holds (Tried s) (difference s)
   unfolding spreadObjective onTreeValue
-  tried s = of-cond (lt one s) _ _ (λ t. record { it = inr (inr refl) }) (λ t. over (treeValue (withSpread m s) calls room) refl)
+  tried s = of-cond (lt one s) _ _ (λ t. record { it = one-of 36 refl }) (λ t. over (treeValue (withSpread m s) calls room) refl)
     where
       over : (v : TreeValue) → treeValue (withSpread m s) calls room ≡ v → Holds (Tried s) (onTreeValue v answer.Refused λ x. tested (sub binary64 x (m .spread)) 0)
-      over (tree.Value x n) e = of-cond (notFinite (sub binary64 x (m .spread))) _ _ (λ t. record { it = inl (allowed 27 27 refl refl) }) (λ t. record { it = valued s x n e })
-      over (tree.Refused q) e = record { it = inl (tree-allowed (withSpread m s) calls room q e) }
+      over (tree.Value x n) e = of-cond (notFinite (sub binary64 x (m .spread))) _ _ (λ t. record { it = one-of 27 refl }) (λ t. record { it = valued s x n e })
+      over (tree.Refused q) e = record { it = of-tree (q .number) (tree-numbers (withSpread m s) calls room q e) }
 
   tried-within : (s y : Float) → difference s ≡ answer.Value y → T (le (neg one) s) × T (le s one)
   unfolding ofBits ofInt
   tried-within s y e = let p = subst (Tried s) e (tried s .it) in (p .at-least, p .at-most)
 
-  tried-number : (s : Float) (r : Refusal) → difference s ≡ answer.Refused r → Among (r .number)
+  tried-number : (s : Float) (r : Refusal) → difference s ≡ answer.Refused r → SpreadAmong (r .number)
   tried-number s r e = subst (Tried s) e (tried s .it)
 
-  solved : Settles Among (solveSpread m calls room (m .spread))
-  solved = converges Among (inl (allowed 27 0 refl refl)) (inl (allowed 27 27 refl refl)) (inr (inl refl)) difference tried-within tried-number firstLower firstUpper (neg one)
+  solved : Settles SpreadAmong (solveSpread m calls room (m .spread))
+  solved = converges SpreadAmong (one-of 27 refl) (one-of 29 refl) difference tried-within tried-number firstLower firstUpper (neg one)
 
-  spread-number : Settles Among (spreadFromPrice m calls room)
+  spread-number : Settles SpreadAmong (spreadFromPrice m calls room)
   unfolding spreadFromPrice spreadChecks
-  spread-number = on-check {P = Settles Among} (spreadChecks m calls) _ _ (checks-number targetLimit m calls) (λ r l. record { it = inl l }) (record { it = solved }) .it
+  spread-number = on-check {P = Settles SpreadAmong} (spreadChecks m calls) _ _ (checks-number targetLimit m calls) (λ r l. record { it = of-tree (r .number) l }) (record { it = solved }) .it
 
--- A refusal is at most 27, or 29, or 36.
-pub spread-numbers : (m : Market) (calls : CallSchedule) (room : Room) (q : Refusal) (n : ℕ) → spreadFromPrice m calls room ≡ Refused q n → (q .number ≤ 27) ⊎ ((q .number ≡ 29) ⊎ (q .number ≡ 36))
-spread-numbers m calls room q n e = elim (subst (Settles Among) e (spread-number m calls room)) [ inl h ↦ inl (h .at-most) | inr h ↦ inr h ]
+pub spread-numbers : SpreadNumbers
+spread-numbers m calls room q n e = subst (Settles SpreadAmong) e (spread-number m calls room)
+
+-- A spread that is found has number 0.
+or-0 : (r : Root) → Settles SpreadAmong r → Among (0 ∷ spreadRefusals) (rootNumber r)
+or-0 (Found x n) h = one-of 0 refl
+or-0 (Refused q n) h = one-more 0 (q .number) h
 
 -- 24 is never given.
 pub spread-never-24 : (m : Market) (calls : CallSchedule) (room : Room) → rootNumber (spreadFromPrice m calls room) ≡ 24 → ⊥
-spread-never-24 m calls room e = elim (spread-number m calls room) [ inl h ↦ h .not-24 e | inr (inl h) ↦ omega arith | inr (inr h) ↦ omega arith ]
+spread-never-24 m calls room e = subst (Among (0 ∷ spreadRefusals)) e (or-0 (spreadFromPrice m calls room) (spread-number m calls room)) .is-one
 
 -- 30 is never given: every spread that has a value lies within ±1, where halving a bracket reaches 1e-14 in time.
 pub spread-never-30 : (m : Market) (calls : CallSchedule) (room : Room) → rootNumber (spreadFromPrice m calls room) ≡ 30 → ⊥
-spread-never-30 m calls room e = elim (spread-number m calls room) [ inl h ↦ (let k = h .at-most in omega arith) | inr (inl h) ↦ omega arith | inr (inr h) ↦ omega arith ]
+spread-never-30 m calls room e = subst (Among (0 ∷ spreadRefusals)) e (or-0 (spreadFromPrice m calls room) (spread-number m calls room)) .is-one

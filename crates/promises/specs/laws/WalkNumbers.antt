@@ -1,9 +1,8 @@
--- What the curve, the fit and the walk refuse with has a number of at most 27. Assumes nothing.
+-- What the curve, the fit and the walk refuse with has a number of the tree value's list. Assumes nothing.
 use Prim.Native.Nat.{ℕ}
 use mathlib.Core.List.{List, [], _∷_}
 use lib.IntN.{ℤ}
 use lib.Ieee.{Float}
-use Rattle.terms.specs.Terms.{Pillars}
 use Rattle.terms.specs.Curve.{curveOver}
 use Rattle.bondevents.specs.declared.CallStep.{CallStep}
 use Rattle.lattice.specs.declared.Transition.{Transition}
@@ -12,46 +11,47 @@ use Rattle.lattice.specs.Lattice.{Layer}
 use Rattle.forwardinduction.specs.Fit.{weighted, shiftOf, contribute, contributeThree, onward, shiftsFrom}
 use Rattle.backwardinduction.specs.Walk.{Reads, expected, discountOf, nodeValue, rolled, walkFrom}
 use Rattle.brackets.specs.laws.Cases.{Holds}
-use Rattle.promises.specs.laws.Numbers.{AnswerWithin, OutcomeWithin, numbers}
+use Rattle.promises.specs.RefusalNumbers.{treeRefusals}
+use Rattle.promises.specs.laws.Numbers.{AnswerAmong, OutcomeAmong, numbers}
 use Rattle.promises.specs.laws.ElementaryNumbers.{exp-number, ln-number}
 
 -- ---- curve
 
-curve-number : (settlement : ℕ) (days : List ℕ) (factors : List Float) (t : Float) (place : ℕ) → Holds (AnswerWithin 27) (curveOver settlement days factors t place)
+curve-number : (times factors : List Float) (t : Float) (place : ℕ) → Holds (AnswerAmong treeRefusals) (curveOver times factors t place)
 unfolding curveOver
-curve-number settlement (day0 ∷ day1 ∷ days) (d0 ∷ d1 ∷ factors) t place =
-    let later = curve-number settlement (day1 ∷ days) (d1 ∷ factors) t place in
+curve-number (t0 ∷ t1 ∷ times) (d0 ∷ d1 ∷ factors) t place =
+    let later = curve-number (t1 ∷ times) (d1 ∷ factors) t place in
     search numbers depth 24
-curve-number settlement (day0 ∷ []) (d0 ∷ factors) t place = search numbers
-curve-number settlement (day0 ∷ day1 ∷ days) (d0 ∷ []) t place = search numbers
-curve-number settlement (day0 ∷ []) [] t place = search numbers
-curve-number settlement (day0 ∷ day1 ∷ days) [] t place = search numbers
-curve-number settlement [] factors t place = search numbers
+curve-number (t0 ∷ []) (d0 ∷ factors) t place = search numbers
+curve-number (t0 ∷ t1 ∷ times) (d0 ∷ []) t place = search numbers
+curve-number (t0 ∷ []) [] t place = search numbers
+curve-number (t0 ∷ t1 ∷ times) [] t place = search numbers
+curve-number [] factors t place = search numbers
 
 -- ---- fit
 
-weighted-number : (row : List At) (spacing dt : Float) (place : ℕ) (total : Float) → Holds (AnswerWithin 27) (weighted spacing dt place row total)
+weighted-number : (row : List At) (spacing dt : Float) (place : ℕ) (total : Float) → Holds (AnswerAmong treeRefusals) (weighted spacing dt place row total)
 unfolding weighted
 weighted-number [] spacing dt place total = search numbers
 weighted-number (a ∷ row) spacing dt place total =
     let later = weighted-number row in
     search (exp-number, numbers) depth 24
 
-shift-number : (settlement : ℕ) (pillars : Pillars) (dt : Float) (place : ℕ) (sum : Float) → Holds (AnswerWithin 27) (shiftOf settlement pillars dt place sum)
+shift-number : (times factors : List Float) (dt : Float) (place : ℕ) (sum : Float) → Holds (AnswerAmong treeRefusals) (shiftOf (curveOver times factors) dt place sum)
 unfolding shiftOf
-shift-number settlement pillars dt place sum = search (curve-number, ln-number, numbers) depth 24
+shift-number times factors dt place sum = search (curve-number, ln-number, numbers) depth 24
 
-contribute-number : (row : List At) (place : ℕ) (n : ℤ) (x : Float) → Holds (OutcomeWithin 27) (contribute place n x row)
+contribute-number : (row : List At) (place : ℕ) (n : ℤ) (x : Float) → Holds (OutcomeAmong treeRefusals) (contribute place n x row)
 unfolding contribute
 contribute-number [] place n x = search numbers
 contribute-number (a ∷ row) place n x =
     let later = contribute-number row in
     search numbers
 
-three-number : (place : ℕ) (t : Transition) (price : Float) (row : List At) → Holds (OutcomeWithin 27) (contributeThree place t price row)
+three-number : (place : ℕ) (t : Transition) (price : Float) (row : List At) → Holds (OutcomeAmong treeRefusals) (contributeThree place t price row)
 three-number place t price row = search (contribute-number, numbers) depth 24
 
-onward-number : (ts : List Transition) (row : List At) (spacing dt shift : Float) (place : ℕ) (next : List At) → Holds (OutcomeWithin 27) (onward spacing dt shift place ts row next)
+onward-number : (ts : List Transition) (row : List At) (spacing dt shift : Float) (place : ℕ) (next : List At) → Holds (OutcomeAmong treeRefusals) (onward spacing dt shift place ts row next)
 unfolding onward
 onward-number (t ∷ ts) (a ∷ row) spacing dt shift place next =
     let later = onward-number ts row in
@@ -59,26 +59,26 @@ onward-number (t ∷ ts) (a ∷ row) spacing dt shift place next =
 onward-number (t ∷ ts) [] spacing dt shift place next = search numbers
 onward-number [] row spacing dt shift place next = search numbers
 
-pub shifts-number : (layers : List Layer) (settlement : ℕ) (pillars : Pillars) (dt : Float) (k : ℕ) (row : List At) → Holds (OutcomeWithin 27) (shiftsFrom settlement pillars dt k layers row)
+pub shifts-number : (layers : List Layer) (times factors : List Float) (dt : Float) (k : ℕ) (row : List At) → Holds (OutcomeAmong treeRefusals) (shiftsFrom (curveOver times factors) dt k layers row)
 unfolding shiftsFrom
-shifts-number [] settlement pillars dt k row = search numbers
-shifts-number (l ∷ layers) settlement pillars dt k row =
+shifts-number [] times factors dt k row = search numbers
+shifts-number (l ∷ layers) times factors dt k row =
     let later = shifts-number layers in
     search (weighted-number, shift-number, onward-number, numbers)
 
 -- ---- walk
 
-expected-number : (t : Transition) (next : List At) (place : ℕ) → Holds (AnswerWithin 27) (expected t next place)
+expected-number : (t : Transition) (next : List At) (place : ℕ) → Holds (AnswerAmong treeRefusals) (expected t next place)
 expected-number t next place = search numbers depth 24
 
-discount-number : (r : Reads) (node : ℤ) (place : ℕ) → Holds (AnswerWithin 27) (discountOf r node place)
+discount-number : (r : Reads) (node : ℤ) (place : ℕ) → Holds (AnswerAmong treeRefusals) (discountOf r node place)
 discount-number r node place = search (exp-number, numbers) depth 24
 
-node-number : (r : Reads) (node : ℤ) (t : Transition) (next : List At) (place : ℕ) → Holds (AnswerWithin 27) (nodeValue r node t next place)
+node-number : (r : Reads) (node : ℤ) (t : Transition) (next : List At) (place : ℕ) → Holds (AnswerAmong treeRefusals) (nodeValue r node t next place)
 unfolding nodeValue
 node-number r node t next place = search (expected-number, discount-number, numbers) depth 24
 
-rolled-number : (nodes : List ℤ) (ts : List Transition) (r : Reads) (next : List At) (place : ℕ) → Holds (OutcomeWithin 27) (rolled r nodes ts next place)
+rolled-number : (nodes : List ℤ) (ts : List Transition) (r : Reads) (next : List At) (place : ℕ) → Holds (OutcomeAmong treeRefusals) (rolled r nodes ts next place)
 unfolding rolled
 rolled-number (n ∷ ns) (t ∷ ts) r next place =
     let later = rolled-number ns ts in
@@ -86,7 +86,7 @@ rolled-number (n ∷ ns) (t ∷ ts) r next place =
 rolled-number (n ∷ ns) [] r next place = search numbers
 rolled-number [] ts r next place = search numbers
 
-pub walk-number : (layers : List Layer) (shifts : List Float) (dt spread : Float) (cashflows : List Float) (calls : List CallStep) (k : ℕ) (final : List ℤ) → Holds (OutcomeWithin 27) (walkFrom dt spread cashflows calls k layers shifts final)
+pub walk-number : (layers : List Layer) (shifts : List Float) (dt spread : Float) (cashflows : List Float) (calls : List CallStep) (k : ℕ) (final : List ℤ) → Holds (OutcomeAmong treeRefusals) (walkFrom dt spread cashflows calls k layers shifts final)
 unfolding walkFrom
 walk-number (l ∷ layers) (shift ∷ shifts) dt spread cashflows calls k final =
     let later = walk-number layers shifts in

@@ -14,6 +14,7 @@ use Rattle.terms.specs.declared.Check.the-variants as check
 use Rattle.terms.specs.Numbers.{float}
 use Rattle.terms.specs.Terms.{CallSchedule, Market}
 use Rattle.terms.specs.Checks.{onCheck, beyond}
+use Rattle.terms.specs.Curve.{curveOver, pillarTimes}
 use Rattle.terms.specs.Entries.{spreadChecks}
 use Rattle.terms.specs.Outcomes.{Outcome, given, refused, onOutcome, finiteThen}
 use Rattle.bondevents.specs.declared.CallStep.{CallStep}
@@ -105,12 +106,13 @@ module _ (m : Market) (calls : CallSchedule) (room : Room) {r : EventGrid} (e : 
       ∙ ap (λ (c : Check). uncheckedRoot c 1) p
       ∙ sym (ap (foundOn m room (m .spread)) (grid-refused (eventGrid (m .settlement) (m .bond) calls (m .controls)) e p))
 
-  pub root-checked : {v : Root} → r .check ≡ check.Passed
-      → v ≡ foundOver (m .spread) (r .grid .cashflows) (r .grid .calls) (finiteThen (div binary64 (r .grid .«maturity_time») (float (r .grid .steps))) 0 λ dt. fittedOver (m .settlement) (m .model) (m .pillars) room (r .grid .steps) dt)
+  pub root-checked : {times : List Float} {v : Root} → times ≡ pillarTimes (m .settlement) (m .pillars .days) → r .check ≡ check.Passed
+      → v ≡ foundOver (m .spread) (r .grid .cashflows) (r .grid .calls) (finiteThen (div binary64 (r .grid .«maturity_time») (float (r .grid .steps))) 0 λ dt. fittedOver (curveOver times (m .pillars .factors)) (m .model) room (r .grid .steps) dt)
       → v ≡ foundFor m calls room
   unfolding foundFor foundOn onOutcome
-  root-checked p f =
+  root-checked t p f =
       f
+      ∙ ap (λ (times : List Float). foundOver (m .spread) (r .grid .cashflows) (r .grid .calls) (finiteThen (div binary64 (r .grid .«maturity_time») (float (r .grid .steps))) 0 λ dt. fittedOver (curveOver times (m .pillars .factors)) (m .model) room (r .grid .steps) dt)) t
       ∙ ap (foundOver (m .spread) (r .grid .cashflows) (r .grid .calls)) (sym (tree-is m room (r .grid .«maturity_time») (r .grid .steps)))
       ∙ sym (ap (foundOn m room (m .spread)) (grid-given (eventGrid (m .settlement) (m .bond) calls (m .controls)) e p))
 

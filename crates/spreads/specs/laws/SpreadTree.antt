@@ -27,7 +27,7 @@ use Rattle.treebasedbondpricer.specs.declared.TreeValue.the-variants as tree
 use Rattle.lattice.specs.Layers.{At, valueAt, Room}
 use Rattle.backwardinduction.specs.Walk.{walkFrom}
 use Rattle.lattice.specs.Lattice.{nodeCount}
-use Rattle.treebasedbondpricer.specs.Tree.{Fitted, fittedTree, latticeValue, treeValue}
+use Rattle.treebasedbondpricer.specs.Tree.{Fitted, fittedTreeOver, latticeValueOver, fittedTree, latticeValue, treeValue}
 use Rattle.treebasedbondpricer.specs.laws.Valued.{rowOver}
 use Rattle.backwardinduction.specs.laws.WalkRoot.{rootOf}
 use Rattle.brackets.specs.declared.Root.{Root}
@@ -52,7 +52,7 @@ foundOver target cashflows calls o =
 
 -- The same over a grid.
 unfoldable pub foundOn : Market → Room → Float → Outcome BondEventGrid → Root
-unfolding foundOver fittedTree
+unfolding foundOver fittedTreeOver
 foundOn m room target o =
     onOutcome o (λ q. root.Refused q 1) λ g. foundOver target (g .cashflows) (g .calls) (fittedTree m room (g .«maturity_time») (g .steps))
 
@@ -99,7 +99,7 @@ module _ (m : Market) (calls : CallSchedule) (room : Room) (target : Float) (pas
 
   module _ {g : BondEventGrid} (has-grid : grid ≡ given g) where
     pub tree-refused-at-first : {q : Refusal} → fittedTree m room (g .«maturity_time») (g .steps) ≡ refused q → solveSpread m calls room target ≡ root.Refused q 1
-    unfolding latticeValue
+    unfolding latticeValueOver
     tree-refused-at-first e = refused-at-first (follow-given grid _ has-grid ∙ follow-refused (fittedTree m room (g .«maturity_time») (g .steps)) _ e)
 
     -- ---- each try over the same tree
@@ -111,7 +111,7 @@ module _ (m : Market) (calls : CallSchedule) (room : Room) (target : Float) (pas
       with-count (refused q) n = refl
 
       tried-value : (s : Float) → within (float 1) s ≡ check.Passed → onTreeValue (treeValue (withSpread m s) calls room) answer.Refused (λ x. tested (sub binary64 x target) 0) ≡ andThen (rootOf (rowOver s (g .cashflows) (g .calls) f)) λ x. tested (sub binary64 x target) 0
-      unfolding latticeValue
+      unfolding latticeValueOver
       tried-value s h =
           ap (λ (v : TreeValue). onTreeValue v answer.Refused λ x. tested (sub binary64 x target) 0)
           (tried s h ∙ ap (λ (o : Outcome TreeValue). onOutcome o tree.Refused λ v. v) (follow-given grid _ has-grid ∙ follow-given (fittedTree m room (g .«maturity_time») (g .steps)) _ has-tree))

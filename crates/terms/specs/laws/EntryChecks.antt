@@ -1,183 +1,285 @@
 -- The checks of each entry are passed exactly where those of each group are. Assumes nothing.
 use mathlib.Core.Path.{_≡_, refl, sym, _∙_}
 use mathlib.Core.List.{List, [], _∷_, _++_}
-use Prim.Native.Nat.{ℕ}
-use lib.ListN.{getD}
+use Prim.Native.Nat.{ℕ, _≤_}
+use lib.ListN.{length}
 use lib.Ieee.{Float}
 use Rattle.floats.specs.declared.Refusal.{Refusal}
 use Rattle.terms.specs.declared.Check.{Check}
 use Rattle.terms.specs.declared.Check.the-variants.{Passed, Refused}
 use Rattle.terms.specs.Numbers.{float, targetLimit}
 use Rattle.terms.specs.Terms.{Leg, CallSchedule, Pillars, Bond, TimeGrid, Market, withSpread}
-use Rattle.terms.specs.Checks.{firstOf, settings, legCount, callCount, sigmaCount, pillarCount, settlementDay, legDays, callDays, pillarDays, unitsRange, within, amountRange, strikeRange, sigmaRange, factorRange, callOrder, sigmaOrder, lastDay, anyPaid, pillarOrder}
-use Rattle.terms.specs.Entries.{gridChecks, marketChecks, treeChecks, spreadChecks, straightChecks, yieldChecks}
-use Rattle.terms.specs.laws.Sequence.{Passes, passed-at, first-of-passes, first-refusal, first-of-one, first-of-other}
+use Rattle.terms.specs.Checks.{firstOf, legCount, callCount, callDays, pillarDays, unitsRange, within, amountRange, strikeRange, sigmaOrder, anyPaid}
+use Rattle.terms.specs.Entries.{settingChecks, gridCounts, gridDays, listNumbers, callOrders, gridChecks, modelCounts, treeFields, modelNumbers, lateChecks, marketChecks, treeChecks, spreadChecks, straightCounts, straightDays, straightNumbers, straightChecks, yieldDays, yieldNumbers, yieldChecks}
+use Rattle.terms.specs.laws.Sequence.{Passes, all, all-pass, groups-of-first, first-of-groups, first-refusal, first-of-one, first-of-other}
+use Rattle.terms.specs.laws.TermChecks.{pillars-counted}
 use Rattle.terms.specs.laws.Groups.{LegPassed, CallsPassed, PillarsPassed, GridTermsPassed, MarketPassed}
 
 -- ---- the grid
 
 module _ (settlement : ℕ) (bond : Bond) (calls : CallSchedule) (controls : TimeGrid) where
-  -- the checks before and after the strikes
-  abbrev grid-before : List Check
+  -- the groups before the strikes
+  abbrev grid-before : List (List Check)
   grid-before =
-      settings controls
-      ∷ legCount (bond .leg)
-      ∷ callCount calls
-      ∷ settlementDay settlement
-      ∷ legDays (bond .leg)
-      ∷ callDays calls
-      ∷ unitsRange (bond .units)
-      ∷ amountRange (bond .leg)
+      settingChecks controls
+      ∷ gridCounts (bond .leg) calls
+      ∷ gridDays settlement (bond .leg) calls
+      ∷ (unitsRange (bond .units) ∷ amountRange (bond .leg) ∷ [])
       ∷ []
 
-  abbrev grid-after : List Check
-  grid-after = callOrder calls ∷ anyPaid settlement (bond .leg) ∷ []
+  -- and after them
+  abbrev grid-after : List (List Check)
+  grid-after = callOrders calls ∷ (anyPaid settlement (bond .leg) ∷ []) ∷ []
 
-  grid-split : gridChecks settlement bond calls controls ≡ firstOf (grid-before ++ (strikeRange calls ∷ grid-after))
+  grid-split : gridChecks settlement bond calls controls ≡ firstOf (all grid-before ++ (strikeRange calls ∷ all grid-after))
   unfolding gridChecks
   grid-split = refl
 
-  grid-passes : gridChecks settlement bond calls controls ≡ Passed → (i : ℕ) → getD (grid-before ++ (strikeRange calls ∷ grid-after)) i Passed ≡ Passed
-  grid-passes h = passed-at (grid-before ++ (strikeRange calls ∷ grid-after)) (sym grid-split ∙ h)
+  -- Every group is passed.
+  record GridGroups : Type 0 where
+    setting : Passes (settingChecks controls)
+    counts : Passes (gridCounts (bond .leg) calls)
+    days : Passes (gridDays settlement (bond .leg) calls)
+    field : unitsRange (bond .units) ≡ Passed
+    lists : Passes (listNumbers (bond .leg) calls)
+    orders : Passes (callOrders calls)
+    paid : anyPaid settlement (bond .leg) ≡ Passed
+
+  grid-groups : gridChecks settlement bond calls controls ≡ Passed → GridGroups
+  unfolding gridChecks
+  grid-groups h =
+      let g =
+      groups-of-first
+      (settingChecks controls
+      ∷ gridCounts (bond .leg) calls
+      ∷ gridDays settlement (bond .leg) calls
+      ∷ (unitsRange (bond .units) ∷ [])
+      ∷ listNumbers (bond .leg) calls
+      ∷ callOrders calls
+      ∷ (anyPaid settlement (bond .leg) ∷ [])
+      ∷ [])
+      h in
+      record {
+        setting = g .0;
+        counts = g .1 .0;
+        days = g .1 .1 .0;
+        field = g .1 .1 .1 .0 .0;
+        lists = g .1 .1 .1 .1 .0;
+        orders = g .1 .1 .1 .1 .1 .0;
+        paid = g .1 .1 .1 .1 .1 .1 .0 .0;
+      }
 
   pub grid-terms : gridChecks settlement bond calls controls ≡ Passed → GridTermsPassed settlement bond controls
   grid-terms h =
-      let p = grid-passes h in
+      let g = grid-groups h in
       record {
-        steps = p 0;
+        steps = g .setting .0;
         leg = record {
-          settled = p 3;
-          counted = p 1;
-          days = p 4;
-          amounts = p 7;
-          paid = p 10;
+          settled = g .days .0;
+          counted = g .counts .0;
+          days = g .days .1 .0;
+          amounts = g .lists .0;
+          paid = g .paid;
         };
-        units = p 6;
+        units = g .field;
       }
 
   pub grid-calls : gridChecks settlement bond calls controls ≡ Passed → CallsPassed calls
   grid-calls h =
-      let p = grid-passes h in
+      let g = grid-groups h in
       record {
-        counted = p 2;
-        days = p 5;
-        strikes = p 8;
-        ordered = p 9;
+        counted = g .counts .1 .0;
+        days = g .days .1 .1 .0;
+        strikes = g .lists .1 .0;
+        ordered = g .orders .0;
       }
 
-  grid-front : GridTermsPassed settlement bond controls → callCount calls ≡ Passed → callDays calls ≡ Passed → Passes grid-before
-  grid-front terms counted days = (terms .steps, (terms .leg .counted, (counted, (terms .leg .settled, (terms .leg .days, (days, (terms .units, (terms .leg .amounts, tt))))))))
+  grid-front : GridTermsPassed settlement bond controls → callCount calls ≡ Passed → callDays calls ≡ Passed → Passes (all grid-before)
+  grid-front terms counted days =
+      all-pass grid-before (
+        (terms .steps, tt),
+        (
+          (terms .leg .counted, (counted, tt)),
+          (
+            (terms .leg .settled, (terms .leg .days, (days, tt))),
+            ((terms .units, (terms .leg .amounts, tt)), tt),
+          ),
+        ),
+      )
 
   pub grid-passed : GridTermsPassed settlement bond controls → CallsPassed calls → gridChecks settlement bond calls controls ≡ Passed
   grid-passed terms k =
       grid-split
-      ∙ first-of-one grid-before (strikeRange calls) grid-after (grid-front terms (k .counted) (k .days)) (k .ordered, (terms .leg .paid, tt))
+      ∙ first-of-one (all grid-before) (strikeRange calls) (all grid-after) (grid-front terms (k .counted) (k .days)) (all-pass grid-after ((k .ordered, tt), ((terms .leg .paid, tt), tt)))
       ∙ k .strikes
 
   -- What stands before the strikes is passed, and a strike is refused: that is the answer.
   pub grid-strike-refused : (r : Refusal) → GridTermsPassed settlement bond controls → callCount calls ≡ Passed → callDays calls ≡ Passed → strikeRange calls ≡ Refused r → gridChecks settlement bond calls controls ≡ Refused r
   grid-strike-refused r terms counted days e =
-      grid-split ∙ first-refusal grid-before (strikeRange calls) r grid-after (grid-front terms counted days) e
+      grid-split ∙ first-refusal (all grid-before) (strikeRange calls) r (all grid-after) (grid-front terms counted days) e
 
 -- ---- the tree value, and spread from price
 
 module _ (m : Market) (calls : CallSchedule) where
-  -- the checks before and after the spread, or the target in its place
-  abbrev spread-before : List Check
+  -- the groups before the spread, or the target in its place
+  abbrev spread-before : List (List Check)
   spread-before =
-      settings (m .controls)
-      ∷ legCount (m .bond .leg)
-      ∷ callCount calls
-      ∷ sigmaCount (m .model .sigma)
-      ∷ pillarCount (m .pillars)
-      ∷ settlementDay (m .settlement)
-      ∷ legDays (m .bond .leg)
-      ∷ callDays calls
-      ∷ pillarDays (m .pillars)
-      ∷ unitsRange (m .bond .units)
-      ∷ within (float 10) (m .model .alpha)
+      settingChecks (m .controls)
+      ∷ gridCounts (m .bond .leg) calls
+      ∷ modelCounts (m .model .sigma) (m .pillars)
+      ∷ gridDays (m .settlement) (m .bond .leg) calls
+      ∷ (pillarDays (m .pillars) ∷ [])
+      ∷ (unitsRange (m .bond .units) ∷ within (float 10) (m .model .alpha) ∷ [])
       ∷ []
 
   -- and after the strikes
-  abbrev market-after : List Check
+  abbrev market-after : List (List Check)
   market-after =
-      sigmaRange (m .model .sigma)
-      ∷ factorRange (m .pillars)
-      ∷ callOrder calls
-      ∷ sigmaOrder (m .model .sigma)
-      ∷ anyPaid (m .settlement) (m .bond .leg)
-      ∷ pillarOrder (m .settlement) (lastDay (m .bond .leg .days)) (m .pillars)
+      modelNumbers (m .model .sigma) (m .pillars)
+      ∷ callOrders calls
+      ∷ (sigmaOrder (m .model .sigma) ∷ anyPaid (m .settlement) (m .bond .leg) ∷ [])
+      ∷ lateChecks (m .settlement) (m .bond .leg) (m .pillars)
       ∷ []
 
-  abbrev spread-after : List Check
-  spread-after = amountRange (m .bond .leg) ∷ strikeRange calls ∷ market-after
+  abbrev spread-after : List (List Check)
+  spread-after = listNumbers (m .bond .leg) calls ∷ market-after
 
 module _ (limit : Float) (m : Market) (calls : CallSchedule) where
   abbrev market-before : List Check
-  market-before = spread-before m calls ++ (within limit (m .spread) ∷ amountRange (m .bond .leg) ∷ [])
+  market-before = all (spread-before m calls) ++ (within limit (m .spread) ∷ amountRange (m .bond .leg) ∷ [])
 
-  market-split : marketChecks limit m calls ≡ firstOf (market-before ++ (strikeRange calls ∷ market-after m calls))
+  market-split : marketChecks limit m calls ≡ firstOf (market-before ++ (strikeRange calls ∷ all (market-after m calls)))
   unfolding marketChecks
   market-split = refl
 
-  market-passes : marketChecks limit m calls ≡ Passed → (i : ℕ) → getD (market-before ++ (strikeRange calls ∷ market-after m calls)) i Passed ≡ Passed
-  market-passes h = passed-at (market-before ++ (strikeRange calls ∷ market-after m calls)) (sym market-split ∙ h)
+  -- Every group is passed.
+  record MarketGroups : Type 0 where
+    setting : Passes (settingChecks (m .controls))
+    counts : Passes (gridCounts (m .bond .leg) calls)
+    model-counts : Passes (modelCounts (m .model .sigma) (m .pillars))
+    days : Passes (gridDays (m .settlement) (m .bond .leg) calls)
+    pillar-days : pillarDays (m .pillars) ≡ Passed
+    fields : Passes (treeFields limit (m .bond .units) (m .model .alpha) (m .spread))
+    lists : Passes (listNumbers (m .bond .leg) calls)
+    model-numbers : Passes (modelNumbers (m .model .sigma) (m .pillars))
+    orders : Passes (callOrders calls)
+    later-orders : Passes (sigmaOrder (m .model .sigma) ∷ anyPaid (m .settlement) (m .bond .leg) ∷ [])
+    late : Passes (lateChecks (m .settlement) (m .bond .leg) (m .pillars))
+
+  market-groups : marketChecks limit m calls ≡ Passed → MarketGroups
+  unfolding marketChecks
+  market-groups h =
+      let g =
+      groups-of-first
+      (settingChecks (m .controls)
+      ∷ gridCounts (m .bond .leg) calls
+      ∷ modelCounts (m .model .sigma) (m .pillars)
+      ∷ gridDays (m .settlement) (m .bond .leg) calls
+      ∷ (pillarDays (m .pillars) ∷ [])
+      ∷ treeFields limit (m .bond .units) (m .model .alpha) (m .spread)
+      ∷ listNumbers (m .bond .leg) calls
+      ∷ market-after m calls)
+      h in
+      record {
+        setting = g .0;
+        counts = g .1 .0;
+        model-counts = g .1 .1 .0;
+        days = g .1 .1 .1 .0;
+        pillar-days = g .1 .1 .1 .1 .0 .0;
+        fields = g .1 .1 .1 .1 .1 .0;
+        lists = g .1 .1 .1 .1 .1 .1 .0;
+        model-numbers = g .1 .1 .1 .1 .1 .1 .1 .0;
+        orders = g .1 .1 .1 .1 .1 .1 .1 .1 .0;
+        later-orders = g .1 .1 .1 .1 .1 .1 .1 .1 .1 .0;
+        late = g .1 .1 .1 .1 .1 .1 .1 .1 .1 .1 .0;
+      }
 
   pub market-terms : marketChecks limit m calls ≡ Passed → MarketPassed limit m
   market-terms h =
-      let p = market-passes h in
+      let g = market-groups h in
       record {
         grid = record {
-          steps = p 0;
+          steps = g .setting .0;
           leg = record {
-            settled = p 5;
-            counted = p 1;
-            days = p 6;
-            amounts = p 12;
-            paid = p 18;
+            settled = g .days .0;
+            counted = g .counts .0;
+            days = g .days .1 .0;
+            amounts = g .lists .0;
+            paid = g .later-orders .1 .0;
           };
-          units = p 9;
+          units = g .fields .0;
         };
         sigma = record {
-          counted = p 3;
-          numbers = p 14;
-          ordered = p 17;
+          counted = g .model-counts .0;
+          numbers = g .model-numbers .0;
+          ordered = g .later-orders .0;
         };
         pillars = record {
-          counted = p 4;
-          days = p 8;
-          factors = p 15;
-          ordered = p 19;
+          counted = g .model-counts .1 .0;
+          days = g .pillar-days;
+          factors = g .model-numbers .1 .0;
+          ordered = g .late .0;
         };
-        alpha = p 10;
-        spread = p 11;
+        alpha = g .fields .1 .0;
+        spread = g .fields .1 .1 .0;
       }
 
   pub market-calls : marketChecks limit m calls ≡ Passed → CallsPassed calls
   market-calls h =
-      let p = market-passes h in
+      let g = market-groups h in
       record {
-        counted = p 2;
-        days = p 7;
-        strikes = p 13;
-        ordered = p 16;
+        counted = g .counts .1 .0;
+        days = g .days .1 .1 .0;
+        strikes = g .lists .1 .0;
+        ordered = g .orders .0;
       }
 
   market-front : MarketPassed limit m → callCount calls ≡ Passed → callDays calls ≡ Passed → Passes market-before
   market-front t counted days =
-      (t .grid .steps, (t .grid .leg .counted, (counted, (t .sigma .counted, (t .pillars .counted, (t .grid .leg .settled, (t .grid .leg .days, (days, (t .pillars .days, (t .grid .units, (t .alpha, (t .spread, (t .grid .leg .amounts, tt)))))))))))))
+      all-pass (spread-before m calls ++ ((within limit (m .spread) ∷ amountRange (m .bond .leg) ∷ []) ∷ [])) (
+        (t .grid .steps, tt),
+        (
+          (t .grid .leg .counted, (counted, tt)),
+          (
+            (t .sigma .counted, (t .pillars .counted, tt)),
+            (
+              (t .grid .leg .settled, (t .grid .leg .days, (days, tt))),
+              (
+                (t .pillars .days, tt),
+                (
+                  (t .grid .units, (t .alpha, tt)),
+                  ((t .spread, (t .grid .leg .amounts, tt)), tt),
+                ),
+              ),
+            ),
+          ),
+        ),
+      )
 
   pub market-passed : MarketPassed limit m → CallsPassed calls → marketChecks limit m calls ≡ Passed
   market-passed t k =
       market-split
-      ∙ first-of-one market-before (strikeRange calls) (market-after m calls) (market-front t (k .counted) (k .days))
-      (t .sigma .numbers, (t .pillars .factors, (k .ordered, (t .sigma .ordered, (t .grid .leg .paid, (t .pillars .ordered, tt))))))
+      ∙ first-of-one market-before (strikeRange calls) (all (market-after m calls)) (market-front t (k .counted) (k .days))
+      (all-pass (market-after m calls) (
+        (t .sigma .numbers, (t .pillars .factors, tt)),
+        (
+          (k .ordered, tt),
+          (
+            (t .sigma .ordered, (t .grid .leg .paid, tt)),
+            ((t .pillars .ordered, tt), tt),
+          ),
+        ),
+      ))
       ∙ k .strikes
 
   -- What stands before the strikes is passed, and a strike is refused: that is the answer.
   pub market-strike-refused : (r : Refusal) → MarketPassed limit m → callCount calls ≡ Passed → callDays calls ≡ Passed → strikeRange calls ≡ Refused r → marketChecks limit m calls ≡ Refused r
   market-strike-refused r t counted days e =
-      market-split ∙ first-refusal market-before (strikeRange calls) r (market-after m calls) (market-front t counted days) e
+      market-split ∙ first-refusal market-before (strikeRange calls) r (all (market-after m calls)) (market-front t counted days) e
+
+  -- As many pillars as a table of their times has room for.
+  pub market-few-pillars : marketChecks limit m calls ≡ Passed → length (m .pillars .days) ≤ 256
+  market-few-pillars h = pillars-counted (m .pillars) (market-terms h .pillars .counted) .few
 
   -- Where these checks are passed, so are those of the grid.
   pub market-grid : marketChecks limit m calls ≡ Passed → gridChecks (m .settlement) (m .bond) calls (m .controls) ≡ Passed
@@ -191,7 +293,7 @@ market-alike limit m first second k l = cc
 -- Nor the spread: where they are passed, another spread is answered by its own check.
 pub other-spread : (limit : Float) (m : Market) (calls : CallSchedule) (s : Float) → marketChecks limit m calls ≡ Passed → treeChecks (withSpread m s) calls ≡ within (float 1) s
 unfolding treeChecks
-other-spread limit m calls s h = first-of-other (spread-before m calls) (within limit (m .spread)) (within (float 1) s) (spread-after m calls) h
+other-spread limit m calls s h = first-of-other (all (spread-before m calls)) (within limit (m .spread)) (within (float 1) s) (all (spread-after m calls)) h
 
 -- ---- the tree value
 
@@ -212,6 +314,10 @@ module _ (m : Market) (calls : CallSchedule) where
   unfolding treeChecks
   tree-strike-refused = market-strike-refused (float 1) m calls
 
+  pub tree-few-pillars : treeChecks m calls ≡ Passed → length (m .pillars .days) ≤ 256
+  unfolding treeChecks
+  tree-few-pillars = market-few-pillars (float 1) m calls
+
   pub tree-grid : treeChecks m calls ≡ Passed → gridChecks (m .settlement) (m .bond) calls (m .controls) ≡ Passed
   unfolding treeChecks
   tree-grid = market-grid (float 1) m calls
@@ -226,6 +332,9 @@ pub spread-is : (m : Market) (calls : CallSchedule) → spreadChecks m calls ≡
 unfolding spreadChecks
 spread-is m calls = refl
 
+pub spread-few-pillars : (m : Market) (calls : CallSchedule) → spreadChecks m calls ≡ Passed → length (m .pillars .days) ≤ 256
+spread-few-pillars m calls h = market-few-pillars targetLimit m calls (sym (spread-is m calls) ∙ h)
+
 pub spread-grid : (m : Market) (calls : CallSchedule) → spreadChecks m calls ≡ Passed → gridChecks (m .settlement) (m .bond) calls (m .controls) ≡ Passed
 spread-grid m calls h = market-grid targetLimit m calls (sym (spread-is m calls) ∙ h)
 
@@ -236,60 +345,79 @@ spread-tried m calls s h = other-spread targetLimit m calls s (sym (spread-is m 
 -- ---- straight value
 
 module _ (settlement : ℕ) (leg : Leg) (spread : Float) (pillars : Pillars) where
-  abbrev straight-list : List Check
-  straight-list =
-      legCount leg
-      ∷ pillarCount pillars
-      ∷ settlementDay settlement
-      ∷ legDays leg
-      ∷ pillarDays pillars
-      ∷ within (float 1) spread
-      ∷ amountRange leg
-      ∷ factorRange pillars
-      ∷ anyPaid settlement leg
-      ∷ pillarOrder settlement (lastDay (leg .days)) pillars
+  abbrev straight-groups : List (List Check)
+  straight-groups =
+      straightCounts leg pillars
+      ∷ straightDays settlement leg pillars
+      ∷ straightNumbers spread leg pillars
+      ∷ (anyPaid settlement leg ∷ [])
+      ∷ lateChecks settlement leg pillars
       ∷ []
 
   pub straight-terms : straightChecks settlement leg spread pillars ≡ Passed → LegPassed settlement leg × PillarsPassed settlement leg pillars × (within (float 1) spread ≡ Passed)
   unfolding straightChecks
   straight-terms h =
-      let p = passed-at straight-list h in (
-        record { settled = p 2; counted = p 0; days = p 3; amounts = p 6; paid = p 8 },
-        record { counted = p 1; days = p 4; factors = p 7; ordered = p 9 },
-        p 5,
+      let g = groups-of-first straight-groups h in
+      let counts = g .0 in
+      let days = g .1 .0 in
+      let numbers = g .1 .1 .0 in
+      let paid = g .1 .1 .1 .0 in
+      let late = g .1 .1 .1 .1 .0 in (
+        record { settled = days .0; counted = counts .0; days = days .1 .0; amounts = numbers .1 .0; paid = paid .0 },
+        record { counted = counts .1 .0; days = days .1 .1 .0; factors = numbers .1 .1 .0; ordered = late .0 },
+        numbers .0,
       )
 
   pub straight-passed : LegPassed settlement leg → PillarsPassed settlement leg pillars → within (float 1) spread ≡ Passed → straightChecks settlement leg spread pillars ≡ Passed
   unfolding straightChecks
   straight-passed l q e =
-      first-of-passes straight-list
-      (l .counted, (q .counted, (l .settled, (l .days, (q .days, (e, (l .amounts, (q .factors, (l .paid, (q .ordered, tt))))))))))
+      first-of-groups straight-groups (
+        (l .counted, (q .counted, tt)),
+        (
+          (l .settled, (l .days, (q .days, tt))),
+          (
+            (e, (l .amounts, (q .factors, tt))),
+            (
+              (l .paid, tt),
+              ((q .ordered, tt), tt),
+            ),
+          ),
+        ),
+      )
 
 -- ---- the yield entries
 
 module _ (limit : Float) (settlement : ℕ) (leg : Leg) (x : Float) (rate : Check) where
-  abbrev yield-list : List Check
-  yield-list =
-      legCount leg
-      ∷ settlementDay settlement
-      ∷ legDays leg
-      ∷ within limit x
-      ∷ amountRange leg
-      ∷ anyPaid settlement leg
-      ∷ rate
-      ∷ []
+  abbrev yield-groups : List (List Check)
+  yield-groups = (legCount leg ∷ []) ∷ yieldDays settlement leg ∷ yieldNumbers limit x leg ∷ (anyPaid settlement leg ∷ []) ∷ (rate ∷ []) ∷ []
 
   pub yield-terms : yieldChecks limit settlement leg x rate ≡ Passed → LegPassed settlement leg × (within limit x ≡ Passed) × (rate ≡ Passed)
   unfolding yieldChecks
   yield-terms h =
-      let p = passed-at yield-list h in (
-        record { settled = p 1; counted = p 0; days = p 2; amounts = p 4; paid = p 5 },
-        p 3,
-        p 6,
+      let g = groups-of-first yield-groups h in
+      let counts = g .0 in
+      let days = g .1 .0 in
+      let numbers = g .1 .1 .0 in
+      let paid = g .1 .1 .1 .0 in
+      let last = g .1 .1 .1 .1 .0 in (
+        record { settled = days .0; counted = counts .0; days = days .1 .0; amounts = numbers .1 .0; paid = paid .0 },
+        numbers .0,
+        last .0,
       )
 
   pub yield-passed : LegPassed settlement leg → within limit x ≡ Passed → rate ≡ Passed → yieldChecks limit settlement leg x rate ≡ Passed
   unfolding yieldChecks
   yield-passed l e f =
-      first-of-passes yield-list
-      (l .counted, (l .settled, (l .days, (e, (l .amounts, (l .paid, (f, tt)))))))
+      first-of-groups yield-groups (
+        (l .counted, tt),
+        (
+          (l .settled, (l .days, tt)),
+          (
+            (e, (l .amounts, tt)),
+            (
+              (l .paid, tt),
+              ((f, tt), tt),
+            ),
+          ),
+        ),
+      )

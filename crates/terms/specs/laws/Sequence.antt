@@ -6,7 +6,7 @@ use mathlib.Core.List.{List, [], _∷_, _++_}
 use Prim.Native.Nat.{ℕ, zero, suc, _+_, _≤_, _<_}
 use native.Mathlib.Nat.{eq-or-lt-of-le}
 use native.Mathlib.Omega.{arith}
-use lib.ListN.{length, getD}
+use lib.ListN.{length}
 use lib.Dec.{T, T-not}
 use Rattle.floats.specs.declared.Refusal.{Refusal}
 use Rattle.terms.specs.declared.Check.{Check}
@@ -36,22 +36,6 @@ unfolding firstOf onCheck
 first-of-passes [] h = refl
 first-of-passes (c ∷ cs) h = rw (h .0, onCheck) (first-of-passes cs (h .1))
 
--- The same by index.
-pub passed-at : (cs : List Check) → firstOf cs ≡ Passed → (i : ℕ) → getD cs i Passed ≡ Passed
-passed-at cs h i = at cs i (passes-of-first cs h)
-  where
-    at : (xs : List Check) (k : ℕ) → Passes xs → getD xs k Passed ≡ Passed
-    at [] k p = refl
-    at (x ∷ xs) zero p = p .0
-    at (x ∷ xs) (suc k) p = at xs k (p .1)
-
-pub passed-of-each : (cs : List Check) → ((i : ℕ) → i < length cs → getD cs i Passed ≡ Passed) → firstOf cs ≡ Passed
-passed-of-each cs h = first-of-passes cs (each cs h)
-  where
-    each : (xs : List Check) → ((i : ℕ) → i < length xs → getD xs i Passed ≡ Passed) → Passes xs
-    each [] f = tt
-    each (x ∷ xs) f = (f 0 (omega arith), each xs (λ i l. f (suc i) (omega arith)))
-
 -- Checks that are passed leave the answer to those after them.
 pub first-after : (before rest : List Check) → Passes before → firstOf (before ++ rest) ≡ firstOf rest
 unfolding firstOf onCheck
@@ -77,6 +61,39 @@ first-of-other before c d after h =
     around : (xs : List Check) → Passes (xs ++ (c ∷ after)) → Passes xs × Passes after
     around [] p = (tt, p .1)
     around (x ∷ xs) p = let q = around xs (p .1) in ((p .0, q .0), q .1)
+
+-- ---- groups of checks, one after the other
+
+abbrev pub all : List (List Check) → List Check
+all [] = []
+all (xs ∷ xss) = xs ++ all xss
+
+-- Every check of every group is passed.
+abbrev pub GroupsPass : List (List Check) → Type 0
+GroupsPass [] = Unit {0}
+GroupsPass (xs ∷ xss) = Passes xs × GroupsPass xss
+
+passes-apart : (xs ys : List Check) → Passes (xs ++ ys) → Passes xs × Passes ys
+passes-apart [] ys p = (tt, p)
+passes-apart (x ∷ xs) ys p = let q = passes-apart xs ys (p .1) in ((p .0, q .0), q .1)
+
+passes-joined : (xs ys : List Check) → Passes xs → Passes ys → Passes (xs ++ ys)
+passes-joined [] ys p q = q
+passes-joined (x ∷ xs) ys p q = (p .0, passes-joined xs ys (p .1) q)
+
+pub all-pass : (xss : List (List Check)) → GroupsPass xss → Passes (all xss)
+all-pass [] p = tt
+all-pass (xs ∷ xss) p = passes-joined xs (all xss) (p .0) (all-pass xss (p .1))
+
+pub groups-of-first : (xss : List (List Check)) → firstOf (all xss) ≡ Passed → GroupsPass xss
+groups-of-first xss h = each xss (passes-of-first (all xss) h)
+  where
+    each : (xss : List (List Check)) → Passes (all xss) → GroupsPass xss
+    each [] p = tt
+    each (xs ∷ xss) p = let q = passes-apart xs (all xss) p in (q .0, each xss (q .1))
+
+pub first-of-groups : (xss : List (List Check)) → GroupsPass xss → firstOf (all xss) ≡ Passed
+first-of-groups xss p = first-of-passes (all xss) (all-pass xss p)
 
 -- ---- a cause that has one place
 

@@ -13,6 +13,7 @@ use Rattle.terms.specs.declared.Check.the-variants as check
 use Rattle.terms.specs.Checks.{onCheck}
 use Rattle.terms.specs.Numbers.{float}
 use Rattle.terms.specs.Terms.{Bond, CallSchedule, TimeGrid, Market}
+use Rattle.terms.specs.Curve.{curveOver, pillarTimes}
 use Rattle.terms.specs.Entries.{treeChecks}
 use Rattle.terms.specs.Outcomes.{Outcome, given, refused, onOutcome, follow, finiteThen}
 use Rattle.terms.specs.laws.Outcomes.{of-given, same-given, follow-given, follow-refused}
@@ -26,7 +27,7 @@ use Rattle.bondevents.specs.Parts.{gridOutcome}
 use Rattle.treebasedbondpricer.specs.declared.TreeValue.{TreeValue}
 use Rattle.treebasedbondpricer.specs.declared.TreeValue.the-variants.{Value, Refused}
 use Rattle.lattice.specs.Layers.{Room}
-use Rattle.treebasedbondpricer.specs.Tree.{Fitted, latticeValue, fittedTree, treeValue, Lent, roomOf, zeroed, lentAfter}
+use Rattle.treebasedbondpricer.specs.Tree.{Fitted, latticeValueOver, fittedTreeOver, latticeValue, fittedTree, treeValue, curveOf, Lent, roomOf, zeroed, lentAfter}
 use Rattle.treebasedbondpricer.specs.Entry.{Entered}
 use Rattle.treebasedbondpricer.specs.laws.FittedIn.{fittedWith, fittedOver}
 use Rattle.treebasedbondpricer.specs.laws.Valued.{treeOf, walked}
@@ -36,9 +37,9 @@ abbrev pub uncheckedOf : Check → TreeValue
 uncheckedOf check.Passed = Value plusZero 0
 uncheckedOf (check.Refused q) = Refused q
 
--- The grid, then the tree.
+-- What terms that passed their checks are worth: the grid, then the tree.
 unfoldable pub valueOn : Market → CallSchedule → Room → TreeValue
-unfolding eventGrid latticeValue
+unfolding eventGrid latticeValueOver
 valueOn m calls room = treeOf (follow (eventGrid (m .settlement) (m .bond) calls (m .controls)) λ grid. latticeValue m room grid)
 
 -- ---- the grid
@@ -64,8 +65,8 @@ steps-of-grid settlement bond calls controls {r} e p some few =
 
 -- ---- the tree
 
-pub tree-is : (m : Market) (room : Room) (maturity : Float) (steps : ℕ) → fittedTree m room maturity steps ≡ finiteThen (div binary64 maturity (float steps)) 0 λ dt. fittedOver (m .settlement) (m .model) (m .pillars) room steps dt
-unfolding fittedTree fittedWith
+pub tree-is : (m : Market) (room : Room) (maturity : Float) (steps : ℕ) → fittedTree m room maturity steps ≡ finiteThen (div binary64 maturity (float steps)) 0 λ dt. fittedOver (curveOf m) (m .model) room steps dt
+unfolding fittedTreeOver fittedWith
 tree-is m room maturity steps = refl
 
 module _ (m : Market) (calls : CallSchedule) (room : Room) {r : EventGrid} (e : r ≡ gridOutcome (eventGrid (m .settlement) (m .bond) calls (m .controls))) where
@@ -74,16 +75,27 @@ module _ (m : Market) (calls : CallSchedule) (room : Room) {r : EventGrid} (e : 
   value-unchecked p f =
       f ∙ ap uncheckedOf p ∙ sym (ap treeOf (follow-refused (eventGrid (m .settlement) (m .bond) calls (m .controls)) (λ grid. latticeValue m room grid) (grid-refused (eventGrid (m .settlement) (m .bond) calls (m .controls)) e p)))
 
-  pub value-checked : {v : TreeValue} → r .check ≡ check.Passed
-      → v ≡ treeOf (follow (finiteThen (div binary64 (r .grid .«maturity_time») (float (r .grid .steps))) 0 λ dt. fittedOver (m .settlement) (m .model) (m .pillars) room (r .grid .steps) dt) λ f. walked (m .spread) (r .grid .cashflows) (r .grid .calls) f)
+  pub value-checked : {times : List Float} {v : TreeValue} → times ≡ pillarTimes (m .settlement) (m .pillars .days) → r .check ≡ check.Passed
+      → v ≡ treeOf (follow (finiteThen (div binary64 (r .grid .«maturity_time») (float (r .grid .steps))) 0 λ dt. fittedOver (curveOver times (m .pillars .factors)) (m .model) room (r .grid .steps) dt) λ f. walked (m .spread) (r .grid .cashflows) (r .grid .calls) f)
       → v ≡ valueOn m calls room
-  unfolding valueOn latticeValue
-  value-checked {v} p f =
+  unfolding valueOn latticeValueOver
+  value-checked {v = v} t p f =
       f
+      ∙ ap (λ (times : List Float). treeOf (follow (finiteThen (div binary64 (r .grid .«maturity_time») (float (r .grid .steps))) 0 λ dt. fittedOver (curveOver times (m .pillars .factors)) (m .model) room (r .grid .steps) dt) λ f. walked (m .spread) (r .grid .cashflows) (r .grid .calls) f)) t
       ∙ ap (λ (o : Outcome Fitted). treeOf (follow o λ f. walked (m .spread) (r .grid .cashflows) (r .grid .calls) f)) (sym (tree-is m room (r .grid .«maturity_time») (r .grid .steps)))
       ∙ sym (ap treeOf (follow-given (eventGrid (m .settlement) (m .bond) calls (m .controls)) (λ grid. latticeValue m room grid) (grid-given (eventGrid (m .settlement) (m .bond) calls (m .controls)) e p)))
 
 -- ---- the entry
+
+as-tree : (o : Outcome TreeValue) → treeOf o ≡ onOutcome o Refused λ v. v
+unfolding treeOf onOutcome
+as-tree (given v) = refl
+as-tree (refused q) = refl
+
+-- What has passed its checks has this tree value.
+pub value-of-checked : (m : Market) (calls : CallSchedule) (room : Room) → treeChecks m calls ≡ check.Passed → valueOn m calls room ≡ treeValue m calls room
+unfolding treeValue valueOn onCheck
+value-of-checked m calls room p = as-tree _ ∙ ap (λ (c : Check). onCheck c Refused (onOutcome (follow (eventGrid (m .settlement) (m .bond) calls (m .controls)) λ grid. latticeValue m room grid) Refused λ v. v)) (sym p)
 
 module _ (m : Market) (calls : CallSchedule) {k : Check} (e : k ≡ treeChecks m calls) (before : Lent) where
   abbrev checked : TreeValue
@@ -97,18 +109,13 @@ module _ (m : Market) (calls : CallSchedule) {k : Check} (e : k ≡ treeChecks m
         slices = ap (λ (c : Check). onCheck c (λ r. before) (zeroed before)) (sym p ∙ e);
       }
 
-  as-tree : (o : Outcome TreeValue) → treeOf o ≡ onOutcome o Refused λ v. v
-  unfolding treeOf onOutcome
-  as-tree (given v) = refl
-  as-tree (refused q) = refl
-
   pub entered-zeroed : {v : TreeValue} {nodes : List ℤ} {probabilities first second : List Float} {a b c d : ℕ} → k ≡ check.Passed → v ≡ valueOn m calls (roomOf before)
       → nodes ≡ replicate a (pos 0) → probabilities ≡ replicate b plusZero → first ≡ replicate c plusZero → second ≡ replicate d plusZero
       → a ≡ length (before .nodes) → b ≡ length (before .probabilities) → c ≡ length (before .first) → d ≡ length (before .second)
       → Entered m calls v before (record { nodes = nodes; probabilities = probabilities; first = first; second = second })
-  unfolding treeValue lentAfter onCheck valueOn
+  unfolding lentAfter onCheck
   entered-zeroed {v} p f n o q s g h i j =
       record {
-        value = f ∙ as-tree _ ∙ ap (λ (c : Check). onCheck c Refused checked) (sym p ∙ e);
+        value = f ∙ value-of-checked m calls (roomOf before) (sym e ∙ p);
         slices = rw (n, o, q, s, g, h, i, j) (ap (λ (c : Check). onCheck c (λ r. before) (zeroed before)) (sym p ∙ e));
       }

@@ -8,10 +8,11 @@ use lib.ListN.{length, getD, drop, drop-of-length-le}
 use lib.IntN.{ℤ}
 use lib.Ieee.{Float}
 use Rattle.floats.specs.declared.Refusal.{Refusal}
+use Rattle.floats.specs.declared.Answer.{Answer}
 use Rattle.floats.specs.Answers.{plusZero}
 use Rattle.terms.specs.declared.Check.{Check}
 use Rattle.terms.specs.declared.Check.the-variants as check
-use Rattle.terms.specs.Terms.{HullWhite, Pillars}
+use Rattle.terms.specs.Terms.{HullWhite}
 use Rattle.terms.specs.Outcomes.{Outcome, given, refused, follow}
 use Rattle.terms.specs.laws.Outcomes.{Gives, gives, nothing, given-of, gives-follow, gives-valued, follow-given, follow-refused}
 use Rattle.hullwhite.specs.Variance.{transitionVariances, variancesFrom, stepVariance}
@@ -27,16 +28,16 @@ use Rattle.lattice.specs.laws.Laid.{layersIn}
 use Rattle.lattice.specs.laws.LaidTree.{LaidTree, LaysTree}
 
 -- Transitions, then the fit.
-unfoldable pub fittedWith : ℕ → Pillars → Room → Float → Float → List Float → Outcome Fitted
+unfoldable pub fittedWith : (Float → ℕ → Answer) → Room → Float → Float → List Float → Outcome Fitted
 unfolding lattice shiftsFrom
-fittedWith settlement pillars room alpha dt variances =
+fittedWith curve room alpha dt variances =
     follow (lattice room alpha dt variances) λ tree.
-    follow (fitted settlement pillars dt (tree .layers)) λ shifts. given (record { dt = dt; tree = tree; shifts = shifts })
+    follow (fitted curve dt (tree .layers)) λ shifts. given (record { dt = dt; tree = tree; shifts = shifts })
 
 -- Variances first.
-abbrev pub fittedOver : ℕ → HullWhite → Pillars → Room → ℕ → Float → Outcome Fitted
-fittedOver settlement model pillars room steps dt =
-    follow (transitionVariances model steps dt) λ variances. fittedWith settlement pillars room (model .alpha) dt variances
+abbrev pub fittedOver : (Float → ℕ → Answer) → HullWhite → Room → ℕ → Float → Outcome Fitted
+fittedOver curve model room steps dt =
+    follow (transitionVariances model steps dt) λ variances. fittedWith curve room (model .alpha) dt variances
 
 -- A check's refusal. One that passed has none, and isn't asked.
 abbrev pub unfittedOf : Check → FittedTree
@@ -91,19 +92,19 @@ filled-whole model dt steps {before = before} {vs = vs} f l e =
 
 -- ---- the fit from its parts
 
-module _ (settlement : ℕ) (pillars : Pillars) (room : Room) (alpha dt : Float) (vs : List Float) where
-  pub lattice-refused : {q : Refusal} → lattice room alpha dt vs ≡ refused q → fittedWith settlement pillars room alpha dt vs ≡ refused q
+module _ (curve : Float → ℕ → Answer) (room : Room) (alpha dt : Float) (vs : List Float) where
+  pub lattice-refused : {q : Refusal} → lattice room alpha dt vs ≡ refused q → fittedWith curve room alpha dt vs ≡ refused q
   unfolding fittedWith
   lattice-refused f = follow-refused (lattice room alpha dt vs) _ f
 
   module _ {t : Lattice} (f : lattice room alpha dt vs ≡ given t) where
-    pub shifts-refused : {q : Refusal} → fitted settlement pillars dt (t .layers) ≡ refused q → fittedWith settlement pillars room alpha dt vs ≡ refused q
+    pub shifts-refused : {q : Refusal} → fitted curve dt (t .layers) ≡ refused q → fittedWith curve room alpha dt vs ≡ refused q
     unfolding fittedWith
-    shifts-refused g = follow-given (lattice room alpha dt vs) _ f ∙ follow-refused (fitted settlement pillars dt (t .layers)) _ g
+    shifts-refused g = follow-given (lattice room alpha dt vs) _ f ∙ follow-refused (fitted curve dt (t .layers)) _ g
 
-    pub all-given : {xs : List Float} → fitted settlement pillars dt (t .layers) ≡ given xs → fittedWith settlement pillars room alpha dt vs ≡ given (record { dt = dt; tree = t; shifts = xs })
+    pub all-given : {xs : List Float} → fitted curve dt (t .layers) ≡ given xs → fittedWith curve room alpha dt vs ≡ given (record { dt = dt; tree = t; shifts = xs })
     unfolding fittedWith
-    all-given g = follow-given (lattice room alpha dt vs) _ f ∙ follow-given (fitted settlement pillars dt (t .layers)) _ g
+    all-given g = follow-given (lattice room alpha dt vs) _ f ∙ follow-given (fitted curve dt (t .layers)) _ g
 
 -- ---- what the code's parts make together
 
@@ -120,9 +121,9 @@ module _ {o : Outcome Fitted} {one two : ℕ} {counts : List ℕ} {spacings shif
   fits-as e (fits f g h) = fits f (e ∙ g) h
   fits-as e (refuses g) = refuses (e ∙ g)
 
-module _ (settlement : ℕ) (pillars : Pillars) (room : Room) (alpha dt : Float) (vs : List Float) {one two : ℕ} {counts : List ℕ} {spacings : List Float} {nodes : List ℤ} {probabilities : List Float} {l : Check} (laid : LaysTree (allFlat vs) one two 1 rootLayer (lattice room alpha dt vs) l counts spacings nodes probabilities) where
-  pub tree-refused : {q : Refusal} → l ≡ check.Refused q → fittedWith settlement pillars room alpha dt vs ≡ refused q
-  tree-refused e = lattice-refused settlement pillars room alpha dt vs (refused-is (lattice room alpha dt vs) (laid .outcome) e)
+module _ (curve : Float → ℕ → Answer) (room : Room) (alpha dt : Float) (vs : List Float) {one two : ℕ} {counts : List ℕ} {spacings : List Float} {nodes : List ℤ} {probabilities : List Float} {l : Check} (laid : LaysTree (allFlat vs) one two 1 rootLayer (lattice room alpha dt vs) l counts spacings nodes probabilities) where
+  pub tree-refused : {q : Refusal} → l ≡ check.Refused q → fittedWith curve room alpha dt vs ≡ refused q
+  tree-refused e = lattice-refused curve room alpha dt vs (refused-is (lattice room alpha dt vs) (laid .outcome) e)
 
   module _ (passed : l ≡ check.Passed) {flat : Bool} (same : flat ≡ allFlat vs) where
     pub tree-given : Given (lattice room alpha dt vs)
@@ -131,25 +132,25 @@ module _ (settlement : ℕ) (pillars : Pillars) (room : Room) (alpha dt : Float)
     pub laid-tree : LaidTree flat one two 1 rootLayer (tree-given .content) counts spacings nodes probabilities
     laid-tree = subst (λ (b : Bool). LaidTree b one two 1 rootLayer (tree-given .content) counts spacings nodes probabilities) (sym same) (laid .tree (tree-given .content) (tree-given .is))
 
-    module _ {shifts : List Float} {s : Check} (found : Found (fitted settlement pillars dt (layersIn flat counts spacings nodes probabilities)) s shifts) where
-      shifts-found : Found (fitted settlement pillars dt (tree-given .content .layers)) s shifts
-      shifts-found = subst (λ (ls : List Layer). Found (fitted settlement pillars dt ls) s shifts) (laid-tree .layers) found
+    module _ {shifts : List Float} {s : Check} (found : Found (fitted curve dt (layersIn flat counts spacings nodes probabilities)) s shifts) where
+      shifts-found : Found (fitted curve dt (tree-given .content .layers)) s shifts
+      shifts-found = subst (λ (ls : List Layer). Found (fitted curve dt ls) s shifts) (laid-tree .layers) found
 
-      pub fit-refused : {q : Refusal} → s ≡ check.Refused q → fittedWith settlement pillars room alpha dt vs ≡ refused q
-      fit-refused e = shifts-refused settlement pillars room alpha dt vs (tree-given .is) (refused-is _ (shifts-found .outcome) e)
+      pub fit-refused : {q : Refusal} → s ≡ check.Refused q → fittedWith curve room alpha dt vs ≡ refused q
+      fit-refused e = shifts-refused curve room alpha dt vs (tree-given .is) (refused-is _ (shifts-found .outcome) e)
 
-      pub fit-fits : s ≡ check.Passed → FitsTree (fittedWith settlement pillars room alpha dt vs) one two counts spacings shifts nodes probabilities (tree.Fitted dt flat)
+      pub fit-fits : s ≡ check.Passed → FitsTree (fittedWith curve room alpha dt vs) one two counts spacings shifts nodes probabilities (tree.Fitted dt flat)
       fit-fits e =
-          let g = passed-given (fitted settlement pillars dt (tree-given .content .layers)) (shifts-found .outcome) e in
-          fits _ (all-given settlement pillars room alpha dt vs (tree-given .is) (g .is))
+          let g = passed-given (fitted curve dt (tree-given .content .layers)) (shifts-found .outcome) e in
+          fits _ (all-given curve room alpha dt vs (tree-given .is) (g .is))
           (record { dt-is = refl; stands = laid-tree; shifts-are = sym (shifts-found .slice (g .content) (g .is)) })
 
 -- The variances that were worked out, then the tree over them.
-pub over-variances : (settlement : ℕ) (model : HullWhite) (pillars : Pillars) (room : Room) (steps : ℕ) (dt : Float) {one two : ℕ} {counts : List ℕ} {spacings shifts before after : List Float} {nodes : List ℤ} {probabilities : List Float} {v : Check} {r : FittedTree}
+pub over-variances : (curve : Float → ℕ → Answer) (model : HullWhite) (room : Room) (steps : ℕ) (dt : Float) {one two : ℕ} {counts : List ℕ} {spacings shifts before after : List Float} {nodes : List ℤ} {probabilities : List Float} {v : Check} {r : FittedTree}
     → Filled (transitionVariances model steps dt) v before after → length before ≡ steps → v ≡ check.Passed
-    → FitsTree (fittedWith settlement pillars room (model .alpha) dt after) one two counts spacings shifts nodes probabilities r
-    → FitsTree (fittedOver settlement model pillars room steps dt) one two counts spacings shifts nodes probabilities r
-over-variances settlement model pillars room steps dt f l e t =
+    → FitsTree (fittedWith curve room (model .alpha) dt after) one two counts spacings shifts nodes probabilities r
+    → FitsTree (fittedOver curve model room steps dt) one two counts spacings shifts nodes probabilities r
+over-variances curve model room steps dt f l e t =
     let g = passed-given (transitionVariances model steps dt) (f .outcome) e in
     let s = filled-whole model dt steps f l (g .is) in
-    fits-as (follow-given (transitionVariances model steps dt) _ (g .is) ∙ ap (fittedWith settlement pillars room (model .alpha) dt) (sym s)) t
+    fits-as (follow-given (transitionVariances model steps dt) _ (g .is) ∙ ap (fittedWith curve room (model .alpha) dt) (sym s)) t

@@ -14,7 +14,7 @@ enum-told-2 : tie.Need-enum-told-2
 enum-told-2 c = search sequence
 
 returns : tie.Need-returns
-returns c = grid-tells _ _ _ (search sequence)
+returns c = grid-tells (record { perYear = c .before .before .before .before .before .before .before .before .before .args .yearly; maximum = c .before .before .before .before .before .before .before .before .before .args .maximum }) _ _ (search sequence)
 
 leg-count-requires : tie.Need-leg-count-requires
 leg-count-requires c κs = search sequence
@@ -26,13 +26,13 @@ enum-told-4 : tie.Need-enum-told-4
 enum-told-4 c = search sequence
 
 returns-2 : tie.Need-returns-2
-returns-2 c = grid-tells _ _ _ (search sequence)
+returns-2 c = grid-tells (record { perYear = c .before .before .before .before .before .before .before .before .before .before .before .before .args .yearly; maximum = c .before .before .before .before .before .before .before .before .before .before .before .before .args .maximum }) _ _ (search sequence)
 
 call-count-requires : tie.Need-call-count-requires
 call-count-requires c κs = search sequence
 
 returns-3 : tie.Need-returns-3
-returns-3 c = grid-tells _ _ _ (search sequence)
+returns-3 c = grid-tells (record { perYear = c .before .before .before .before .before .before .before .before .before .before .before .before .before .args .yearly; maximum = c .before .before .before .before .before .before .before .before .before .before .before .before .before .args .maximum }) _ _ (search sequence)
 
 pub grid-counts-spec : {M : Type 1} → statement M
 grid-counts-spec =

@@ -15,23 +15,11 @@ enum-told-2 c = search sequence
 returns : tie.Need-returns
 returns c = search sequence
 
-all-within-requires : tie.Need-all-within-requires
-all-within-requires c κs = search sequence
-
-enum-told-3 : tie.Need-enum-told-3
-enum-told-3 c = search sequence
-
-enum-told-4 : tie.Need-enum-told-4
-enum-told-4 c = search sequence
+list-numbers-requires : tie.Need-list-numbers-requires
+list-numbers-requires c κs = search sequence
 
 returns-2 : tie.Need-returns-2
 returns-2 c = search sequence
-
-strike-range-requires : tie.Need-strike-range-requires
-strike-range-requires c κs = search sequence
-
-returns-3 : tie.Need-returns-3
-returns-3 c = search sequence
 
 pub grid-numbers-spec : {M : Type 1} → statement M
 grid-numbers-spec =
@@ -41,9 +29,5 @@ grid-numbers-spec =
     enum-told
     enum-told-2
     returns
-    all-within-requires
-    enum-told-3
-    enum-told-4
-    returns-2
-    strike-range-requires
-    returns-3)
+    list-numbers-requires
+    returns-2)

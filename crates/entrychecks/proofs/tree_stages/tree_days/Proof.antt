@@ -1,10 +1,11 @@
--- `tree_days` meets its contract: the checks follow one another as in the definition. Assumes nothing.
-use Rattle.terms.proofs.Laws.{sequence}
+-- `tree_days` meets its contract: the grid's days, then the pillars'. Assumes nothing.
+use mathlib.Core.Path.{refl}
+use Rattle.terms.proofs.Laws.{only-one, passed-group, refused-group, sequence}
 use Rattle.entrychecks.proofs.tree_stages.tree_days.Statement.{statement}
 use Rattle.entrychecks.proofs.tree_stages.tree_days.Tie as tie
 
-settlement-day-requires : tie.Need-settlement-day-requires
-settlement-day-requires c κs = search sequence
+grid-days-requires : tie.Need-grid-days-requires
+grid-days-requires c κs = search sequence
 
 enum-told : tie.Need-enum-told
 enum-told c = search sequence
@@ -13,53 +14,21 @@ enum-told-2 : tie.Need-enum-told-2
 enum-told-2 c = search sequence
 
 returns : tie.Need-returns
-returns c = search sequence
-
-leg-days-requires : tie.Need-leg-days-requires
-leg-days-requires c κs = search sequence
-
-enum-told-3 : tie.Need-enum-told-3
-enum-told-3 c = search sequence
-
-enum-told-4 : tie.Need-enum-told-4
-enum-told-4 c = search sequence
-
-returns-2 : tie.Need-returns-2
-returns-2 c = search sequence
-
-call-days-requires : tie.Need-call-days-requires
-call-days-requires c κs = search sequence
-
-enum-told-5 : tie.Need-enum-told-5
-enum-told-5 c = search sequence
-
-enum-told-6 : tie.Need-enum-told-6
-enum-told-6 c = search sequence
-
-returns-3 : tie.Need-returns-3
-returns-3 c = search sequence
+returns c = refused-group _ _ (c .before .before .grid-days .ensures) (c .enum-told2 .given .1) refl
 
 pillar-days-requires : tie.Need-pillar-days-requires
 pillar-days-requires c κs = search sequence
 
-returns-4 : tie.Need-returns-4
-returns-4 c = search sequence
+returns-2 : tie.Need-returns-2
+returns-2 c = passed-group _ _ (c .before .before .before .grid-days .ensures) (c .before .enum-told .given .1) (only-one _ (c .pillar-days .ensures))
 
 pub tree-days-spec : {M : Type 1} → statement M
 tree-days-spec =
     tie.close
     (tie.spec
-    settlement-day-requires
+    grid-days-requires
     enum-told
     enum-told-2
     returns
-    leg-days-requires
-    enum-told-3
-    enum-told-4
-    returns-2
-    call-days-requires
-    enum-told-5
-    enum-told-6
-    returns-3
     pillar-days-requires
-    returns-4)
+    returns-2)

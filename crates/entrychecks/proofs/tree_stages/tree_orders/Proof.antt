@@ -30,20 +30,8 @@ returns-2 c = search sequence
 any-paid-requires : tie.Need-any-paid-requires
 any-paid-requires c κs = search sequence
 
-enum-told-5 : tie.Need-enum-told-5
-enum-told-5 c = search sequence
-
-enum-told-6 : tie.Need-enum-told-6
-enum-told-6 c = search sequence
-
 returns-3 : tie.Need-returns-3
 returns-3 c = search sequence
-
-pillars-to-maturity-requires : tie.Need-pillars-to-maturity-requires
-pillars-to-maturity-requires c κs = search sequence
-
-returns-4 : tie.Need-returns-4
-returns-4 c = search sequence
 
 pub tree-orders-spec : {M : Type 1} → statement M
 tree-orders-spec =
@@ -58,8 +46,4 @@ tree-orders-spec =
     enum-told-4
     returns-2
     any-paid-requires
-    enum-told-5
-    enum-told-6
-    returns-3
-    pillars-to-maturity-requires
-    returns-4)
+    returns-3)

@@ -37,7 +37,7 @@ front : (t : ℕ) (c : fit-lts.Else1 (claims t) (fit-at t) fit.Post)
 front t c = behind-of (c .before .before .before .before .before .before .before .before .before .pre .1 .0) (c .if1 .left)
 
 fit-returns : (t : ℕ) → fit-lts.Need-returns (claims t) (fit-at t) fit.Post
-fit-returns t c = found-none _ _ _ _ _ _ (c .before .before .before .before .before .before .before .before .before .pre .1 .0) (c .before .before .before .before .before .before .before .before .before .pre .1 .1 .0) (c .if1 .taken)
+fit-returns t c = found-none _ _ _ _ _ (c .before .before .before .before .before .before .before .before .before .pre .1 .0) (c .before .before .before .before .before .before .before .before .before .pre .1 .1 .0) (c .if1 .taken)
 
 fit-shared-slice-read-count : (t : ℕ) → fit-lts.Need-shared-slice-read-count (claims t) (fit-at t) fit.Post
 fit-shared-slice-read-count t c = omega (arith, front t (c .before) .two-counts)
@@ -70,13 +70,13 @@ fit-row-refused-requires : (t : ℕ) → fit-lts.Need-row-refused-requires (clai
 fit-row-refused-requires t c κs = tt
 
 fit-same-length : (t : ℕ) → fit-lts.Need-same-length (claims t) (fit-at t) fit.Post
-fit-same-length t c = c .before .before .before .before .before .before .before .fit-step .kept .1 .1 .1 .1 .1 .1 .1 .1 .1 .1 .0
+fit-same-length t c = c .before .before .before .before .before .before .before .fit-step .kept .1 .1 .1 .1 .1 .1 .1 .1 .1 .0
 
 fit-same-length-2 : (t : ℕ) → fit-lts.Need-same-length-2 (claims t) (fit-at t) fit.Post
-fit-same-length-2 t c = c .before .before .before .before .before .before .before .fit-step .kept .1 .1 .1 .1 .1 .1 .1 .1 .1 .1 .1 .0
+fit-same-length-2 t c = c .before .before .before .before .before .before .before .fit-step .kept .1 .1 .1 .1 .1 .1 .1 .1 .1 .1 .0
 
 fit-returns-2 : (t : ℕ) → fit-lts.Need-returns-2 (claims t) (fit-at t) fit.Post
-fit-returns-2 t c = found-refused _ _ _ _ _ _ _ _ _ _ _ (front t (c .before .before .before .before .before .before .before .before .before .before .before .before .before .before)) (c .before .before .before .before .before .before .before .fit-step .ensures) _ _ (c .before .enum-told .given .1) (c .row-refused .ensures)
+fit-returns-2 t c = found-refused _ _ _ _ _ _ _ _ _ _ (front t (c .before .before .before .before .before .before .before .before .before .before .before .before .before .before)) (c .before .before .before .before .before .before .before .fit-step .ensures) _ _ (c .before .enum-told .given .1) (c .row-refused .ensures)
 
 fit-slice-write-shifts : (t : ℕ) → fit-lts.Need-slice-write-shifts (claims t) (fit-at t) fit.Post
 fit-slice-write-shifts t c = omega (arith, c .before .before .before .before .before .before .before .before .before .before .before .before .before .before .before .before .before .before .before .before .before .before .before .pre .1 .1 .0, c .before .before .before .before .before .before .before .before .before .before .before .before .before .before .if1)
@@ -143,19 +143,19 @@ fit-fit-requires t c κs =
     let two = c .before .before .before .before .before .before .before .before .before .before .before .before .before .before .before .before .before .before .before .before .before .before .before .before .before .before .before .before .before .before .args .second .now in
     let kept = c .before .before .before .before .before .before .before .before .before .before .before .before .before .before .fit-step .kept in
     let n = part-length 1 s in
-    (omega (arith, n, p .0, c .before .before .before .before .before .before .before .before .before .before .before .before .before .before .before .before .before .before .before .before .before .if1), (laid-over {one = length one} {two = length two} (kept .1 .1 .1 .1 .1 .1 .1 .1 .1 .1 .0) (kept .1 .1 .1 .1 .1 .1 .1 .1 .1 .1 .1 .0) (laid-parts (front t (c .before .before .before .before .before .before .before .before .before .before .before .before .before .before .before .before .before .before .before .before .before))), (omega (arith, n, rest-length (c .before .before .before .before .before .before .before .before .before .before .before .before .before .before .before .before .before .before .before .before .before .before .before .before .before .before .before .before .before .before .args .shifts .now) (c .before .before .before .before .before .before .before .before .s .given .0 .0), p .1 .1 .0), omega (arith, n, p .1 .1 .1, c .before .before .before .before .before .before .before .before .before .before .before .before .before .before .before .before .before .before .before .before .before .if1))))
+    (omega (arith, n, p .0, c .before .before .before .before .before .before .before .before .before .before .before .before .before .before .before .before .before .before .before .before .before .if1), (laid-over {one = length one} {two = length two} (kept .1 .1 .1 .1 .1 .1 .1 .1 .1 .0) (kept .1 .1 .1 .1 .1 .1 .1 .1 .1 .1 .0) (laid-parts (front t (c .before .before .before .before .before .before .before .before .before .before .before .before .before .before .before .before .before .before .before .before .before))), (omega (arith, n, rest-length (c .before .before .before .before .before .before .before .before .before .before .before .before .before .before .before .before .before .before .before .before .before .before .before .before .before .before .before .before .before .before .args .shifts .now) (c .before .before .before .before .before .before .before .before .s .given .0 .0), p .1 .1 .0), omega (arith, n, p .1 .1 .1, c .before .before .before .before .before .before .before .before .before .before .before .before .before .before .before .before .before .before .before .before .before .if1))))
 
 fit-same-length-3 : (t : ℕ) → fit-lts.Need-same-length-3 (claims t) (fit-at t) fit.Post
-fit-same-length-3 t c = c .before .before .before .before .before .before .fit .kept .1 .1 .1 .1 .1 .1 .1 .1 .1 .1 .0 ∙ c .before .before .before .before .before .before .before .before .before .before .before .before .before .before .before .before .before .before .before .before .before .fit-step .kept .1 .1 .1 .1 .1 .1 .1 .1 .1 .1 .0
+fit-same-length-3 t c = c .before .before .before .before .before .before .fit .kept .1 .1 .1 .1 .1 .1 .1 .1 .1 .0 ∙ c .before .before .before .before .before .before .before .before .before .before .before .before .before .before .before .before .before .before .before .before .before .fit-step .kept .1 .1 .1 .1 .1 .1 .1 .1 .1 .0
 
 fit-same-length-4 : (t : ℕ) → fit-lts.Need-same-length-4 (claims t) (fit-at t) fit.Post
-fit-same-length-4 t c = c .before .before .before .before .before .before .fit .kept .1 .1 .1 .1 .1 .1 .1 .1 .1 .1 .1 .0 ∙ c .before .before .before .before .before .before .before .before .before .before .before .before .before .before .before .before .before .before .before .before .before .fit-step .kept .1 .1 .1 .1 .1 .1 .1 .1 .1 .1 .1 .0
+fit-same-length-4 t c = c .before .before .before .before .before .before .fit .kept .1 .1 .1 .1 .1 .1 .1 .1 .1 .1 .0 ∙ c .before .before .before .before .before .before .before .before .before .before .before .before .before .before .before .before .before .before .before .before .before .fit-step .kept .1 .1 .1 .1 .1 .1 .1 .1 .1 .1 .0
 
 fit-same-length-5 : (t : ℕ) → fit-lts.Need-same-length-5 (claims t) (fit-at t) fit.Post
-fit-same-length-5 t c = with-rest-length (c .before .before .before .before .before .before .before .before .before .before .before .before .before .before .before .before .before .before .before .before .before .before .before .before .before .before .before .before .before .before .before .before .before .before .before .before .before .args .shifts .now) (c .before .before .before .before .before .before .before .before .before .before .before .before .before .before .before .s .given .0 .0) (c .before .before .before .before .before .before .fit .last .1 .1 .1 .1 .1 .1 .1 .1 .1 .1 .1 .1 .0) (omega (arith, c .before .before .before .before .before .before .before .before .before .before .before .before .before .before .before .before .before .before .before .before .before .before .before .before .before .before .before .before .before .before .before .before .before .before .before .before .before .pre .1 .1 .0, c .before .before .before .before .before .before .before .before .before .before .before .before .before .before .before .before .before .before .before .before .before .before .before .before .before .before .before .before .if1)) (c .before .before .before .before .before .before .fit .kept .1 .1 .1 .1 .1 .1 .1 .1 .1 .1 .1 .1 .0)
+fit-same-length-5 t c = with-rest-length (c .before .before .before .before .before .before .before .before .before .before .before .before .before .before .before .before .before .before .before .before .before .before .before .before .before .before .before .before .before .before .before .before .before .before .before .before .before .args .shifts .now) (c .before .before .before .before .before .before .before .before .before .before .before .before .before .before .before .s .given .0 .0) (c .before .before .before .before .before .before .fit .last .1 .1 .1 .1 .1 .1 .1 .1 .1 .1 .1 .0) (omega (arith, c .before .before .before .before .before .before .before .before .before .before .before .before .before .before .before .before .before .before .before .before .before .before .before .before .before .before .before .before .before .before .before .before .before .before .before .before .before .pre .1 .1 .0, c .before .before .before .before .before .before .before .before .before .before .before .before .before .before .before .before .before .before .before .before .before .before .before .before .before .before .before .before .if1)) (c .before .before .before .before .before .before .fit .kept .1 .1 .1 .1 .1 .1 .1 .1 .1 .1 .1 .0)
 
 fit-returns-3 : (t : ℕ) → fit-lts.Need-returns-3 (claims t) (fit-at t) fit.Post
-fit-returns-3 t c = found-more _ _ _ _ _ _ _ _ _ _ _ (front t (c .before .before .before .before .before .before .before .before .before .before .before .before .before .before .before .before .before .before .before .before .before .before .before .before .before .before .before .before)) (c .before .before .before .before .before .before .before .before .before .before .before .before .before .before .before .before .before .before .before .before .before .fit-step .ensures) _ (c .before .before .before .before .before .before .before .before .before .before .before .before .before .before .before .before .before .before .before .before .before .before .before .before .before .before .before .before .before .before .before .before .before .before .before .before .before .args .shifts .now) (c .before .before .before .before .before .before .fit .last .1 .1 .1 .1 .1 .1 .1 .1 .1 .1 .1 .1 .0) (omega (arith, c .before .before .before .before .before .before .before .before .before .before .before .before .before .before .before .before .before .before .before .before .before .before .before .before .before .before .before .before .before .before .before .before .before .before .before .before .before .pre .1 .1 .0, c .before .before .before .before .before .before .before .before .before .before .before .before .before .before .before .before .before .before .before .before .before .before .before .before .before .before .before .before .if1)) (c .before .before .before .before .before .before .before .before .before .before .before .before .before .before .before .s .given .1) (c .before .before .before .before .before .before .fit .ensures)
+fit-returns-3 t c = found-more _ _ _ _ _ _ _ _ _ _ (front t (c .before .before .before .before .before .before .before .before .before .before .before .before .before .before .before .before .before .before .before .before .before .before .before .before .before .before .before .before)) (c .before .before .before .before .before .before .before .before .before .before .before .before .before .before .before .before .before .before .before .before .before .fit-step .ensures) _ (c .before .before .before .before .before .before .before .before .before .before .before .before .before .before .before .before .before .before .before .before .before .before .before .before .before .before .before .before .before .before .before .before .before .before .before .before .before .args .shifts .now) (c .before .before .before .before .before .before .fit .last .1 .1 .1 .1 .1 .1 .1 .1 .1 .1 .1 .0) (omega (arith, c .before .before .before .before .before .before .before .before .before .before .before .before .before .before .before .before .before .before .before .before .before .before .before .before .before .before .before .before .before .before .before .before .before .before .before .before .before .pre .1 .1 .0, c .before .before .before .before .before .before .before .before .before .before .before .before .before .before .before .before .before .before .before .before .before .before .before .before .before .before .before .before .if1)) (c .before .before .before .before .before .before .before .before .before .before .before .before .before .before .before .s .given .1) (c .before .before .before .before .before .before .fit .ensures)
 
 pub +fit-spec : {M : Type 1} → statement M
 +fit-spec =

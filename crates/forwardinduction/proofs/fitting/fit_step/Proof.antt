@@ -26,7 +26,7 @@ same-length-2 : tie.Need-same-length-2
 same-length-2 c = refl
 
 returns : tie.Need-returns
-returns c = step-refused _ _ _ _ _ _ _ _ _ _ _ (c .before .before .before .current .ensures) (c .before .before .layer-shift .ensures) (c .enum-told .given .1)
+returns c = step-refused _ _ _ _ _ _ _ _ _ _ (c .before .before .before .current .ensures) (c .before .before .layer-shift .ensures) (c .enum-told .given .1)
 
 advance-requires : tie.Need-advance-requires
 advance-requires c κs = search needs
@@ -44,7 +44,7 @@ same-length-4 : tie.Need-same-length-4
 same-length-4 c = c .before .before .before .before .before .before .advance .kept .1 .1 .1 .0
 
 returns-2 : tie.Need-returns-2
-returns-2 c = step-moved _ _ _ _ _ _ _ _ _ _ _ (c .before .before .before .before .before .before .before .before .before .before .before .before .before .current .ensures) (c .before .before .before .before .before .before .before .before .before .before .before .before .layer-shift .ensures) (c .before .before .before .before .before .before .before .before .before .before .s .given .1) (c .before .before .before .before .before .before .advance .ensures) (c .enum-told2 .given .1)
+returns-2 c = step-moved _ _ _ _ _ _ _ _ _ _ (c .before .before .before .before .before .before .before .before .before .before .before .before .before .current .ensures) (c .before .before .before .before .before .before .before .before .before .before .before .before .layer-shift .ensures) (c .before .before .before .before .before .before .before .before .before .before .s .given .1) (c .before .before .before .before .before .before .advance .ensures) (c .enum-told2 .given .1)
 
 same-length-5 : tie.Need-same-length-5
 same-length-5 c = c .before .before .before .before .before .before .before .advance .kept .1 .1 .0
@@ -53,7 +53,7 @@ same-length-6 : tie.Need-same-length-6
 same-length-6 c = c .before .before .before .before .before .before .before .advance .kept .1 .1 .1 .0
 
 returns-3 : tie.Need-returns-3
-returns-3 c = step-halted _ _ _ _ _ _ _ _ _ _ _ (c .before .before .before .before .before .before .before .before .before .before .before .before .before .before .current .ensures) (c .before .before .before .before .before .before .before .before .before .before .before .before .before .layer-shift .ensures) (c .before .before .before .before .before .before .before .before .before .before .before .s .given .1) (c .before .before .before .before .before .before .before .advance .ensures) (c .before .a .given .1)
+returns-3 c = step-halted _ _ _ _ _ _ _ _ _ _ (c .before .before .before .before .before .before .before .before .before .before .before .before .before .before .current .ensures) (c .before .before .before .before .before .before .before .before .before .before .before .before .before .layer-shift .ensures) (c .before .before .before .before .before .before .before .before .before .before .before .s .given .1) (c .before .before .before .before .before .before .before .advance .ensures) (c .before .a .given .1)
 
 pub fit-step-spec : {M : Type 1} → statement M
 fit-step-spec =

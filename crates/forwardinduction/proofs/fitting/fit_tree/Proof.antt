@@ -15,13 +15,13 @@ fit-requires : tie.Need-fit-requires
 fit-requires c κs = (laid-over (length-set (c .before .before .before .before .before .before .before .before .before .before .before .args .first .now) 0 one) refl (c .before .before .before .before .before .before .before .before .before .before .before .pre .0), (c .before .before .before .before .before .before .before .before .before .before .before .pre .1 .0 .0, omega (arith, c .before .before .before .before .before .before .before .before .before .before .before .pre .1 .0 .1)))
 
 same-length : tie.Need-same-length
-same-length c = c .before .before .before .before .before .before .fit .kept .1 .1 .1 .1 .1 .1 .1 .1 .1 .1 .0 ∙ length-set (c .before .before .before .before .before .before .before .before .before .before .before .before .before .before .before .before .before .before .args .first .now) 0 one
+same-length c = c .before .before .before .before .before .before .fit .kept .1 .1 .1 .1 .1 .1 .1 .1 .1 .0 ∙ length-set (c .before .before .before .before .before .before .before .before .before .before .before .before .before .before .before .before .before .before .args .first .now) 0 one
 
 same-length-2 : tie.Need-same-length-2
-same-length-2 c = c .before .before .before .before .before .before .fit .kept .1 .1 .1 .1 .1 .1 .1 .1 .1 .1 .1 .0
+same-length-2 c = c .before .before .before .before .before .before .fit .kept .1 .1 .1 .1 .1 .1 .1 .1 .1 .1 .0
 
 same-length-3 : tie.Need-same-length-3
-same-length-3 c = c .before .before .before .before .before .before .fit .kept .1 .1 .1 .1 .1 .1 .1 .1 .1 .1 .1 .1 .0
+same-length-3 c = c .before .before .before .before .before .before .fit .kept .1 .1 .1 .1 .1 .1 .1 .1 .1 .1 .1 .0
 
 returns : tie.Need-returns
 returns c =

@@ -1,65 +1,41 @@
--- `transition_of` meets its contract: each operation is tested as the definition has it; the quotient rounds to a whole number. Assumes nothing.
-use mathlib.Core.Path.{sym, _∙_}
+-- `transition_of` meets its contract: the middle, then error and probabilities. Assumes nothing.
 use borrow.Author.Needs.{needs}
+use mathlib.Core.Path.{_∙_}
 use mir.Facts.{toZ-ofZ}
-use Rattle.lattice.proofs.Signed.{back}
-use Rattle.floats.proofs.Laws.{finite-by-call}
-use Rattle.floats.specs.laws.Whole.{rounded-whole}
-use Rattle.lattice.specs.laws.Making.{stepFrom, centredFrom, centred-transition, from-rounded, quotientOf}
-use Rattle.lattice.proofs.Laws.{transitions}
+use Rattle.lattice.specs.laws.Making.{stepFrom}
+use Rattle.lattice.specs.laws.Middles.{made-within, made-transition, made-refused}
 use Rattle.lattice.proofs.node.transition_of.Statement.{statement}
 use Rattle.lattice.proofs.node.transition_of.Tie as tie
 
-int-to-float-state : tie.Need-int-to-float-state
-int-to-float-state c = tt
+middle-of-requires : tie.Need-middle-of-requires
+middle-of-requires c κs = tt
 
-not-finite-requires : tie.Need-not-finite-requires
-not-finite-requires c κs = tt
-
-returns : tie.Need-returns
-unfolding centredFrom
-returns c = rw (← centred-transition (stepFrom (c .before .before .before .args .spacing) (c .before .before .before .args .decay) (c .before .before .before .args .new-spacing) (c .before .before .before .args .denominator) (c .before .before .before .args .scale) (c .before .before .before .args .place)) (c .before .before .before .args .node), ← toZ-ofZ (c .before .before .before .fits .node)) (search transitions)
-
-not-finite-requires-2 : tie.Need-not-finite-requires-2
-not-finite-requires-2 c κs = tt
-
-returns-2 : tie.Need-returns-2
-unfolding centredFrom
-returns-2 c = rw (← centred-transition (stepFrom (c .before .before .before .before .before .args .spacing) (c .before .before .before .before .before .args .decay) (c .before .before .before .before .before .args .new-spacing) (c .before .before .before .before .before .args .denominator) (c .before .before .before .before .before .args .scale) (c .before .before .before .before .before .args .place)) (c .before .before .before .before .before .args .node), ← toZ-ofZ (c .before .before .before .before .before .fits .node)) (search transitions)
-
-not-finite-requires-3 : tie.Need-not-finite-requires-3
-not-finite-requires-3 c κs = tt
-
-returns-3 : tie.Need-returns-3
-unfolding centredFrom
-returns-3 c = rw (← centred-transition (stepFrom (c .before .before .before .before .before .before .before .args .spacing) (c .before .before .before .before .before .before .before .args .decay) (c .before .before .before .before .before .before .before .args .new-spacing) (c .before .before .before .before .before .before .before .args .denominator) (c .before .before .before .before .before .before .before .args .scale) (c .before .before .before .before .before .before .before .args .place)) (c .before .before .before .before .before .before .before .args .node), ← toZ-ofZ (c .before .before .before .before .before .before .before .fits .node)) (search transitions)
-
-near-requires : tie.Need-near-requires
-near-requires c κs = finite-by-call (quotientOf (stepFrom (c .before .before .before .before .before .before .before .args .spacing) (c .before .before .before .before .before .before .before .args .decay) (c .before .before .before .before .before .before .before .args .new-spacing) (c .before .before .before .before .before .before .before .args .denominator) (c .before .before .before .before .before .before .before .args .scale) (c .before .before .before .before .before .before .before .args .place)) (back (c .before .before .before .before .before .before .before .args .node))) (c .before .not-finite3 .ensures) (c .if3 .left)
+enum-known-made : tie.Need-enum-known-made
+enum-known-made c = search needs
 
 centred-requires : tie.Need-centred-requires
-centred-requires c κs = rw (c .near .ensures) (rounded-whole (quotientOf (stepFrom (c .before .before .before .before .before .before .before .before .args .spacing) (c .before .before .before .before .before .before .before .before .args .decay) (c .before .before .before .before .before .before .before .before .args .new-spacing) (c .before .before .before .before .before .before .before .before .args .denominator) (c .before .before .before .before .before .before .before .before .args .scale) (c .before .before .before .before .before .before .before .before .args .place)) (back (c .before .before .before .before .before .before .before .before .args .node))) (search needs) (finite-by-call (quotientOf (stepFrom (c .before .before .before .before .before .before .before .before .args .spacing) (c .before .before .before .before .before .before .before .before .args .decay) (c .before .before .before .before .before .before .before .before .args .new-spacing) (c .before .before .before .before .before .before .before .before .args .denominator) (c .before .before .before .before .before .before .before .before .args .scale) (c .before .before .before .before .before .before .before .before .args .place)) (back (c .before .before .before .before .before .before .before .before .args .node))) (c .before .before .not-finite3 .ensures) (c .before .if3 .left)))
+centred-requires c κs =
+    made-within (stepFrom (c .before .before .before .before .args .spacing) (c .before .before .before .before .args .decay) (c .before .before .before .before .args .new-spacing) (c .before .before .before .before .args .denominator) (c .before .before .before .before .args .scale) (c .before .before .before .before .args .place)) (c .before .before .before .before .args .node) _ (rw (toZ-ofZ (c .before .before .before .before .fits .node)) at (c .before .before .before .middle-of .ensures)) _ (c .before .made .given .1)
 
-returns-4 : tie.Need-returns-4
-returns-4 c =
-    rw (
-      ← centred-transition (stepFrom (c .before .before .before .before .before .before .before .before .before .args .spacing) (c .before .before .before .before .before .before .before .before .before .args .decay) (c .before .before .before .before .before .before .before .before .before .args .new-spacing) (c .before .before .before .before .before .before .before .before .before .args .denominator) (c .before .before .before .before .before .before .before .before .before .args .scale) (c .before .before .before .before .before .before .before .before .before .args .place)) (c .before .before .before .before .before .before .before .before .before .args .node),
-      ← toZ-ofZ (c .before .before .before .before .before .before .before .before .before .fits .node),
-      from-rounded (stepFrom (c .before .before .before .before .before .before .before .before .before .args .spacing) (c .before .before .before .before .before .before .before .before .before .args .decay) (c .before .before .before .before .before .before .before .before .before .args .new-spacing) (c .before .before .before .before .before .before .before .before .before .args .denominator) (c .before .before .before .before .before .before .before .before .before .args .scale) (c .before .before .before .before .before .before .before .before .before .args .place)) (back (c .before .before .before .before .before .before .before .before .before .args .node)) (search needs) (sym (c .before .before .before .before .before .before .before .not-finite .ensures) ∙ c .before .before .before .before .before .before .if1 .left) (sym (c .before .before .before .before .before .not-finite2 .ensures) ∙ c .before .before .before .before .if2 .left) (sym (c .before .before .before .not-finite3 .ensures) ∙ c .before .before .if3 .left),
-    )
-    (rw (c .before .near .ensures) at (c .centred .ensures))
+enum-known-made-2 : tie.Need-enum-known-made-2
+enum-known-made-2 c = search needs
+
+returns : tie.Need-returns
+returns c =
+    c .centred .ensures
+    ∙ made-transition (stepFrom (c .before .before .before .before .before .args .spacing) (c .before .before .before .before .before .args .decay) (c .before .before .before .before .before .args .new-spacing) (c .before .before .before .before .before .args .denominator) (c .before .before .before .before .before .args .scale) (c .before .before .before .before .before .args .place)) (c .before .before .before .before .before .args .node) _ (rw (toZ-ofZ (c .before .before .before .before .before .fits .node)) at (c .before .before .before .before .middle-of .ensures)) _ (c .before .before .made .given .1)
+
+returns-2 : tie.Need-returns-2
+returns-2 c =
+    made-refused (stepFrom (c .before .before .before .before .args .spacing) (c .before .before .before .before .args .decay) (c .before .before .before .before .args .new-spacing) (c .before .before .before .before .args .denominator) (c .before .before .before .before .args .scale) (c .before .before .before .before .args .place)) (c .before .before .before .before .args .node) _ (rw (toZ-ofZ (c .before .before .before .before .fits .node)) at (c .before .before .before .middle-of .ensures)) _ (c .before .made2 .given .1)
 
 pub transition-of-spec : {M : Type 1} → statement M
 transition-of-spec =
     tie.close
     (tie.spec
-    int-to-float-state
-    not-finite-requires
-    returns
-    not-finite-requires-2
-    returns-2
-    not-finite-requires-3
-    returns-3
-    near-requires
+    middle-of-requires
+    enum-known-made
     centred-requires
-    returns-4)
+    enum-known-made-2
+    returns
+    returns-2)

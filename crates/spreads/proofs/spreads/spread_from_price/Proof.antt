@@ -1,6 +1,6 @@
 -- `spread_from_price` meets its contract: the checks, the root, and the slices left all zero (`SpreadSolved`). Assumes nothing.
 use mathlib.Core.Path.{refl, sym, _∙_}
-use Rattle.terms.specs.laws.EntryChecks.{spread-grid}
+use Rattle.terms.specs.laws.EntryChecks.{spread-grid, spread-few-pillars}
 use Rattle.bondevents.proofs.Grids.{settled, leg-sized, calls-sized}
 use Rattle.spreads.specs.laws.SpreadSolved.{solved-refused, solved-zeroed}
 use Rattle.spreads.proofs.spreads.spread_from_price.Statement.{statement}
@@ -23,12 +23,13 @@ returns c = solved-refused _ _ (c .before .before .before .spread-checks .ensure
 
 checked-spread-requires : tie.Need-checked-spread-requires
 checked-spread-requires c κs =
-    let checks = spread-grid _ _ (sym (c .before .before .before .before .before .before .spread-checks .ensures) ∙ c .before .before .before .before .enum-told .given .1) in
+    let all = sym (c .before .before .before .before .before .before .spread-checks .ensures) ∙ c .before .before .before .before .enum-told .given .1 in
+    let checks = spread-grid _ _ all in
     let passed = sym checks in
     let steps = settled _ _ _ _ passed refl in
     let leg = leg-sized _ _ _ _ passed refl in
     let calls = calls-sized _ _ _ _ passed refl .entries in
-    ((steps .some-steps, steps .few-steps), ((leg .few, leg .kinds-too, leg .amounts-too), (calls .ends-too, calls .strikes-too)))
+    ((steps .some-steps, steps .few-steps), ((leg .few, leg .kinds-too, leg .amounts-too), ((calls .ends-too, calls .strikes-too), spread-few-pillars _ _ all)))
 
 zero-numbers-requires : tie.Need-zero-numbers-requires
 zero-numbers-requires c κs = tt

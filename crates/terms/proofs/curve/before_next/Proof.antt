@@ -1,31 +1,18 @@
--- `before_next` meets its contract: the time that is compared is that of the pillar's day. Assumes nothing.
+-- `before_next` meets its contract: the time that was read. Assumes nothing.
 use mathlib.Core.Path.{ap}
-use lib.Ieee.{lt}
-use Rattle.floats.proofs.Laws.{answers}
+use lib.Ieee.{Float, lt}
+use Rattle.terms.proofs.Timing.{timing}
 use Rattle.terms.proofs.curve.before_next.Statement.{statement}
 use Rattle.terms.proofs.curve.before_next.Tie as tie
 
-add-year-fraction : tie.Need-add-year-fraction
-add-year-fraction c = search answers
+add-number-at : tie.Need-add-number-at
+add-number-at c = search timing
 
-mul-year-fraction : tie.Need-mul-year-fraction
-mul-year-fraction c = search answers
-
-shared-slice-read-year-fraction : tie.Need-shared-slice-read-year-fraction
-shared-slice-read-year-fraction c = search answers
-
-year-fraction-requires : tie.Need-year-fraction-requires
-year-fraction-requires c κs = search answers
+number-at-requires : tie.Need-number-at-requires
+number-at-requires c κs = search timing
 
 returns : tie.Need-returns
-returns c = ap (lt (c .before .before .before .args .t)) (c .year-fraction .ensures)
+returns c = ap (λ (z : Float). lt (c .before .before .args .t) z) (c .number-at .ensures)
 
 pub before-next-spec : {M : Type 1} → statement M
-before-next-spec =
-    tie.close
-    (tie.spec
-    add-year-fraction
-    mul-year-fraction
-    shared-slice-read-year-fraction
-    year-fraction-requires
-    returns)
+before-next-spec = tie.close (tie.spec add-number-at number-at-requires returns)

@@ -3,15 +3,15 @@ use Prim.Native.Nat.{_-_}
 use native.Mathlib.Omega.{arith}
 use mathlib.Core.Path.{refl}
 use lib.ListN.{length}
-use Rattle.terms.proofs.Curving.{Curving, turn, found, days-end, curving}
+use Rattle.terms.proofs.Curving.{Curving, turn, found, times-end, curving}
 use Rattle.terms.proofs.curve.curve_at.Statement.{statement}
 use Rattle.terms.proofs.curve.curve_at.Tie as tie
 
 abbrev Inv-loop : tie.InvT-loop
-Inv-loop settlement days factors t place i₀ i = Curving settlement t place days factors i
+Inv-loop times factors t place i₀ i = Curving t place times factors i
 
 abbrev μ-loop : tie.MeasureT-loop
-μ-loop settlement days factors t place i₀ i = length days - i
+μ-loop times factors t place i₀ i = length times - i
 
 returns : tie.Need-returns Inv-loop μ-loop
 returns c = search curving
@@ -41,7 +41,7 @@ on-piece-requires : tie.Need-on-piece-requires Inv-loop μ-loop
 on-piece-requires c κs = search curving
 
 returns-4 : tie.Need-returns-4 Inv-loop μ-loop
-returns-4 c = found _ _ _ _ _ _ (c .before .before .before .before .before .loop .inv) (omega arith) (omega arith) (c .before .before .before-next .ensures) (c .before .if4 .taken) (c .on-piece .ensures)
+returns-4 c = found _ _ _ _ _ (c .before .before .before .before .before .loop .inv) (omega arith) (omega arith) (c .before .before .before-next .ensures) (c .before .if4 .taken) (c .on-piece .ensures)
 
 add-i : tie.Need-add-i Inv-loop μ-loop
 add-i c = search curving
@@ -50,13 +50,13 @@ loop-less : tie.Need-loop-less Inv-loop μ-loop
 loop-less c = search curving
 
 loop-again : tie.Need-loop-again Inv-loop μ-loop
-loop-again c = turn _ _ _ _ _ _ (c .before .before .before .before .loop .inv) (omega arith) (omega arith) (c .before .before-next .ensures) (c .if4 .left)
+loop-again c = turn _ _ _ _ _ (c .before .before .before .before .loop .inv) (omega arith) (omega arith) (c .before .before-next .ensures) (c .if4 .left)
 
 number-at-requires-2 : tie.Need-number-at-requires-2 Inv-loop μ-loop
 number-at-requires-2 c κs = search curving
 
 returns-5 : tie.Need-returns-5 Inv-loop μ-loop
-returns-5 c = days-end _ _ _ _ _ _ (c .before .before .loop .inv) (omega arith) (c .number-at2 .ensures) refl
+returns-5 c = times-end _ _ _ _ _ (c .before .before .loop .inv) (omega arith) (c .number-at2 .ensures) refl
 
 pub curve-at-spec : {M : Type 1} → statement M
 curve-at-spec =

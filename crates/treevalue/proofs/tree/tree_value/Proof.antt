@@ -1,6 +1,6 @@
 -- `tree_value` meets its contract: the checks, the value, and the slices left all zero (`Entered`). Assumes nothing.
 use mathlib.Core.Path.{refl, sym, _∙_}
-use Rattle.terms.specs.laws.EntryChecks.{tree-grid}
+use Rattle.terms.specs.laws.EntryChecks.{tree-grid, tree-few-pillars}
 use Rattle.bondevents.proofs.Grids.{settled, leg-sized, calls-sized}
 use Rattle.treebasedbondpricer.specs.laws.Entered.{entered-refused, entered-zeroed}
 use Rattle.treevalue.proofs.tree.tree_value.Statement.{statement}
@@ -23,12 +23,13 @@ returns c = entered-refused _ _ (c .before .before .before .tree-checks .ensures
 
 checked-value-requires : tie.Need-checked-value-requires
 checked-value-requires c κs =
-    let checks = tree-grid _ _ (sym (c .before .before .before .before .before .before .tree-checks .ensures) ∙ c .before .before .before .before .enum-told .given .1) in
+    let all = sym (c .before .before .before .before .before .before .tree-checks .ensures) ∙ c .before .before .before .before .enum-told .given .1 in
+    let checks = tree-grid _ _ all in
     let passed = sym checks in
     let steps = settled _ _ _ _ passed refl in
     let leg = leg-sized _ _ _ _ passed refl in
     let calls = calls-sized _ _ _ _ passed refl .entries in
-    ((steps .some-steps, steps .few-steps), ((leg .few, leg .kinds-too, leg .amounts-too), (calls .ends-too, calls .strikes-too)))
+    ((steps .some-steps, steps .few-steps), ((leg .few, leg .kinds-too, leg .amounts-too), ((calls .ends-too, calls .strikes-too), tree-few-pillars _ _ all)))
 
 zero-numbers-requires : tie.Need-zero-numbers-requires
 zero-numbers-requires c κs = tt
