@@ -69,7 +69,11 @@ uint32_t gutirapeo_midpoint(double a, double b, uint32_t *place, double *value);
  *   7   no cashflow after settlement
  *   8   pillar days that don't rise, the first not settlement, the last before maturity
  *   9   an unknown compounding code, or a frequency that can't be used
- * The place is the index of the entry, 0 for single fields, counts and 7. */
+ * The place is the index of the entry, 0 for single fields, counts and 7.
+ *
+ * Every price that is passed or handed back is a full (dirty) price: strikes, targets, values and the price of a yield include
+ * accrued interest. A bond that can be called at 100.5 plus accrued interest has the strike 100.5 plus what has accrued by the
+ * call day, as a price for so many units. On a coupon day nothing has: the coupon of that day is paid beside the strike. */
 
 /* The event grid: maturity time, steps, and 513 cashflows, marks (1 where a step has a call price) and prices.
  * 20: no principal at a step that can be called. 27: a call price that overflows. */

@@ -6,9 +6,10 @@ here=$(cd "$(dirname "$(readlink -f -- "${BASH_SOURCE[0]}")")/.." && pwd -P) || 
 PROGRAM=$(readlink -f -- "${1:-$here/target/bin/price}")
 [ -x "$PROGRAM" ] || { echo "tests/price.sh: no program at $PROGRAM" && exit 2; }
 ROOM=$(mktemp -d) || exit 2
-export PROGRAM ROOM
+EXAMPLES=$here/crates/price/data/examples
+export PROGRAM ROOM EXAMPLES
 trap 'rm -rf "$ROOM"' EXIT
-desk=$ROOM/desk examples=$here/crates/price/data/examples passed=0 failed=0
+desk=$ROOM/desk examples=$EXAMPLES passed=0 failed=0
 
 mkdir "$ROOM/bin" "$ROOM/tools"
 cat >"$ROOM/bin/rt" <<'END'
@@ -198,6 +199,20 @@ unlimited | [1-9][0-9][0-9][0-9][0-9][0-9]*)
 esac
 try "a report is printed before the next file is read" 'mkfifo slow; ./price a.txt slow >kept & until grep -q "Spreads tried" kept; do sleep 0.1; done; cat b.txt >slow; wait $!; cat kept'
 ends 0; times 2 "Spreads tried"
+
+# ---- what is said of a bond
+try "a bond without its calls" 'grep -v "^call" "$EXAMPLES/amortising.txt" | ./price'
+ends 0; says "Calls are worth                          0.00    0000000000000000"
+try "a first factor of 0.5" 'sed "s/^\(pillar 2026-11-17 *\)1$/\10.5/" a.txt >half.txt; ./price half.txt'
+ends 0; warns "price: half.txt: warning: line 49: the first factor isn't 1."; times 0 "Warning"; times 0 "Calls are worth                         -"
+try "a warning and --check" 'sed "s/^spread .*/spread 0.85/" a.txt >wide.txt; ./price --check wide.txt'
+ends 0; warns "price: wide.txt: warning: line 10: the spread is beyond 0.2"
+printf 'ok\n' | cmp -s - "$ROOM/out"
+verdict $? "says ok alone"
+try "a file from another system" 'sed "s/$/\r/" a.txt >dos.txt; ./price dos.txt'
+ends 1; says "Run: dos2unix FILE"
+try "clean or dirty" './price a.txt'
+ends 0; says "prices include accrued interest"; says "Name             Norrvik Energy 5.25% 2036"
 
 # ---- options
 try "an option behind the file" './price a.txt --check'

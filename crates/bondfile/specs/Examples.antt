@@ -16,7 +16,7 @@ use Rattle.bondline.specs.Bytes.{bytes, leading, same}
 use Rattle.bondline.specs.Words.{spanOf, seek}
 use Rattle.bondline.specs.Numbers.{wholeFrom, wholeOf, onWhole, dateShaped, ofDated, dateOf, dayOf, onDay}
 use Rattle.bondline.specs.Values.{fault, columnIn, countAt, dayAt, onDecimal, numberAt, kindAt, compoundingAt, frequencyAt, onCode, onKind, onNumber, shapeOf, onShape}
-use Rattle.bondline.specs.Forms.{settlementForm, unitsForm, stepsForm, alphaForm, spreadForm, cashflowForm, callForm, sigmaForm, pillarForm, yieldForm, quoteForm, formAt, namedEntry, bodyEntry}
+use Rattle.bondline.specs.Forms.{settlementForm, unitsForm, stepsForm, alphaForm, spreadForm, cashflowForm, callForm, sigmaForm, pillarForm, yieldForm, quoteForm, formAt, unformedEntry, namedEntry, bodyEntry}
 use Rattle.bondline.specs.Lines.{lineEntry}
 use Rattle.bondfile.specs.File.{linesOf, numbered, entriesOf}
 use Rattle.bondfile.specs.Checks.{verdictOf, onVerdict, missing, checkFrom, fileCheck}
@@ -47,7 +47,10 @@ pub record Starred : Type 0 where
   pub unknown : checks "settlement 45000\n setlement 1\n" ≡ Wrong 2 (fault 2 UnknownWord)
   pub crlf : checks "settlement 45000\r\n" ≡ Wrong 1 (fault 17 (Byte 13))
   pub tab : checks "settlement\t45000" ≡ Wrong 1 (fault 11 (Byte 9))
-  pub above-127 : checks "# é" ≡ Wrong 1 (fault 3 (Byte 233))
+  pub above-127 : checks "é" ≡ Wrong 1 (fault 1 (Byte 233))
+  pub named : checks "name XS0" ≡ Missing 1
+  pub in-a-comment : checks "# é" ≡ Missing 1
+  pub cr-in-a-comment : checks "# é\r" ≡ Wrong 1 (fault 4 (Byte 13))
   pub no-date : checks "settlement 2026-02-29" ≡ Wrong 1 (fault 12 NoDate)
   pub outside : checks "settlement 1899-12-31" ≡ Wrong 1 (fault 12 DateOutside)
   pub no-day : checks "settlement 45o00" ≡ Wrong 1 (fault 14 NotADay)
@@ -61,7 +64,7 @@ pub record Starred : Type 0 where
   pub no-frequency : checks "yield 100 compounded yearly" ≡ Wrong 1 (fault 22 NotAFrequency)
 
 pub starred : Starred
-unfolding dated readDecimal ieee.ofBits leading same spanOf seek wholeFrom wholeOf onWhole dateShaped ofDated dateOf dayOf onDay columnIn countAt dayAt onDecimal numberAt kindAt compoundingAt frequencyAt onCode onKind onNumber shapeOf onShape settlementForm unitsForm stepsForm alphaForm spreadForm cashflowForm callForm sigmaForm pillarForm yieldForm quoteForm formAt namedEntry bodyEntry lineEntry linesOf numbered verdictOf onVerdict missing checkFrom
+unfolding dated readDecimal ieee.ofBits leading same spanOf seek wholeFrom wholeOf onWhole dateShaped ofDated dateOf dayOf onDay columnIn countAt dayAt onDecimal numberAt kindAt compoundingAt frequencyAt onCode onKind onNumber shapeOf onShape settlementForm unitsForm stepsForm alphaForm spreadForm cashflowForm callForm sigmaForm pillarForm yieldForm quoteForm formAt unformedEntry namedEntry bodyEntry lineEntry linesOf numbered verdictOf onVerdict missing checkFrom
 starred =
     record {
       settled = refl;
@@ -77,6 +80,9 @@ starred =
       crlf = refl;
       tab = refl;
       above-127 = refl;
+      named = refl;
+      in-a-comment = refl;
+      cr-in-a-comment = refl;
       no-date = refl;
       outside = refl;
       no-day = refl;

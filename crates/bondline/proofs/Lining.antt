@@ -12,7 +12,7 @@ use borrow.Author.Tests.{lt-ltb, le-ltb}
 use Rattle.bondline.specs.declared.Cause.the-variants.{Byte}
 use Rattle.bondline.specs.declared.Entry.{Entry}
 use Rattle.bondline.specs.declared.Entry.the-variants.{Blank, Refused}
-use Rattle.bondline.specs.Bytes.{isOther, runEnd, leading}
+use Rattle.bondline.specs.Bytes.{isAllowed, isCommented, isOther, runEnd, leading}
 use Rattle.bondline.specs.Words.{between, spanOf}
 use Rattle.bondline.specs.Values.{fault}
 use Rattle.bondline.specs.Forms.{bodyEntry}
@@ -25,6 +25,20 @@ end-inside p bs i h w = rw h (run-within p bs i w)
 
 pub end-inside-below : (p : ℕ → Bool) (bs : List ℕ) (i : ℕ) {e : ℕ} → e ≡ runEnd p bs i → i < length bs → e ≤ length bs
 end-inside-below p bs i h w = end-inside p bs i h (le-of-lt w)
+
+-- A comment that starts before the run of plain bytes ends, and one that doesn't.
+module _ (line : List ℕ) {p u : ℕ} (e : p ≡ runEnd isAllowed line 0) (f : u ≡ runEnd (isOther 35) line 0) where
+  pick : (z : Bool) → ltb u p ≡ z → cond z (runEnd isCommented line p) p ≡ firstBad line
+  pick z t =
+      sym (ap (λ (b : Bool). cond b (runEnd isCommented line p) p) t)
+      ∙ ap (λ (k : ℕ). cond (ltb u k) (runEnd isCommented line k) k) e
+      ∙ ap (λ (k : ℕ). cond (ltb k (runEnd isAllowed line 0)) (runEnd isCommented line (runEnd isAllowed line 0)) (runEnd isAllowed line 0)) f
+
+  pub bad-comment : {r : ℕ} → u < p → r ≡ runEnd isCommented line p → r ≡ firstBad line
+  bad-comment w q = q ∙ pick true (lt-ltb u p w)
+
+  pub bad-plain : p ≤ u → p ≡ firstBad line
+  bad-plain w = pick false (le-ltb u p w)
 
 module _ (line : List ℕ) {bad : ℕ} (e : bad ≡ firstBad line) where
   either : (z : Bool) → ltb bad (length line) ≡ z → lineEntry line ≡ cond z (Refused (fault (bad + 1) (Byte (getD line bad 0)))) (bodyEntry (uncommented line))
@@ -49,7 +63,7 @@ no-line text at h = nothing ∙ ap lineEntry (sym (rw (drop-of-length-le text h,
 pub this-line : (text : List ℕ) (at : ℕ) {r : Entry} {end : ℕ} → end ≡ runEnd (isOther 10) text at → r ≡ lineEntry (between at end text) → r ≡ lineEntry (lineAt text at)
 this-line text at w p = p ∙ ap (λ (k : ℕ). lineEntry (between at k text)) w
 
-pub ruleset lining = (end-inside, end-inside-below, bad-byte, good-bytes, no-line, this-line, needs)
+pub ruleset lining = (end-inside, end-inside-below, bad-comment, bad-plain, bad-byte, good-bytes, no-line, this-line, needs)
 
 -- ---- where the next line begins
 

@@ -18,9 +18,12 @@ isSpace b = eqb b 32
 abbrev pub isOther : ℕ → ℕ → Bool
 isOther stop b = not (eqb b stop)
 
--- The bytes 32 to 126 may stand in a line.
+-- The bytes 32 to 126 may stand in a line, and in its comment those above them too.
 abbrev pub isAllowed : ℕ → Bool
 isAllowed b = leb 32 b && ltb b 127
+
+abbrev pub isCommented : ℕ → Bool
+isCommented b = leb 32 b
 
 -- How many bytes at the front pass a test.
 unfoldable pub leading : (ℕ → Bool) → List ℕ → ℕ

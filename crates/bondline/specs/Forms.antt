@@ -3,7 +3,7 @@ use Prim.Native.Nat.{ℕ}
 use mathlib.Core.Bool.{cond}
 use mathlib.Core.List.{List, [], _∷_}
 use lib.ListN.{getD}
-use lib.Dec.{ltb}
+use lib.Dec.{eqb, ltb}
 use Rattle.bondline.specs.declared.Cause.the-variants.{UnknownWord}
 use Rattle.bondline.specs.declared.Entry.{Entry}
 use Rattle.bondline.specs.declared.Entry.the-variants.{Blank, Settlement, Units, Steps, Alpha, Spread, Cashflow, Call, Sigma, Pillar, Yield, Quote, Refused}
@@ -58,9 +58,9 @@ yieldForm line =
 unfoldable pub quoteForm : List ℕ → Entry
 quoteForm line = onNumber (numberAt line 1) Refused Quote
 
--- The names, how many values follow each, and their forms.
+-- The names, how many values follow each, and their forms. The last is the bond's own name: its line says nothing of the terms.
 abbrev pub names : List ℕ
-names = bytes "settlement units steps alpha spread cashflow call sigma pillar yield quote"
+names = bytes "settlement units steps alpha spread cashflow call sigma pillar yield quote name"
 
 abbrev pub valueCounts : List ℕ
 valueCounts = 1 ∷ 1 ∷ 2 ∷ 1 ∷ 1 ∷ 3 ∷ 3 ∷ 2 ∷ 2 ∷ 3 ∷ 1 ∷ []
@@ -71,11 +71,16 @@ forms = settlementForm ∷ unitsForm ∷ stepsForm ∷ alphaForm ∷ spreadForm 
 unfoldable pub formAt : ℕ → List ℕ → Entry
 formAt k line = getD forms k (λ l. Blank) line
 
+-- Behind the forms: the bond's name, and words that are none of the names.
+unfoldable pub unformedEntry : ℕ → List ℕ → Entry
+unformedEntry k line = cond (eqb k 11) Blank (Refused (fault (columnOf line 0) UnknownWord))
+
 -- A line whose name is the k-th: as many values as it takes, and then what they are.
 unfoldable pub namedEntry : ℕ → List ℕ → Entry
+unfolding unformedEntry
 namedEntry k line =
-    cond (ltb k 11) (onShape (shapeOf line (getD valueCounts k 0)) Refused (formAt k line)) (Refused (fault (columnOf line 0) UnknownWord))
+    cond (ltb k 11) (onShape (shapeOf line (getD valueCounts k 0)) Refused (formAt k line)) (unformedEntry k line)
 
 -- A line without words says nothing.
 unfoldable pub bodyEntry : List ℕ → Entry
-bodyEntry line = cond (hasWord line 0) (namedEntry (placeIn (wordAt line 0) names 11) line) Blank
+bodyEntry line = cond (hasWord line 0) (namedEntry (placeIn (wordAt line 0) names 12) line) Blank

@@ -7,18 +7,22 @@ use lib.Dec.{ltb}
 use Rattle.bondline.specs.declared.Cause.the-variants.{Byte}
 use Rattle.bondline.specs.declared.Entry.{Entry}
 use Rattle.bondline.specs.declared.Entry.the-variants.{Refused}
-use Rattle.bondline.specs.Bytes.{isAllowed, isOther, runEnd}
+use Rattle.bondline.specs.Bytes.{isAllowed, isCommented, isOther, runEnd}
 use Rattle.bondline.specs.Words.{between}
 use Rattle.bondline.specs.Values.{fault}
 use Rattle.bondline.specs.Forms.{bodyEntry}
 
--- The index of the first byte that may not stand in a line.
-abbrev pub firstBad : List ℕ → ℕ
-firstBad line = runEnd isAllowed line 0
+-- Where the comment starts: at #.
+abbrev pub commentStart : List ℕ → ℕ
+commentStart line = runEnd (isOther 35) line 0
 
--- A comment starts at # and goes up to the line's end.
+-- The index of the first byte that may not stand in a line: what follows # is its comment.
+abbrev pub firstBad : List ℕ → ℕ
+firstBad line = cond (ltb (commentStart line) (runEnd isAllowed line 0)) (runEnd isCommented line (runEnd isAllowed line 0)) (runEnd isAllowed line 0)
+
+-- A comment goes up to the line's end.
 abbrev pub uncommented : List ℕ → List ℕ
-uncommented line = between 0 (runEnd (isOther 35) line 0) line
+uncommented line = between 0 (commentStart line) line
 
 -- First its bytes, then its words.
 unfoldable pub lineEntry : List ℕ → Entry

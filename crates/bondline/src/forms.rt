@@ -20,7 +20,7 @@ use crate::words::word_at;
 ghost use mathlib.Core.Path.{_≡_};
 ghost use Prim.Native.Nat.{_<_};
 ghost use lib.ListN.{getD};
-ghost use Rattle.bondline.specs.Forms.{settlementForm, unitsForm, stepsForm, alphaForm, spreadForm, cashflowForm, callForm, sigmaForm, pillarForm, yieldForm, quoteForm, valueCounts, formAt, namedEntry, bodyEntry};
+ghost use Rattle.bondline.specs.Forms.{settlementForm, unitsForm, stepsForm, alphaForm, spreadForm, cashflowForm, callForm, sigmaForm, pillarForm, yieldForm, quoteForm, valueCounts, formAt, unformedEntry, namedEntry, bodyEntry};
 
 fn settlement_form(line: &[u8]) -> Entry
     ensures { λ r. ⌜ r ≡ settlementForm (now (line .entry)) ⌝ }
@@ -178,6 +178,19 @@ fn value_count(k: usize) -> usize
     VALUE_COUNTS[k]
 }
 
+// The bond's own name, or a word that is none of the names.
+fn unformed_entry(k: usize, line: &[u8]) -> Entry
+    ensures { λ r. ⌜ r ≡ unformedEntry k (now (line .entry)) ⌝ }
+{
+    if k == 11 {
+        return Entry::Blank;
+    }
+    Entry::Refused(Fault {
+        column: column_of(line, 0),
+        cause: Cause::UnknownWord,
+    })
+}
+
 // A line whose name is the k-th.
 fn named_entry(k: usize, line: &[u8]) -> Entry
     ensures { λ r. ⌜ r ≡ namedEntry k (now (line .entry)) ⌝ }
@@ -189,10 +202,7 @@ fn named_entry(k: usize, line: &[u8]) -> Entry
             Shape::Fits => form_at(k, line),
         };
     }
-    Entry::Refused(Fault {
-        column: column_of(line, 0),
-        cause: Cause::UnknownWord,
-    })
+    unformed_entry(k, line)
 }
 
 // What the words of a line say.
@@ -203,8 +213,8 @@ pub fn body_entry(line: &[u8]) -> Entry
         let w = word_at(line, 0);
         let k = place_in(
             w,
-            b"settlement units steps alpha spread cashflow call sigma pillar yield quote",
-            11,
+            b"settlement units steps alpha spread cashflow call sigma pillar yield quote name",
+            12,
         );
         return named_entry(k, line);
     }

@@ -26,13 +26,13 @@ callHeading = saidLine (bytes "Call list") (bytes "from        to               
 abbrev pub noCalls : List ℕ
 noCalls = saidLine (bytes "Call list") (bytes "no calls")
 
--- A call: its first day at columns 17 to 26, its last at 29 to 38, the strike to four decimals ending at 53, and its bits from 58 on.
-abbrev pub callLine : ℕ → ℕ → Float → List ℕ
-callLine start end strike = putBits (putDecimals (putDate (putDate blankLine 27 start) 39 end) 54 strike 4) 58 strike
+-- A call: its first day at columns 17 to 26, its last at 29 to 38, the strike to some decimals ending at 53, and its bits from 58 on.
+abbrev pub callLine : ℕ → ℕ → Float → ℕ → List ℕ
+callLine start end strike places = putBits (putDecimals (putDate (putDate blankLine 27 start) 39 end) 54 strike places) 58 strike
 
--- The curve's date is its first pillar's.
-abbrev pub curveLine : ℕ → List ℕ
-curveLine day = putDate (labelled (bytes "Curve date")) 27 day
+-- A day stands at columns 17 to 26.
+abbrev pub dayLine : List ℕ → ℕ → List ℕ
+dayLine label day = putDate (labelled label) 27 day
 
 abbrev pub noPillar : List ℕ
 noPillar = saidLine (bytes "Curve date") (bytes "no pillar")

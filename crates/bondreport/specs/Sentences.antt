@@ -24,7 +24,7 @@ advice =
     ∷ about 7 (bytes "No cashflow comes after settlement: check the settlement day.")
     ∷ about 8 (bytes "The curve must start at settlement, rise, and reach maturity.")
     ∷ about 9 (bytes "Correct the compounding or the frequency: it can't be used.")
-    ∷ about 20 (bytes "No principal is left at a call: look at the last redemption.")
+    ∷ about 20 (bytes "A call on or after the last redemption has nothing to call.")
     ∷ about 21 (bytes "The tree finds no room: ask for fewer steps.")
     ∷ about 22 (bytes "Some steps have no variance and others do: look at sigmas of 0.")
     ∷ about 23 (bytes "The volatilities of neighbouring steps are too far apart.")

@@ -100,7 +100,8 @@ fn of_number(text: &[u8], place: usize) -> Whose
     }
 }
 
-fn whose(text: &[u8], number: u32, place: usize) -> Whose
+// Whose entry it is.
+pub fn whose(text: &[u8], number: u32, place: usize) -> Whose
     ensures { λ r. ⌜ r ≡ blamed (marketOf (now (text .entry))) (callsOf (now (text .entry))) (record { number = number; place = place }) ⌝ }
 {
     if number == Refusal::DAY {

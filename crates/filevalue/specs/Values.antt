@@ -1,9 +1,10 @@
 -- Definitions only. What is answered of a bond file: the tree value or the spread behind a quote, the straight value and the yield.
 use Prim.Native.Nat.{ℕ}
 use mathlib.Core.Path.{_≡_}
-use mathlib.Core.List.{List}
-use lib.Ieee.{Float}
+use mathlib.Core.List.{List, []}
+use lib.Ieee.{Float, binary64, sub}
 use Rattle.floats.specs.declared.Answer.{Answer}
+use Rattle.floats.specs.Answers.{tested, onAnswer}
 use Rattle.terms.specs.Terms.{Leg, CallSchedule, SigmaSchedule, Pillars, Market, withSpread}
 use Rattle.filebond.specs.Bond.{legOf, pillarsOf, marketOf}
 use Rattle.lattice.specs.Layers.{Room}
@@ -33,16 +34,35 @@ unfoldable pub ofRoot : Root → Reply
 ofRoot (root.Found x n) = Found x n
 ofRoot (root.Refused r n) = Refused r
 
+-- ---- what the calls are worth
+
+-- The same bond with an empty call list.
+abbrev pub noCalls : CallSchedule
+noCalls = record { starts = []; ends = []; strikes = [] }
+
+-- A difference, and the nodes that stand beside it. 27: it isn't finite.
+abbrev pub less : Float → Float → ℕ → Reply
+less y x n = onAnswer (tested (sub binary64 y x) 0) Refused λ d. Found d n
+
+-- The tree value without calls less the tree value with them, and the latter's nodes. What refuses first is handed up.
+unfoldable pub worthOfCalls : TreeValue → TreeValue → Reply
+unfolding sub onAnswer
+worthOfCalls (tree.Value x n) (tree.Value y k) = less y x n
+worthOfCalls (tree.Value x n) (tree.Refused r) = Refused r
+worthOfCalls (tree.Refused r) uncalled = Refused r
+
 -- ---- what the tree is asked
 
--- The quote stands in the spread's place.
+-- Both trees of what the calls are worth have the same room. The quote stands in the spread's place.
 unfoldable pub replyTo : Ask → Market → CallSchedule → Room → Reply
 replyTo ask.Value m calls room = ofValue (treeValue m calls room)
+replyTo ask.Calls m calls room = worthOfCalls (treeValue m calls room) (treeValue m noCalls room)
 replyTo (ask.Spread target) m calls room = ofRoot (spreadFromPrice (withSpread m target) calls room)
 
 -- The slices are left as the entry that was asked leaves them.
 unfoldable pub leftBy : Ask → Market → CallSchedule → Lent → Lent
 leftBy ask.Value m calls lent = lentAfter m calls lent
+leftBy ask.Calls m calls lent = lentAfter m noCalls (lentAfter m calls lent)
 leftBy (ask.Spread target) m calls lent = spreads.lentAfter (withSpread m target) calls lent
 
 -- What is promised: the reply, in the room of the lent slices, and their end content.

@@ -1,6 +1,7 @@
 // The tree value, and the spread behind a quote, of a file's bond.
 use crate::Ask;
 use crate::Reply;
+use crate::worth::of_calls;
 use bondfile::singles::fields_of;
 use bondfile::stored::calls_of;
 use bondfile::stored::cashflows_of;
@@ -37,7 +38,7 @@ fn of_spread(s: Root) -> Reply
     }
 }
 
-// The tree value, or the spread behind the quote.
+// The tree value, what the calls are worth, or the spread behind the quote.
 fn answered(
     text: &[u8],
     ask: Ask,
@@ -87,6 +88,23 @@ fn answered(
             first,
             second,
         )),
+        Ask::Calls => of_calls(
+            f,
+            days,
+            kinds,
+            amounts,
+            starts,
+            ends,
+            strikes,
+            times,
+            sigmas,
+            pillars,
+            factors,
+            nodes,
+            probabilities,
+            first,
+            second,
+        ),
         Ask::Spread(target) => of_spread(spread_from_price(
             f.settlement,
             days,

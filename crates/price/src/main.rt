@@ -1,10 +1,14 @@
 // Prices bonds from bond files: those that are named, or standard input. Behind the word --check only `ok` or the
 // refusals are written.
+mod inputs;
 mod messages;
 mod printing;
+mod ranges;
 mod report;
 mod rooms;
 mod tree;
+mod typed;
+mod warnings;
 
 use crate::printing::say;
 use crate::report::report;

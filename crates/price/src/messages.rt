@@ -1,6 +1,7 @@
-// Why a bond file isn't read: one plain sentence for each cause.
+// Why a bond file isn't read: a plain sentence or two for each cause.
 use crate::printing::print;
 use crate::printing::say;
+use crate::typed::kind_typed;
 use bondfile::FileCheck;
 use bondline::Cause;
 use bondline::Fault;
@@ -17,24 +18,47 @@ fn say_byte(byte: u8) {
         return;
     }
     if byte == 13 {
-        print(text_line(b"The line ends with a CR (byte 13): save with plain line ends."));
+        print(text_line(b"The line ends with a CR (byte 13). Run: dos2unix FILE"));
         return;
+    }
+    if byte == 239 {
+        print(text_line(b"A byte order mark starts with byte 239. Run: dos2unix FILE"));
     }
     say(b"                 Byte ");
     io::print_decimal(1, byte as u64);
+    if byte > 126 {
+        say(b" stands here: such letters may stand in comments alone.\n");
+        return;
+    }
     say(b" stands here: type plain letters, digits and signs.\n");
 }
 
-fn say_cause(cause: Cause) {
+// What a line of a kind takes; the kinds are counted from 0 here.
+fn say_values(kind: usize) {
+    match kind {
+        0 => print(text_line(b"settlement takes a day: settlement 2026-11-17")),
+        1 => print(text_line(b"units takes a number: units 100")),
+        2 => print(text_line(b"steps takes two counts, a year and at most: steps 12 512")),
+        3 => print(text_line(b"alpha takes a number: alpha 0.03")),
+        4 => print(text_line(b"spread takes a number: spread 0.0085")),
+        5 => print(text_line(b"cashflow takes a day, coupon or redemption, and an amount.")),
+        6 => print(text_line(b"call takes two days and a strike, as 2029-11-15 2029-11-15 102")),
+        7 => print(text_line(b"sigma takes a time in years and a volatility: sigma 0 0.0092")),
+        8 => print(text_line(b"pillar takes a day and a factor: pillar 2027-11-17 0.9662")),
+        9 => print(text_line(b"yield takes a price, a compounding and a frequency.")),
+        _ => print(text_line(b"quote takes a price: quote 99.90")),
+    }
+}
+
+fn say_words() {
+    print(text_line(b"No line starts with this word. The names are: settlement,"));
+    print(text_line(b"units, steps, alpha, spread, cashflow, call, sigma, pillar,"));
+    print(text_line(b"yield, quote, name; a comment starts with #."));
+}
+
+// Why a value of a line isn't read.
+fn say_value(cause: Cause) {
     match cause {
-        Cause::Byte(b) => say_byte(b),
-        Cause::UnknownWord => print(text_line(
-            b"No line starts with this word: the README has those that do.",
-        )),
-        Cause::TooFewWords => print(text_line(b"This line has too few values.")),
-        Cause::TooManyWords => print(text_line(
-            b"This line has too many values; a comment starts with #.",
-        )),
         Cause::NotACount => print(text_line(
             b"Type a whole number here: digits only, nine at the most.",
         )),
@@ -56,16 +80,33 @@ fn say_cause(cause: Cause) {
         Cause::NotAFrequency => print(text_line(
             b"This frequency is not known: the README has the eleven.",
         )),
+        _ => {}
     }
 }
 
-fn wrong(line: usize, fault: Fault) {
+fn say_cause(cause: Cause, kind: usize) {
+    match cause {
+        Cause::Byte(b) => say_byte(b),
+        Cause::UnknownWord => say_words(),
+        Cause::TooFewWords => {
+            print(text_line(b"This line has too few values."));
+            say_values(kind)
+        }
+        Cause::TooManyWords => {
+            print(text_line(b"This line has too many values; a comment starts with #."));
+            print(text_line(b"Spaces separate values: for 2 000 000 type 2000000."))
+        }
+        _ => say_value(cause),
+    }
+}
+
+fn wrong(text: &[u8], line: usize, fault: Fault) {
     let cause = fault.cause;
     at_line(line);
     say(b", column ");
     io::print_decimal(1, fault.column as u64);
     say(b"\n");
-    say_cause(cause);
+    say_cause(cause, kind_typed(text, line));
 }
 
 // The name of a line of a kind.
@@ -117,13 +158,13 @@ fn too_large() {
 }
 
 // Says what is wrong with a file; whether nothing is.
-pub(crate) fn is_good(found: FileCheck) -> bool {
+pub(crate) fn is_good(text: &[u8], found: FileCheck) -> bool {
     match found {
         FileCheck::Good => {
             return true;
         }
         FileCheck::TooLarge => too_large(),
-        FileCheck::Wrong(line, fault) => wrong(line, fault),
+        FileCheck::Wrong(line, fault) => wrong(text, line, fault),
         FileCheck::Twice(line, kind) => twice(line, kind),
         FileCheck::TooMany(line, kind) => too_many(line, kind),
         FileCheck::Missing(kind) => missing(kind),

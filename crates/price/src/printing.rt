@@ -2,6 +2,7 @@
 use bondreport::columns::used;
 use filebond::parts::bytes_of;
 use floats::Refusal;
+use reportlines::lines::count_line;
 use reportlines::lines::refused_line;
 use reportlines::sentences::what_to_do;
 
@@ -21,6 +22,11 @@ fn small(line: usize) -> u32 {
         return 0;
     }
     line as u32
+}
+
+// A label, and in place of a figure the number of the refusal.
+pub(crate) fn blank_line(label: &[u8], q: Refusal) {
+    print(count_line(label, q.number as u64));
 }
 
 // A refusal of the pricer, the file's line where there is one, and what to do.

@@ -1,9 +1,16 @@
 // The report on a bond file.
+use crate::inputs::inputs;
 use crate::messages::is_good;
+use crate::printing::blank_line;
 use crate::printing::print;
 use crate::printing::refuse;
 use crate::printing::say;
+use crate::ranges::refuse_input;
+use crate::ranges::refuse_price;
 use crate::tree::asked;
+use crate::typed::print_name;
+use crate::typed::strike_decimals;
+use crate::warnings::warnings;
 use bondfile::singles::fields_of;
 use bondfile::singles::first_of;
 use bondfile::stored::calls_of;
@@ -14,11 +21,11 @@ use brackets::Root;
 use filebond::parts::days_of;
 use filebond::parts::numbers_of;
 use filecheck::check::checked;
+use fileline::lines::CALL;
 use fileline::lines::PILLAR;
 use fileline::lines::QUOTE;
 use fileline::lines::YIELD;
 use fileline::lines::line_of;
-use fileline::origin::line_behind;
 use filevalue::Ask;
 use filevalue::Reply;
 use filevalue::pricing::straight;
@@ -27,18 +34,20 @@ use floats::Answer;
 use reportlines::lines::call_heading;
 use reportlines::lines::call_line;
 use reportlines::lines::count_line;
-use reportlines::lines::curve_line;
+use reportlines::lines::day_line;
 use reportlines::lines::no_calls;
 use reportlines::lines::no_pillar;
 use reportlines::lines::number_line;
+use reportlines::lines::said_line;
 
 // The calls as they are read out, in whatever order they were typed.
-fn calls(starts: &[u32], ends: &[u32], strikes: &[f64]) {
+fn calls(text: &[u8], starts: &[u32], ends: &[u32], strikes: &[f64]) {
     let mut k = 0;
     while k < starts.len() {
         let i = at_rank(starts, ends, strikes, k);
         let call = call_at(starts, ends, strikes, i);
-        print(call_line(call.start, call.end, call.strike));
+        let places = strike_decimals(text, line_of(text, CALL, i));
+        print(call_line(call.start, call.end, call.strike, places));
         k += 1;
     }
 }
@@ -55,6 +64,7 @@ fn call_list(text: &[u8]) {
     }
     print(call_heading());
     calls(
+        text,
         days_of(&starts, n),
         days_of(&ends, n),
         numbers_of(&strikes, n),
@@ -67,32 +77,48 @@ fn curve_date(text: &[u8]) {
         print(no_pillar());
         return;
     };
-    print(curve_line(day));
+    print(day_line(b"Curve date", day));
+}
+
+// A spread, and how many basis points that is, to two decimals.
+fn print_spread(label: &[u8], spread: f64) {
+    print(number_line(label, spread, 4));
+    print(number_line(b"  basis points", 10000.0 * spread, 2));
 }
 
 fn head(text: &[u8]) {
+    let f = fields_of(text);
+    print_name(text);
+    print(said_line(b"Full prices", b"prices include accrued interest"));
+    print(day_line(b"Settlement", f.settlement));
     call_list(text);
     curve_date(text);
-    let f = fields_of(text);
-    print(number_line(b"Spread", f.spread, 4));
+    print_spread(b"Spread", f.spread);
+    inputs(text);
     say(b"\n");
 }
 
-// What the bond is worth without its calls, and what they are worth; whether that is accepted.
-fn straight_part(text: &[u8], quiet: bool, value: f64) -> bool {
+// What the bond is worth without its calls, on no tree; whether that is accepted.
+fn straight_part(text: &[u8], quiet: bool) -> bool {
     match straight(text) {
         Answer::Refused(q) => {
             refuse(q, 0);
             false
         }
         Answer::Value(x) => {
-            if quiet {
-                return true;
+            if !quiet {
+                print(number_line(b"Straight value", x, 2));
             }
-            print(number_line(b"Straight value", x, 2));
-            print(number_line(b"Calls are worth", x - value, 2));
             true
         }
+    }
+}
+
+// What the calls are worth; where the tree without them has no value, its refusal's number alone.
+fn calls_part(text: &[u8]) {
+    match asked(text, Ask::Calls) {
+        Reply::Refused(q) => blank_line(b"Calls are worth  refused with", q),
+        Reply::Found(x, _) => print(number_line(b"Calls are worth", x, 2)),
     }
 }
 
@@ -102,7 +128,7 @@ fn yield_part(text: &[u8], quiet: bool) -> bool {
     };
     match yielded(text, price, compounding, frequency) {
         Root::Refused(q, _) => {
-            refuse(q, line_of(text, YIELD, 0));
+            refuse_price(q, line_of(text, YIELD, 0));
             false
         }
         Root::Found(x, n) => {
@@ -122,14 +148,14 @@ fn quote_part(text: &[u8], quiet: bool) -> bool {
     };
     match asked(text, Ask::Spread(price)) {
         Reply::Refused(q) => {
-            refuse(q, line_of(text, QUOTE, 0));
+            refuse_price(q, line_of(text, QUOTE, 0));
             false
         }
         Reply::Found(x, n) => {
             if quiet {
                 return true;
             }
-            print(number_line(b"Quoted spread", x, 4));
+            print_spread(b"Quoted spread", x);
             print(count_line(b"Spreads tried", n));
             true
         }
@@ -140,8 +166,9 @@ fn value_part(text: &[u8], quiet: bool, value: f64, nodes: u64) -> bool {
     if !quiet {
         print(number_line(b"Value", value, 2));
         print(count_line(b"Nodes", nodes));
+        calls_part(text);
     }
-    let a = straight_part(text, quiet, value);
+    let a = straight_part(text, quiet);
     let b = yield_part(text, quiet);
     let c = quote_part(text, quiet);
     a && b && c
@@ -151,7 +178,7 @@ fn value_part(text: &[u8], quiet: bool, value: f64, nodes: u64) -> bool {
 fn priced(text: &[u8], quiet: bool) -> bool {
     match asked(text, Ask::Value) {
         Reply::Refused(q) => {
-            refuse(q, line_behind(text, q));
+            refuse_input(text, q);
             false
         }
         Reply::Found(x, n) => value_part(text, quiet, x, n),
@@ -160,9 +187,10 @@ fn priced(text: &[u8], quiet: bool) -> bool {
 
 // The whole report; or, where it is to be quiet, `ok` or the refusals alone.
 pub(crate) fn report(text: &[u8], quiet: bool) {
-    if !is_good(checked(text)) {
+    if !is_good(text, checked(text)) {
         return;
     }
+    warnings(text);
     if !quiet {
         head(text);
     }

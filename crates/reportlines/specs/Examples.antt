@@ -14,7 +14,7 @@ use Rattle.decimal.specs.Examples.{bytes}
 use Rattle.bondreport.specs.Columns.{putAt, usedOf}
 use Rattle.bondreport.specs.Numbers.{byteLeft, digitsLeft, widthOf, wholeLeft}
 use Rattle.bondreport.specs.Figures.{onDating, onDecimals, pointLeft, minusLeft}
-use Rattle.bondreport.specs.Lines.{callHeading, noCalls, callLine, curveLine, noPillar, numberLine, countLine, refusedLine, textLine}
+use Rattle.bondreport.specs.Lines.{callHeading, noCalls, callLine, dayLine, noPillar, numberLine, countLine, refusedLine, textLine}
 use Rattle.bondreport.specs.Sentences.{Advice, advice, sentenceFor}
 use Rattle.bondreport.specs.Order.{before, howMany, firstFrom, atRank}
 
@@ -36,10 +36,10 @@ ranked k = atRank (46917 ∷ 46551 ∷ 46551 ∷ []) (46917 ∷ 46551 ∷ 46551 
 
 pub record Starred : Type 0 where
   pub heading : said callHeading ≡ bytes "Call list        from        to                 strike    exact bits"
-  pub call : said (callLine 46551 47282 (ofBits binary64 0x4059_6000_0000_0000)) ≡ bytes "                 2027-06-15  2029-06-15       101.5000    4059600000000000"
-  pub no-date : said (callLine 200001 4294967295 (ofBits binary64 0x4059_0000_0000_0000)) ≡ bytes "                     200001  4294967295       100.0000    4059000000000000"
+  pub call : said (callLine 46551 47282 (ofBits binary64 0x4059_6000_0000_0000) 4) ≡ bytes "                 2027-06-15  2029-06-15       101.5000    4059600000000000"
+  pub no-date : said (callLine 200001 4294967295 (ofBits binary64 0x4059_0000_0000_0000) 0) ≡ bytes "                     200001  4294967295            100    4059000000000000"
   pub none : said noCalls ≡ bytes "Call list        no calls"
-  pub curve : said (curveLine 46339) ≡ bytes "Curve date       2026-11-15"
+  pub curve : said (dayLine (bytes "Curve date") 46339) ≡ bytes "Curve date       2026-11-15"
   pub no-curve : said noPillar ≡ bytes "Curve date       no pillar"
   pub spread : said (numberLine (bytes "Spread") (ofBits binary64 0x3f60_624d_d2f1_a9fc) 4) ≡ bytes "Spread                                 0.0020    3f60624dd2f1a9fc"
   pub worth : value "Value" (ofBits binary64 0x4059_68f0_77e5_d1f4) ≡ bytes "Value                                  101.64    405968f077e5d1f4"

@@ -1,6 +1,6 @@
 // The lines of the report.
 ghost use mathlib.Core.Path.{_≡_};
-ghost use Rattle.bondreport.specs.Lines.{saidLine, textLine, callHeading, noCalls, noPillar, callLine, curveLine, numberLine, countLine, refusedLine};
+ghost use Rattle.bondreport.specs.Lines.{saidLine, textLine, callHeading, noCalls, noPillar, callLine, dayLine, numberLine, countLine, refusedLine};
 use bondreport::columns::blank;
 use bondreport::columns::put;
 use bondreport::figures::put_bits;
@@ -45,18 +45,18 @@ pub fn no_pillar() -> [u8; 80]
 }
 
 // A call's first day, last day and strike.
-pub fn call_line(start: u32, end: u32, strike: f64) -> [u8; 80]
-    ensures { λ r. ⌜ r ≡ callLine start end strike ⌝ }
+pub fn call_line(start: u32, end: u32, strike: f64, places: u32) -> [u8; 80]
+    ensures { λ r. ⌜ r ≡ callLine start end strike places ⌝ }
 {
     let days = put_date(put_date(blank(), 27, start), 39, end);
-    put_bits(put_decimals(days, 54, strike, 4), 58, strike)
+    put_bits(put_decimals(days, 54, strike, places), 58, strike)
 }
 
-// The first pillar's day.
-pub fn curve_line(day: u32) -> [u8; 80]
-    ensures { λ r. ⌜ r ≡ curveLine day ⌝ }
+// A day.
+pub fn day_line(label: &[u8], day: u32) -> [u8; 80]
+    ensures { λ r. ⌜ r ≡ dayLine (now (label .entry)) day ⌝ }
 {
-    put_date(put(blank(), 0, b"Curve date"), 27, day)
+    put_date(put(blank(), 0, label), 27, day)
 }
 
 // A number to some decimals, and its bits.

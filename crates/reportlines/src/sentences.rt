@@ -18,7 +18,7 @@ pub fn what_to_do(number: u32) -> [u8; 80]
         7 => text_line(b"No cashflow comes after settlement: check the settlement day."),
         8 => text_line(b"The curve must start at settlement, rise, and reach maturity."),
         9 => text_line(b"Correct the compounding or the frequency: it can't be used."),
-        20 => text_line(b"No principal is left at a call: look at the last redemption."),
+        20 => text_line(b"A call on or after the last redemption has nothing to call."),
         21 => text_line(b"The tree finds no room: ask for fewer steps."),
         22 => text_line(b"Some steps have no variance and others do: look at sigmas of 0."),
         23 => text_line(b"The volatilities of neighbouring steps are too far apart."),

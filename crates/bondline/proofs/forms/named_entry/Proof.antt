@@ -27,8 +27,8 @@ returns-2 : tie.Need-returns-2
 unfolding namedEntry
 returns-2 c = search naming
 
-column-of-requires : tie.Need-column-of-requires
-column-of-requires c κs = search naming
+unformed-entry-requires : tie.Need-unformed-entry-requires
+unformed-entry-requires c κs = search naming
 
 returns-3 : tie.Need-returns-3
 unfolding namedEntry
@@ -45,5 +45,5 @@ named-entry-spec =
     form-at-requires
     returns
     returns-2
-    column-of-requires
+    unformed-entry-requires
     returns-3)

@@ -1,5 +1,5 @@
 -- `tree::answered` meets its contract. Assumes nothing.
-use Rattle.filevalue.proofs.Replying.{valued, solved}
+use Rattle.filevalue.proofs.Replying.{valued, called, solved}
 use borrow.Author.Needs.{needs}
 use Rattle.filevalue.proofs.tree.answered.Statement.{statement}
 use Rattle.filevalue.proofs.tree.answered.Tie as tie
@@ -15,6 +15,12 @@ tree-value-requires c κs = search needs
 
 of-value-requires : tie.Need-of-value-requires
 of-value-requires c κs = search needs
+
+enum-told-2 : tie.Need-enum-told-2
+enum-told-2 c = search needs
+
+of-calls-requires : tie.Need-of-calls-requires
+of-calls-requires c κs = search needs
 
 enum-known-ask : tie.Need-enum-known-ask
 enum-known-ask c = search needs
@@ -53,7 +59,22 @@ same-length-8 : tie.Need-same-length-8
 same-length-8 c = search needs
 
 returns-2 : tie.Need-returns-2
-returns-2 c = solved (c .before .before .before .before .before .before .before .before .before .before .before .before .before .before .ask .given .1) (c .before .before .before .before .before .before .before .before .before .before .before .before .before .before .before .before .fields-of .ensures) (c .before .before .before .before .before .before .before .before .spread-from-price .ensures) (c .of-spread .ensures)
+returns-2 c = called (c .before .before .before .before .before .before .before .before .before .before .before .before .enum-told2 .given .1) (c .before .before .before .before .before .before .before .before .before .before .before .before .before .before .fields-of .ensures) (c .before .before .before .before .before .before .before .of-calls .ensures)
+
+same-length-9 : tie.Need-same-length-9
+same-length-9 c = search needs
+
+same-length-10 : tie.Need-same-length-10
+same-length-10 c = search needs
+
+same-length-11 : tie.Need-same-length-11
+same-length-11 c = search needs
+
+same-length-12 : tie.Need-same-length-12
+same-length-12 c = search needs
+
+returns-3 : tie.Need-returns-3
+returns-3 c = solved (c .before .before .before .before .before .before .before .before .before .before .before .before .before .before .ask .given .1) (c .before .before .before .before .before .before .before .before .before .before .before .before .before .before .before .before .fields-of .ensures) (c .before .before .before .before .before .before .before .before .spread-from-price .ensures) (c .of-spread .ensures)
 
 pub answered-spec : {M : Type 1} → statement M
 answered-spec =
@@ -63,6 +84,8 @@ answered-spec =
     enum-told
     tree-value-requires
     of-value-requires
+    enum-told-2
+    of-calls-requires
     enum-known-ask
     spread-from-price-requires
     of-spread-requires
@@ -75,4 +98,9 @@ answered-spec =
     same-length-6
     same-length-7
     same-length-8
-    returns-2)
+    returns-2
+    same-length-9
+    same-length-10
+    same-length-11
+    same-length-12
+    returns-3)

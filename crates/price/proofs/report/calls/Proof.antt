@@ -6,10 +6,10 @@ use Rattle.price.proofs.report.calls.Statement.{statement}
 use Rattle.price.proofs.report.calls.Tie as tie
 
 abbrev Inv-loop : tie.InvT-loop
-Inv-loop starts ends strikes k₀ k = Unit {0}
+Inv-loop text starts ends strikes k₀ k = Unit {0}
 
 abbrev μ-loop : tie.MeasureT-loop
-μ-loop starts ends strikes k₀ k = length starts - k
+μ-loop text starts ends strikes k₀ k = length starts - k
 
 loop-holds : tie.Need-loop-holds Inv-loop μ-loop
 loop-holds c = search needs
@@ -19,6 +19,12 @@ at-rank-requires c κs = search needs
 
 call-at-requires : tie.Need-call-at-requires Inv-loop μ-loop
 call-at-requires c κs = search needs
+
+line-of-requires : tie.Need-line-of-requires Inv-loop μ-loop
+line-of-requires c κs = search needs
+
+strike-decimals-requires : tie.Need-strike-decimals-requires Inv-loop μ-loop
+strike-decimals-requires c κs = search needs
 
 call-line-requires : tie.Need-call-line-requires Inv-loop μ-loop
 call-line-requires c κs = search needs
@@ -47,6 +53,8 @@ calls-spec =
     loop-holds
     at-rank-requires
     call-at-requires
+    line-of-requires
+    strike-decimals-requires
     call-line-requires
     print-requires
     add-k

@@ -1,0 +1,3 @@
+-- What the proofs and the crates above cite.
+pub mod Fields
+pub mod Worth

@@ -1,0 +1,16 @@
+-- The market of fields that were read.
+use lib.Ieee.{Float}
+use Rattle.terms.specs.Terms.{Leg, SigmaSchedule, Pillars, Market}
+use Rattle.bondfile.specs.declared.Fields.{Fields}
+
+-- The market of fields that were read, at a spread.
+abbrev pub marketAt : Fields → Leg → SigmaSchedule → Pillars → Float → Market
+marketAt f leg sigma pillars spread =
+    record {
+      settlement = f .settlement;
+      bond = record { leg = leg; units = f .units };
+      controls = record { perYear = f .yearly; maximum = f .maximum };
+      model = record { alpha = f .alpha; sigma = sigma };
+      spread = spread;
+      pillars = pillars;
+    }

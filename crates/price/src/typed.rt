@@ -1,0 +1,86 @@
+// What stands on a line of a file, as it was typed.
+use crate::printing::print;
+use bondline::bytes::past_spaces;
+use bondline::bytes::until;
+use bondline::lines::next_line;
+use bondline::words::is_same;
+use bondline::words::place_in;
+use bondline::words::span_of;
+use bondline::words::word_at;
+use filebond::parts::bytes_of;
+use reportlines::lines::said_line;
+
+// Where a line begins.
+fn line_start(text: &[u8], line: usize) -> usize {
+    let mut at = 0;
+    let mut i = 1;
+    while i < line {
+        at = next_line(text, at);
+        i += 1;
+    }
+    at
+}
+
+// The line from an index on, up to its comment.
+fn line_from(text: &[u8], at: usize) -> &[u8] {
+    let end = until(text, at, 10);
+    if end > text.len() {
+        return text;
+    }
+    if at > end {
+        return text;
+    }
+    let whole = &text[at..end];
+    bytes_of(whole, until(whole, 0, 35))
+}
+
+// What a line says behind its first word.
+fn rest_of(line: &[u8]) -> &[u8] {
+    let word = span_of(line, 0);
+    let start = past_spaces(line, word.end);
+    if start > line.len() {
+        return line;
+    }
+    &line[start..]
+}
+
+// The bond's name, where the file has a line for it.
+pub(crate) fn print_name(text: &[u8]) {
+    let mut at = 0;
+    let mut left = text.len();
+    while left > 0 {
+        let line = line_from(text, at);
+        if is_same(word_at(line, 0), b"name") {
+            print(said_line(b"Name", rest_of(line)));
+            return;
+        }
+        at = next_line(text, at);
+        left -= 1;
+    }
+}
+
+// The kind of a line by its name, from 0; 11 where it has none of the names.
+pub(crate) fn kind_typed(text: &[u8], line: usize) -> usize {
+    let typed = line_from(text, line_start(text, line));
+    let name = word_at(typed, 0);
+    place_in(
+        name,
+        b"settlement units steps alpha spread cashflow call sigma pillar yield quote",
+        11,
+    )
+}
+
+// How many decimals a call's strike was typed with, of at most four.
+pub(crate) fn strike_decimals(text: &[u8], line: usize) -> u32 {
+    let typed = line_from(text, line_start(text, line));
+    let strike = word_at(typed, 3);
+    let point = until(strike, 0, 46);
+    if point >= strike.len() {
+        return 0;
+    }
+    let behind = strike.len() - point - 1;
+    if behind > 4 {
+        return 4;
+    }
+    behind as u32
+}
