@@ -2,7 +2,7 @@
 use Prim.Native.Nat.{ℕ}
 use mathlib.Core.Path.{_≡_, refl}
 use mathlib.Core.Bool.{true, false}
-use mathlib.Core.List.{List, [], _∷_, map}
+use mathlib.Core.List.{List, [], _∷_, _++_, map}
 use lib.ListN.{length, replicate}
 use lib.IntN.{ℤ, pos, negsuc}
 use lib.Ieee.{Float, fin, binary64, ofBits}
@@ -79,7 +79,7 @@ model times sigmas = record { alpha = plusZero; sigma = record { times = times; 
 
 -- The nodes of each layer, the last one included.
 abbrev pub nodesOf : Outcome Lattice → List (List ℤ)
-nodesOf (given t) = map (λ (l : Layer). l .nodes) (t .layers)
+nodesOf (given t) = map (λ (l : Layer). l .nodes) (t .layers) ++ t .final ∷ []
 nodesOf (refused r) = []
 
 -- Factors 1, spread 0.
@@ -121,7 +121,7 @@ pub record Starred : Type 0 where
   -- Alpha 0, sigma (0.5, 0.5), (1.0, 1.0), from 0 to 1.25: 0.5.
   pub variance : piecewiseVariance (model (half ∷ one ∷ []) (half ∷ one ∷ [])) plusZero (ofBits binary64 0x3ff4_0000_0000_0000) 0 ≡ answer.Value half
   -- Variance 2^−52 on every step: one node per layer.
-  pub flat : nodesOf (lattice (roomOf lent) plusZero one (epsilon ∷ epsilon ∷ [])) ≡ (pos 0 ∷ []) ∷ (pos 0 ∷ []) ∷ []
+  pub flat : nodesOf (lattice (roomOf lent) plusZero one (epsilon ∷ epsilon ∷ [])) ≡ (pos 0 ∷ []) ∷ (pos 0 ∷ []) ∷ (pos 0 ∷ []) ∷ []
   -- Alpha 0, sigma (0, 0.5), (1, 0), two one-year steps: 22, place 1.
   pub no-variance :
       treeValue (marketOn 730 (steps 1 512) (model (plusZero ∷ one ∷ []) (half ∷ plusZero ∷ []))) noCalls (roomOf lent)

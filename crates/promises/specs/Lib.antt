@@ -4,4 +4,8 @@ pub mod Rooms
 pub mod RefusalNumbers
 pub mod Probabilities
 pub mod NoticeLists
+pub mod SpreadReordering
+pub mod Evaluations
+pub mod HostCallLists
+pub mod FitNodes
 pub mod laws

@@ -14,3 +14,8 @@ pub mod SpreadNumbers
 pub mod Rooms
 pub mod ProbabilityPromise
 pub mod NoticeLists
+pub mod SpreadReordering
+pub mod Evaluations
+pub mod HostCallLists
+pub mod SortedSets
+pub mod FitNodes

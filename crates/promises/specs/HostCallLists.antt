@@ -1,0 +1,103 @@
+-- Definitions only. Demand 3 as a C caller meets it: what two calls hand back whose call lists differ, all else the same. The number is the result of the call, 0 where it is accepted.
+use Prim.Native.Nat.{ℕ}
+use mathlib.Core.Path.{_≡_}
+use mathlib.Core.Logic.{_↔_, _⊎_}
+use mathlib.Core.List.{List}
+use lib.Dec.{T}
+use lib.Ieee.{Float, le}
+use Rattle.terms.specs.Terms.{CallSchedule, Market, withSpread}
+use Rattle.terms.specs.CallLists.{MadeFrom, Reordered, StrikeAbove}
+use Rattle.bondevents.specs.Grid.{gridAnswer}
+use Rattle.treebasedbondpricer.specs.Tree.{Lent, roomOf}
+use Rattle.host.specs.Handed.{HandedGrid, HandedTree, HandedSpread}
+
+-- ---- one call of each function: what is lent, what is left there, and what is handed back
+
+-- gutirapeo_grid
+pub record GridCall (m : Market) (calls : CallSchedule) : Type 0 where
+  pub number : ℕ
+  pub place : ℕ
+  pub maturity : Float
+  pub steps : ℕ
+  pub cashflows : List Float
+  pub marks : List ℕ
+  pub prices : List Float
+  pub handed : HandedGrid (gridAnswer (m .settlement) (m .bond) calls (m .controls)) number place maturity steps cashflows marks prices
+
+-- gutirapeo_tree_value
+pub record TreeCall (m : Market) (calls : CallSchedule) : Type 0 where
+  pub lent : Lent
+  pub left : Lent
+  pub number : ℕ
+  pub place : ℕ
+  pub value : Float
+  pub nodes : ℕ
+  pub handed : HandedTree m calls lent left number place value nodes
+
+-- gutirapeo_spread_from_price, with a target in the spread's place
+pub record SpreadCall (m : Market) (target : Float) (calls : CallSchedule) : Type 0 where
+  pub lent : Lent
+  pub left : Lent
+  pub number : ℕ
+  pub place : ℕ
+  pub spread : Float
+  pub tried : ℕ
+  pub handed : HandedSpread (withSpread m target) calls lent left number place spread tried
+
+-- ---- the call-list rule
+
+-- Refused with 4 exactly when a strike of the second list is above 1,000,000. Otherwise accepted, with a value no lower than x as numbers, or refused with 27.
+pub record ThinnedCall (x : Float) (second : CallSchedule) (number : ℕ) (value : Float) : Type 0 where
+  pub with-4 : (number ≡ 4) ↔ StrikeAbove second
+  pub otherwise : (StrikeAbove second → ⊥) → ((number ≡ 0) × T (le x value)) ⊎ (number ≡ 27)
+
+-- Any call that is accepted, and any second one whose list is made from the first's, each working slice as long.
+abbrev pub HostCallListRule : Type 0
+HostCallListRule =
+    (m : Market) (first second : CallSchedule)
+    → MadeFrom first second
+    → (a : TreeCall m first) (b : TreeCall m second)
+    → roomOf (b .lent) ≡ roomOf (a .lent)
+    → a .number ≡ 0
+    → ThinnedCall (a .value) second (b .number) (b .value)
+
+-- ---- reordering
+
+pub record SameGrids {m : Market} {first second : CallSchedule} (a : GridCall m first) (b : GridCall m second) : Type 0 where
+  pub number : b .number ≡ a .number
+  pub place : b .place ≡ a .place
+  pub maturity : b .maturity ≡ a .maturity
+  pub steps : b .steps ≡ a .steps
+  pub cashflows : b .cashflows ≡ a .cashflows
+  pub marks : b .marks ≡ a .marks
+  pub prices : b .prices ≡ a .prices
+
+-- With slices as long; where they also hold the same before, they hold the same afterwards.
+pub record SameValues {m : Market} {first second : CallSchedule} (a : TreeCall m first) (b : TreeCall m second) : Type 0 where
+  pub number : b .number ≡ a .number
+  pub place : b .place ≡ a .place
+  pub value : b .value ≡ a .value
+  pub nodes : b .nodes ≡ a .nodes
+  pub slices : b .lent ≡ a .lent → b .left ≡ a .left
+
+pub record SameSpreads {m : Market} {target : Float} {first second : CallSchedule} (a : SpreadCall m target first) (b : SpreadCall m target second) : Type 0 where
+  pub number : b .number ≡ a .number
+  pub place : b .place ≡ a .place
+  pub spread : b .spread ≡ a .spread
+  pub tried : b .tried ≡ a .tried
+  pub slices : b .lent ≡ a .lent → b .left ≡ a .left
+
+-- No bit of what any of the three hands back.
+pub record Unchanged (m : Market) (first second : CallSchedule) : Type 0 where
+  pub grids : (a : GridCall m first) (b : GridCall m second) → SameGrids a b
+  pub values : (a : TreeCall m first) (b : TreeCall m second) → roomOf (b .lent) ≡ roomOf (a .lent) → SameValues a b
+  pub spreads : (target : Float) (a : SpreadCall m target first) (b : SpreadCall m target second) → roomOf (b .lent) ≡ roomOf (a .lent) → SameSpreads a b
+
+-- Whenever the grid accepts a list, reordering it changes nothing.
+abbrev pub HostReorderingRule : Type 0
+HostReorderingRule =
+    (m : Market) (first second : CallSchedule)
+    → Reordered first second
+    → (g : GridCall m first)
+    → g .number ≡ 0
+    → Unchanged m first second

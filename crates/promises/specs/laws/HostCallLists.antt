@@ -1,0 +1,103 @@
+-- Demand 3 of what the C functions hand back. Assumes nothing.
+use mathlib.Core.Path.{_≡_, refl, sym, ap, subst, _∙_}
+use mathlib.Core.Logic.{_⊎_, inl, inr}
+use mathlib.Core.List.{map}
+use lib.Dec.{T}
+use lib.Ieee.{Float, le}
+use Rattle.terms.specs.Terms.{CallSchedule, Market, withSpread}
+use Rattle.terms.specs.CallLists.{Reordered}
+use Rattle.bondevents.specs.declared.GridAnswer.{GridAnswer}
+use Rattle.bondevents.specs.Grid.{gridAnswer}
+use Rattle.bondevents.specs.Parts.{markOf, priceOfStep}
+use Rattle.lattice.specs.Layers.{Room}
+use Rattle.treebasedbondpricer.specs.declared.TreeValue.{TreeValue}
+use Rattle.treebasedbondpricer.specs.declared.TreeValue.the-variants.{Value, Refused}
+use Rattle.treebasedbondpricer.specs.Tree.{treeValue, lentAfter, numberOf, placeOf, valueOf, countedBy, roomOf}
+use Rattle.treebasedbondpricer.specs.CallLists.{NoLowerOr27, accepted, refused-27}
+use Rattle.treebasedbondpricer.specs.laws.CallLists.{call-list-rule, reordering-rule}
+use Rattle.brackets.specs.Brackets.{rootNumber, rootPlace, rootValue, evaluationsOf}
+use Rattle.spreads.specs.Spreads.{spreadFromPrice}
+use Rattle.spreads.specs.Spreads as spreads
+use Rattle.promises.specs.RefusalNumbers.{Among, treeRefusals}
+use Rattle.promises.specs.HostCallLists.{GridCall, TreeCall, SpreadCall, HostCallListRule, SameGrids, SameValues, SameSpreads, HostReorderingRule}
+use Rattle.promises.specs.laws.TreeNumbers.{tree-numbers}
+use Rattle.promises.specs.laws.SpreadReordering.{spread-reordering-rule}
+
+-- ---- the call-list rule
+
+-- A call with number 0 has a value: 0 is no refusal's number.
+valued : (m : Market) (calls : CallSchedule) (room : Room) (v : TreeValue) → treeValue m calls room ≡ v → numberOf v ≡ 0 → v ≡ Value (valueOf v) (countedBy v)
+valued m calls room (Value x n) e z = refl
+valued m calls room (Refused q) e z = absurd (subst (Among treeRefusals) z (tree-numbers m calls room q e) .is-one)
+
+no-lower : {x : Float} {v : TreeValue} → NoLowerOr27 x v → ((numberOf v ≡ 0) × T (le x (valueOf v))) ⊎ (numberOf v ≡ 27)
+no-lower (accepted l) = inl (refl, l)
+no-lower refused-27 = inr refl
+
+pub host-call-list-rule : HostCallListRule
+host-call-list-rule m first second made a b as-long z =
+    let p = a .handed .handed in
+    let q = b .handed .handed in
+    let room = roomOf (a .lent) in
+    let v = treeValue m first room in
+    let w = treeValue m second room in
+    let number : b .number ≡ numberOf w = q .number-is ∙ ap (λ (r : Room). numberOf (treeValue m second r)) as-long in
+    let value : b .value ≡ valueOf w = q .value-is ∙ ap (λ (r : Room). valueOf (treeValue m second r)) as-long in
+    let has : v ≡ Value (valueOf v) (countedBy v) = valued m first room v refl (sym (p .number-is) ∙ z) in
+    let t = call-list-rule m room first second (valueOf v) (countedBy v) made has in
+    record {
+      with-4 = ((λ four. t .with-4 .0 (sym number ∙ four)), (λ above. number ∙ t .with-4 .1 above));
+      otherwise = λ none. rw (number, value, p .value-is) (no-lower (t .otherwise none));
+    }
+
+-- ---- reordering
+
+module _ (m : Market) (first second : CallSchedule) (r : Reordered first second) (z : gridAnswer (m .settlement) (m .bond) first (m .controls) .refusal .number ≡ 0) where
+  same-grids : (a : GridCall m first) (b : GridCall m second) → SameGrids a b
+  same-grids a b =
+      let p = a .handed in
+      let q = b .handed in
+      let e = reordering-rule m first second r z .grids in
+      record {
+        number = q .number-is ∙ ap (λ (g : GridAnswer). g .refusal .number) e ∙ sym (p .number-is);
+        place = q .place-is ∙ ap (λ (g : GridAnswer). g .refusal .place) e ∙ sym (p .place-is);
+        maturity = q .maturity-is ∙ ap (λ (g : GridAnswer). g .grid .«maturity_time») e ∙ sym (p .maturity-is);
+        steps = q .steps-is ∙ ap (λ (g : GridAnswer). g .grid .steps) e ∙ sym (p .steps-is);
+        cashflows = q .cashflows-are ∙ ap (λ (g : GridAnswer). g .grid .cashflows) e ∙ sym (p .cashflows-are);
+        marks = q .marks-are ∙ ap (λ (g : GridAnswer). map markOf (g .grid .calls)) e ∙ sym (p .marks-are);
+        prices = q .prices-are ∙ ap (λ (g : GridAnswer). map priceOfStep (g .grid .calls)) e ∙ sym (p .prices-are);
+      }
+
+  same-values : (a : TreeCall m first) (b : TreeCall m second) → roomOf (b .lent) ≡ roomOf (a .lent) → SameValues a b
+  same-values a b as-long =
+      let p = a .handed .handed in
+      let q = b .handed .handed in
+      let same = reordering-rule m first second r z in
+      let e : treeValue m second (roomOf (b .lent)) ≡ treeValue m first (roomOf (a .lent)) = ap (treeValue m second) as-long ∙ same .values (roomOf (a .lent)) in
+      record {
+        number = q .number-is ∙ ap numberOf e ∙ sym (p .number-is);
+        place = q .place-is ∙ ap placeOf e ∙ sym (p .place-is);
+        value = q .value-is ∙ ap valueOf e ∙ sym (p .value-is);
+        nodes = q .nodes-is ∙ ap countedBy e ∙ sym (p .nodes-is);
+        slices = λ alike. b .handed .slices ∙ same .slices (b .lent) ∙ ap (lentAfter m first) alike ∙ sym (a .handed .slices);
+      }
+
+  same-spreads : (target : Float) (a : SpreadCall m target first) (b : SpreadCall m target second) → roomOf (b .lent) ≡ roomOf (a .lent) → SameSpreads a b
+  same-spreads target a b as-long =
+      let p = a .handed .handed in
+      let q = b .handed .handed in
+      let w = withSpread m target in
+      let same = spread-reordering-rule w first second r z in
+      let e : spreadFromPrice w second (roomOf (b .lent)) ≡ spreadFromPrice w first (roomOf (a .lent)) = ap (spreadFromPrice w second) as-long ∙ same .roots (roomOf (a .lent)) in
+      record {
+        number = q .number-is ∙ ap rootNumber e ∙ sym (p .number-is);
+        place = q .place-is ∙ ap rootPlace e ∙ sym (p .place-is);
+        spread = q .value-is ∙ ap rootValue e ∙ sym (p .value-is);
+        tried = q .evaluations-is ∙ ap evaluationsOf e ∙ sym (p .evaluations-is);
+        slices = λ alike. b .handed .slices ∙ same .slices (b .lent) ∙ ap (spreads.lentAfter w first) alike ∙ sym (a .handed .slices);
+      }
+
+pub host-reordering-rule : HostReorderingRule
+host-reordering-rule m first second r g z =
+    let y = sym (g .handed .number-is) ∙ z in
+    record { grids = same-grids m first second r y; values = same-values m first second r y; spreads = same-spreads m first second r y }
