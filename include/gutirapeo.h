@@ -69,6 +69,7 @@ uint32_t gutirapeo_midpoint(double a, double b, uint32_t *place, double *value);
  *   7   no cashflow after settlement
  *   8   pillar days that don't rise, the first not settlement, the last before maturity
  *   9   an unknown compounding code, or a frequency that can't be used
+ *   44  a pillar's discount factor that isn't positive, tried last
  * The place is the index of the entry, 0 for single fields, counts and 7.
  *
  * Every price that is passed or handed back is a full (dirty) price: strikes, targets, values and the price of a yield include
@@ -115,21 +116,22 @@ uint32_t gutirapeo_call_list(const uint32_t *series, size_t series_length,
 /* What the bond is worth with its calls, and the nodes of the tree.
  *
  * Sigma comes as 1 to 64 times (years from settlement, rising) and the sigma from each time on, the first reaching back to
- * settlement; the curve as 2 to 256 pillars, a day and a discount factor each, from settlement to maturity or beyond.
+ * settlement; the curve as 2 to 256 pillars, a day and a discount factor above 0 each, from settlement to maturity or beyond.
+ * From each pillar up to the next the logarithm of the factor is a straight line; at or past the last it is that pillar's factor.
  *
  * Lent, to work in: nodes with 2 places for each node of the tree, probabilities with 3 for each, and two rows, each as long as
  * the largest layer. A tree of n steps has the layers 0 to n. With alpha at or above 0 and sigmas that never fall, layer k has at
  * most 2k + 1 nodes: 2(n + 1)^2 nodes, 3(n + 1)^2 probabilities and rows of 2n + 1 are enough then. Whatever they held, all
- * four are untouched after a refusal of 1 to 8, and else all zero, to the last place.
+ * four are untouched after a refusal of 1 to 8 or 44, and else all zero, to the last place.
  *
- * The refusals 1 to 8 have the places above. Of the others the place is the step, where nothing else is said:
+ * The refusals 1 to 8 and 44 have the places above. Of the others the place is the step, where nothing else is said:
  *   20  no principal at a step that can be called (place 0)
  *   21  a layer doesn't fit into what is lent (the place is the layer)
  *   22  no variance on this step, but on others
  *   23  a node beyond 1,000,000 either way
  *   24  a probability below -1e-12: never given, since no input leads to it
- *   25  a discount factor at or below 0
- *   26  exp or ln outside its range
+ *   25  a discount factor that comes out as 0, beside a pillar below 1e-304
+ *   26  exp or ln outside its range, as beside a pillar below 2^-1022
  *   27  a result that isn't finite (place 0 where it is a call price)
  * 26 and 27 have place 0 too where one step's decay can't be worked out. */
 uint32_t gutirapeo_tree_value(uint32_t settlement,
@@ -185,7 +187,7 @@ uint32_t gutirapeo_spread_from_price(uint32_t settlement,
                                      uint32_t *place, double *spread, uint32_t *tried);
 
 /* What the bond is worth without its calls.
- * 25: settlement's factor at or below 0. 26: exp outside its range. 27: a result that isn't finite. */
+ * 25: settlement's factor comes out as 0. 26: exp or ln outside its range. 27: a result that isn't finite. */
 uint32_t gutirapeo_straight_value(uint32_t settlement,
                                   const uint32_t *cashflow_days, size_t cashflow_days_length,
                                   const uint8_t *cashflow_kinds, size_t cashflow_kinds_length,

@@ -111,15 +111,15 @@ try "target removed" './price a.txt && rm -rf target && ./price a.txt'
 ends 0; times 2 "Spreads tried"
 
 fresh
-try "one digit of stdout changed" 'sed -i "s/102\.22/102.23/" crates/price/stdout; ./price a.txt'
+try "one figure of stdout changed" 'cp crates/price/stdout kept; sed -i "/^Nodes/y/0123456789/1234567890/" crates/price/stdout; ./price a.txt'
 ends 2; silent; warns "rt: FAILED: price"; warns "rt does not call the program proved"
 [ -x "$desk/target/bin/price" ]
 verdict $? "the program that is not proved stands there"
 try "and called again" './price a.txt'
 ends 2; silent; built 2
-try "the digit put back" 'sed -i "s/102\.23/102.22/" crates/price/stdout; ./price a.txt'
+try "the figure put back" 'cp kept crates/price/stdout; ./price a.txt'
 ends 0; wrote a.txt
-try "changed once more, behind a proved program" 'sed -i "s/102\.22/102.23/" crates/price/stdout; ./price a.txt'
+try "changed once more, behind a proved program" 'sed -i "/^Nodes/y/0123456789/1234567890/" crates/price/stdout; ./price a.txt'
 ends 2; silent
 
 fresh

@@ -1,6 +1,6 @@
-//! What a call brings, the input checks 1 to 9, day times and the curve.
+//! What a call brings, the input checks 1 to 9 and 44, day times and the curve.
 use alloc::vec::Vec;
-use crate::elementary::tested;
+use crate::elementary::{exp_at, ln_at, tested};
 use crate::{Answer, Outcome, Refusal};
 
 #[derive(Clone, Debug, Default)]
@@ -112,6 +112,9 @@ impl Input<'_> {
             };
             when(9, !known)?;
         }
+        if let Some(p) = self.pillars {
+            indexed(44, p.factors.len(), |i| !(p.factors[i] > 0.0))?;
+        }
         Ok(())
     }
 
@@ -181,15 +184,17 @@ pub fn year_fraction(settlement: u32, day: u32) -> f64 {
     (f64::from(day) - f64::from(settlement)) / 365.0
 }
 
-/// Linear between the pillars around t; from the last pillar on, its factor.
+/// From a pillar up to the next exp of the line through the logarithms of their factors; from the last pillar on, its factor.
 pub fn curve(settlement: u32, pillars: &Pillars, t: f64, place: u32) -> Answer {
     let time = |i: usize| year_fraction(settlement, pillars.days[i]);
     for i in 1..pillars.days.len() {
         if t < time(i) {
             let (t0, t1) = (time(i - 1), time(i));
-            let (d0, d1) = (pillars.factors[i - 1], pillars.factors[i]);
+            let l0 = ln_at(pillars.factors[i - 1], place)?;
+            let l1 = ln_at(pillars.factors[i], place)?;
+            let rise = tested(l1 - l0, place)?;
             let share = tested((t - t0) / (t1 - t0), place)?;
-            return tested(d0 + tested(tested(d1 - d0, place)? * share, place)?, place);
+            return exp_at(tested(l0 + tested(rise * share, place)?, place)?, place);
         }
     }
     Ok(*pillars.factors.last().unwrap())

@@ -166,14 +166,14 @@ fn tree_record(random: &mut Random) -> Record {
 }
 
 /// The refusals of the tree value that can be met.
-const TREE: [u64; 15] = [1, 2, 3, 4, 5, 6, 7, 8, 20, 21, 22, 23, 25, 26, 27];
+const TREE: [u64; 16] = [1, 2, 3, 4, 5, 6, 7, 8, 20, 21, 22, 23, 25, 26, 27, 44];
 /// Accepted of any kind, beside 0 for those with calls.
 const PLAIN: u64 = 100;
 
 /// 200 tree values: 6 of each refusal that can be met, 20 accepted of any kind, the rest accepted with calls and some nodes.
 fn tree_records(random: &mut Random) -> Vec<Record> {
     let mut left: BTreeMap<u64, u32> = TREE.into_iter().map(|number| (number, 6)).collect();
-    left.extend([(PLAIN, 20), (0, 90)]);
+    left.extend([(PLAIN, 20), (0, 84)]);
     sorted(random, left, tree_record, |r| if r[80] == 0 && (r[28] == 0 || r[83] < 10) { PLAIN } else { r[80] })
 }
 
@@ -222,10 +222,10 @@ fn sorted(random: &mut Random, mut left: BTreeMap<u64, u32>, record: fn(&mut Ran
     records
 }
 
-/// 100 spreads from prices: 3 of each refusal of the tree value, 6 each of 29 and 36, 10 accepted of any kind, 33 accepted with calls.
+/// 100 spreads from prices: 3 of each refusal of the tree value, 6 each of 29 and 36, 10 accepted of any kind, 30 accepted with calls.
 fn spread_records(random: &mut Random) -> Vec<Record> {
     let mut left: BTreeMap<u64, u32> = TREE.into_iter().map(|number| (number, 3)).collect();
-    left.extend([(29, 6), (36, 6), (PLAIN, 10), (0, 33)]);
+    left.extend([(29, 6), (36, 6), (PLAIN, 10), (0, 30)]);
     sorted(random, left, spread_record, |r| if r[80] == 0 && r[28] == 0 { PLAIN } else { r[80] })
 }
 

@@ -13,7 +13,7 @@ use reading::{Answer, Refusal};
 use std::collections::BTreeMap;
 
 /// What a run must meet. 30 isn't there: a bracket within ±1 is as narrow as 1e-14 long before the 256th halving.
-const MET: [u32; 17] = [1, 2, 3, 4, 5, 6, 7, 8, 20, 21, 22, 23, 25, 26, 27, 29, 36];
+const MET: [u32; 18] = [1, 2, 3, 4, 5, 6, 7, 8, 20, 21, 22, 23, 25, 26, 27, 29, 36, 44];
 
 /// What it must meet at a spread tried after the first.
 const LATER: [u32; 4] = [26, 27, 29, 36];

@@ -105,11 +105,14 @@ pub fn pillars(random: &mut Random, settlement: u32, last: u32) -> Pillars {
     days.push(last.max(settlement + 1) + random.below(400) as u32);
     days.sort_unstable();
     days.dedup();
+    // Where ln has its lower limit and exp falls to 0.
+    let sunk = random.below(200) == 0;
     let factors = days
         .iter()
         .map(|&day| match random.below(40) {
+            _ if sunk && day > settlement => scaled(random, -307.6, -303.5),
             0 => random.between(-1.0, 2.0),
-            1 => scaled(random, -300.0, 2.9),
+            1 => scaled(random, -320.0, 2.9),
             _ => (-rate * f64::from(day - settlement) / 365.0).exp(),
         })
         .collect();

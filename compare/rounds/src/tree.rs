@@ -14,7 +14,7 @@ pub const AMPLE: Room = Room { nodes: 24_000, probabilities: 36_000, first: 2_00
 pub const LARGE: Room = Room { nodes: 2 * 513 * 513, probabilities: 3 * 513 * 513, first: 4_000, second: 4_000 };
 
 /// What a run must meet: every refusal of the tree but 24, which is never given, and all of the input's.
-const MET: [u32; 15] = [1, 2, 3, 4, 5, 6, 7, 8, 20, 21, 22, 23, 25, 26, 27];
+const MET: [u32; 16] = [1, 2, 3, 4, 5, 6, 7, 8, 20, 21, 22, 23, 25, 26, 27, 44];
 
 /// Sigma up to its greatest count, each entry of another size than the one before.
 fn jagged(random: &mut Random) -> Sigma {

@@ -39,6 +39,7 @@ advice =
     ∷ about 41 (bytes "Too many notices: at most 256 are taken in one go.")
     ∷ about 42 (bytes "Look at this notice: its series, its version or its action.")
     ∷ about 43 (bytes "This notice repeats the series and version of an earlier one.")
+    ∷ about 44 (bytes "A discount factor must be above 0: look at this pillar.")
     ∷ []
 
 abbrev pub unknown : List ℕ

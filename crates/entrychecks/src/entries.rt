@@ -4,6 +4,7 @@ use crate::grid_stages::grid_counts;
 use crate::grid_stages::grid_days;
 use crate::grid_stages::grid_numbers;
 use crate::grid_stages::grid_orders;
+use crate::late_stages::late_checks;
 use crate::straight_stages::straight_counts;
 use crate::straight_stages::straight_days;
 use crate::straight_stages::straight_numbers;
@@ -20,7 +21,6 @@ use terms::counts::leg_count;
 use terms::limits::PillarEntries;
 use terms::limits::Target;
 use terms::limits::Yields;
-use terms::pillars::pillars_to_maturity;
 ghost use mathlib.Core.Path.{_≡_};
 ghost use Rattle.terms.specs.Terms.{Leg, CallSchedule, SigmaSchedule, Pillars, Bond, TimeGrid, HullWhite, Market};
 ghost use Rattle.terms.specs.Entries.{gridChecks, marketChecks, treeChecks, spreadChecks, straightChecks, yieldChecks, priceChecks, targetChecks};
@@ -83,7 +83,7 @@ pub fn straight_checks(
     let Check::Passed = c else {
         return c;
     };
-    straight_orders(settlement, days, pillars)
+    straight_orders(settlement, days, pillars, factors)
 }
 
 // What both yield entries check, with the limit of the yield or the target, and the check of the rate definition.
@@ -208,7 +208,7 @@ fn market_checks(
     let Check::Passed = d else {
         return d;
     };
-    pillars_to_maturity(settlement, days, pillars)
+    late_checks(settlement, days, pillars, factors)
 }
 
 // What the tree value checks.

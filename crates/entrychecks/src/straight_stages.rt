@@ -1,5 +1,6 @@
 // The checks of the straight value, in stages.
 
+use crate::late_stages::late_checks;
 use terms::Check;
 use terms::cashflows::any_paid;
 use terms::cashflows::leg_days;
@@ -11,7 +12,6 @@ use terms::limits::Cashflows;
 use terms::numbers::all_within;
 use terms::pillars::factor_range;
 use terms::pillars::pillar_days;
-use terms::pillars::pillars_to_maturity;
 ghost use mathlib.Core.Path.{_≡_};
 ghost use mathlib.Core.List.{[]};
 ghost use Prim.Native.Nat.{_≤_};
@@ -79,15 +79,16 @@ pub fn straight_numbers(spread: f64, amounts: &[f64], factors: &[f64]) -> Check
     factor_range(factors)
 }
 
-// 7 and 8: nothing paid, and the pillars.
-pub fn straight_orders(settlement: u32, days: &[u32], pillars: &[u32]) -> Check
+// 7, 8 and 44: nothing paid, and the pillars.
+pub fn straight_orders(settlement: u32, days: &[u32], pillars: &[u32], factors: &[f64]) -> Check
     requires { ⌜ length (now pillars) ≤ 256 ⌝ }
+    requires { ⌜ length (now factors) ≤ 256 ⌝ }
     ensures { λ r. ⌜ r ≡ firstOf
-        (straightOrders settlement (record { days = now (days .entry); kinds = []; amounts = [] }) (record { days = now (pillars .entry); factors = [] })) ⌝ }
+        (straightOrders settlement (record { days = now (days .entry); kinds = []; amounts = [] }) (pillarsIn pillars factors)) ⌝ }
 {
     let a = any_paid(settlement, days);
     let Check::Passed = a else {
         return a;
     };
-    pillars_to_maturity(settlement, days, pillars)
+    late_checks(settlement, days, pillars, factors)
 }

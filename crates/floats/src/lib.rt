@@ -42,6 +42,8 @@ impl Refusal {
     pub const NOTICE_RANGE: u32 = 42;
     // The same series and version twice.
     pub const NOTICE_REPEATED: u32 = 43;
+    // A pillar factor that isn't positive.
+    pub const FACTOR_NOT_POSITIVE: u32 = 44;
 
     // Found in the working state.
     // No principal at an eligible step.

@@ -7,12 +7,13 @@ use Rattle.terms.specs.declared.Check.{Check}
 use Rattle.terms.specs.declared.Check.the-variants.{Passed}
 use Rattle.terms.specs.Numbers.{float}
 use Rattle.terms.specs.Terms.{CallSchedule, Market}
-use Rattle.terms.specs.Checks.{settings, settlementDay, legDays, callDays, pillarDays, unitsRange, within, amountRange, strikeRange, sigmaRange, factorRange, callOrder, sigmaOrder, lastDay, anyPaid, pillarOrder}
+use Rattle.terms.specs.Checks.{firstOf, settings, settlementDay, legDays, callDays, pillarDays, unitsRange, within, amountRange, strikeRange, sigmaRange, factorRange, callOrder, sigmaOrder, anyPaid}
+use Rattle.terms.specs.Entries.{lateChecks}
 use Rattle.places.specs.declared.Whose.{Whose}
 use Rattle.places.specs.declared.Whose.the-variants.{Nobody, Steps, Settlement, Units, Alpha, Spread, Cashflow, Call, Sigma, Pillar}
 use Rattle.places.specs.Places.{whoseDay, whoseField, whoseNumber, whoseOrder}
 
--- Of days, 3; of numbers, 4; of orders, 1 and 5 to 8.
+-- Of days, 3; of numbers, 4; of orders, 1 and 5 to 8, with 44 beside 8.
 pub record Looks : Type 0 where
   pub day : Check
   pub number : Check
@@ -34,7 +35,7 @@ checksOf m calls Call = looks (callDays calls) (strikeRange calls) (callOrder ca
 checksOf m calls Sigma = looks Passed (sigmaRange (m .model .sigma)) (sigmaOrder (m .model .sigma))
 checksOf m calls Pillar =
     looks (pillarDays (m .pillars)) (factorRange (m .pillars))
-    (pillarOrder (m .settlement) (lastDay (m .bond .leg .days)) (m .pillars))
+    (firstOf (lateChecks (m .settlement) (m .bond .leg) (m .pillars)))
 
 abbrev pub dayCheck : Market → CallSchedule → Whose → Check
 dayCheck m calls w = checksOf m calls w .day

@@ -68,11 +68,12 @@ whoseNumber place amounts strikes times sigmas =
 
 -- ---- the other numbers
 
--- 1 is about the steps, 5 a call, 6 a sigma entry, 7 settlement, 8 a pillar.
+-- 1 is about the steps, 5 a call, 6 a sigma entry, 7 settlement, 8 and 44 a pillar.
 unfoldable pub whoseOrder : ℕ → Whose
 whoseOrder number =
     cond (eqb number 1) Steps
     (cond (eqb number 5) Call
     (cond (eqb number 6) Sigma
     (cond (eqb number 7) Settlement
-    (cond (eqb number 8) Pillar Nobody))))
+    (cond (eqb number 8) Pillar
+    (cond (eqb number 44) Pillar Nobody)))))

@@ -4,7 +4,7 @@ use floats::Refusal;
 ghost use mathlib.Core.Path.{_≡_};
 ghost use Rattle.places.specs.Places.{whoseOrder};
 
-// Whose it is by the number alone: 1, 5, 6, 7 and 8.
+// Whose it is by the number alone: 1, 5, 6, 7, 8 and 44.
 pub fn whose_order(number: u32) -> Whose
     ensures { λ r. ⌜ r ≡ whoseOrder number ⌝ }
 {
@@ -21,6 +21,9 @@ pub fn whose_order(number: u32) -> Whose
         return Whose::Settlement;
     }
     if number == Refusal::PILLAR_ORDER {
+        return Whose::Pillar;
+    }
+    if number == Refusal::FACTOR_NOT_POSITIVE {
         return Whose::Pillar;
     }
     Whose::Nobody

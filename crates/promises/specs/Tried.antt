@@ -53,11 +53,11 @@ market settlement leg units controls alpha times sigmas spread pillars =
       pillars = pillars;
     }
 
-priced : treeValue (market 100 (leg (465 ∷ 830 ∷ 830 ∷ []) (0 ∷ 0 ∷ 1 ∷ []) ((float 5) ∷ (float 5) ∷ (float 100) ∷ [])) (float 100) (steps 2 512) (ofBits binary64 0x3fb999999999999a) ((float 0) ∷ (float 1) ∷ []) ((ofBits binary64 0x3f847ae147ae147b) ∷ (ofBits binary64 0x3f889374bc6a7efa) ∷ []) (ofBits binary64 0x3f747ae147ae147b) (pillars (100 ∷ 465 ∷ 900 ∷ []) ((float 1) ∷ (ofBits binary64 0x3fef0a3d70a3d70a) ∷ (ofBits binary64 0x3fedc28f5c28f5c3) ∷ []))) (calls (465 ∷ []) (465 ∷ []) ((float 101) ∷ [])) (room 64 96 9 9) ≡ tree.Value (ofBits binary64 0x40597984ea4456cf) 25
+priced : treeValue (market 100 (leg (465 ∷ 830 ∷ 830 ∷ []) (0 ∷ 0 ∷ 1 ∷ []) ((float 5) ∷ (float 5) ∷ (float 100) ∷ [])) (float 100) (steps 2 512) (ofBits binary64 0x3fb999999999999a) ((float 0) ∷ (float 1) ∷ []) ((ofBits binary64 0x3f847ae147ae147b) ∷ (ofBits binary64 0x3f889374bc6a7efa) ∷ []) (ofBits binary64 0x3f747ae147ae147b) (pillars (100 ∷ 465 ∷ 900 ∷ []) ((float 1) ∷ (ofBits binary64 0x3fef0a3d70a3d70a) ∷ (ofBits binary64 0x3fedc28f5c28f5c3) ∷ []))) (calls (465 ∷ []) (465 ∷ []) ((float 101) ∷ [])) (room 64 96 9 9) ≡ tree.Value (ofBits binary64 0x405978f448aaae8f) 25
 unfolding treeValue paidInto rawStep curveOver onOutcome onCheck lowest onAnswer rounded ieee.ofBits ieee.add ieee.sub ieee.mul ieee.div ieee.neg ieee.lt ieee.le ieee.ofInt ieee.toSigned
 priced = refl
 
-windowed : treeValue (market 100 (leg (465 ∷ 830 ∷ 830 ∷ []) (0 ∷ 0 ∷ 1 ∷ []) ((float 5) ∷ (float 5) ∷ (float 100) ∷ [])) (float 100) (steps 2 512) (ofBits binary64 0xbfc999999999999a) ((float 0) ∷ (float 1) ∷ []) ((ofBits binary64 0x3f847ae147ae147b) ∷ (ofBits binary64 0x3f889374bc6a7efa) ∷ []) (ofBits binary64 0x3f747ae147ae147b) (pillars (100 ∷ 465 ∷ 900 ∷ []) ((float 1) ∷ (ofBits binary64 0x3fef0a3d70a3d70a) ∷ (ofBits binary64 0x3fedc28f5c28f5c3) ∷ []))) (calls (200 ∷ 300 ∷ []) (500 ∷ 300 ∷ []) ((ofBits binary64 0x4059200000000000) ∷ (ofBits binary64 0x4059100000000000) ∷ [])) (room 64 96 9 9) ≡ tree.Value (ofBits binary64 0x40589ffaf7172e41) 25
+windowed : treeValue (market 100 (leg (465 ∷ 830 ∷ 830 ∷ []) (0 ∷ 0 ∷ 1 ∷ []) ((float 5) ∷ (float 5) ∷ (float 100) ∷ [])) (float 100) (steps 2 512) (ofBits binary64 0xbfc999999999999a) ((float 0) ∷ (float 1) ∷ []) ((ofBits binary64 0x3f847ae147ae147b) ∷ (ofBits binary64 0x3f889374bc6a7efa) ∷ []) (ofBits binary64 0x3f747ae147ae147b) (pillars (100 ∷ 465 ∷ 900 ∷ []) ((float 1) ∷ (ofBits binary64 0x3fef0a3d70a3d70a) ∷ (ofBits binary64 0x3fedc28f5c28f5c3) ∷ []))) (calls (200 ∷ 300 ∷ []) (500 ∷ 300 ∷ []) ((ofBits binary64 0x4059200000000000) ∷ (ofBits binary64 0x4059100000000000) ∷ [])) (room 64 96 9 9) ≡ tree.Value (ofBits binary64 0x40589f3fd3f99d4e) 25
 unfolding treeValue paidInto rawStep curveOver onOutcome onCheck lowest onAnswer rounded ieee.ofBits ieee.add ieee.sub ieee.mul ieee.div ieee.neg ieee.lt ieee.le ieee.ofInt ieee.toSigned
 windowed = refl
 
@@ -124,7 +124,8 @@ pub number-23 : treeValue (market 100 (leg (465 ∷ 830 ∷ 830 ∷ []) (0 ∷ 0
 unfolding treeValue paidInto rawStep curveOver onOutcome onCheck lowest onAnswer rounded ieee.ofBits ieee.add ieee.sub ieee.mul ieee.div ieee.neg ieee.lt ieee.le ieee.ofInt ieee.toSigned
 number-23 = refl
 
-pub number-25 : treeValue (market 100 (leg (465 ∷ 830 ∷ 830 ∷ []) (0 ∷ 0 ∷ 1 ∷ []) ((float 5) ∷ (float 5) ∷ (float 100) ∷ [])) (float 100) (steps 2 512) (ofBits binary64 0x3fb999999999999a) ((float 0) ∷ (float 1) ∷ []) ((ofBits binary64 0x3f847ae147ae147b) ∷ (ofBits binary64 0x3f889374bc6a7efa) ∷ []) (ofBits binary64 0x3f747ae147ae147b) (pillars (100 ∷ 465 ∷ 900 ∷ []) ((float 1) ∷ (ofBits binary64 0x3fef0a3d70a3d70a) ∷ (ofBits binary64 0xbfedc28f5c28f5c3) ∷ []))) (calls (465 ∷ []) (465 ∷ []) ((float 101) ∷ [])) (room 64 96 9 9) ≡ tree.Refused (record { number = 25; place = 3 })
+-- By exp's underflow alone: ln of 1e-305 is below −700.
+pub number-25 : treeValue (market 100 (leg (465 ∷ 830 ∷ 830 ∷ []) (0 ∷ 0 ∷ 1 ∷ []) ((float 5) ∷ (float 5) ∷ (float 100) ∷ [])) (float 100) (steps 2 512) (ofBits binary64 0x3fb999999999999a) ((float 0) ∷ (float 1) ∷ []) ((ofBits binary64 0x3f847ae147ae147b) ∷ (ofBits binary64 0x3f889374bc6a7efa) ∷ []) (ofBits binary64 0x3f747ae147ae147b) (pillars (100 ∷ 465 ∷ 900 ∷ []) ((float 1) ∷ (ofBits binary64 0x9c16c5c5253575) ∷ (ofBits binary64 0x3fedc28f5c28f5c3) ∷ []))) (calls (465 ∷ []) (465 ∷ []) ((float 101) ∷ [])) (room 64 96 9 9) ≡ tree.Refused (record { number = 25; place = 1 })
 unfolding treeValue paidInto rawStep curveOver onOutcome onCheck lowest onAnswer rounded ieee.ofBits ieee.add ieee.sub ieee.mul ieee.div ieee.neg ieee.lt ieee.le ieee.ofInt ieee.toSigned
 number-25 = refl
 
@@ -136,6 +137,29 @@ pub number-27 : treeValue (market 100 (leg (465 ∷ 830 ∷ 830 ∷ []) (0 ∷ 0
 unfolding treeValue paidInto rawStep curveOver onOutcome onCheck lowest onAnswer rounded ieee.ofBits ieee.add ieee.sub ieee.mul ieee.div ieee.neg ieee.lt ieee.le ieee.ofInt ieee.toSigned
 number-27 = refl
 
+pub number-44 : treeValue (market 100 (leg (465 ∷ 830 ∷ 830 ∷ []) (0 ∷ 0 ∷ 1 ∷ []) ((float 5) ∷ (float 5) ∷ (float 100) ∷ [])) (float 100) (steps 2 512) (ofBits binary64 0x3fb999999999999a) ((float 0) ∷ (float 1) ∷ []) ((ofBits binary64 0x3f847ae147ae147b) ∷ (ofBits binary64 0x3f889374bc6a7efa) ∷ []) (ofBits binary64 0x3f747ae147ae147b) (pillars (100 ∷ 465 ∷ 900 ∷ []) ((float 1) ∷ (ofBits binary64 0x3fef0a3d70a3d70a) ∷ (ofBits binary64 0xbfedc28f5c28f5c3) ∷ []))) (calls (465 ∷ []) (465 ∷ []) ((float 101) ∷ [])) (room 64 96 9 9) ≡ tree.Refused (record { number = 44; place = 2 })
+unfolding treeValue paidInto rawStep curveOver onOutcome onCheck lowest onAnswer rounded ieee.ofBits ieee.add ieee.sub ieee.mul ieee.div ieee.neg ieee.lt ieee.le ieee.ofInt ieee.toSigned
+number-44 = refl
+
+-- The lowest of two; −0 isn't positive either.
+minus-zero : treeValue (market 100 (leg (465 ∷ 830 ∷ 830 ∷ []) (0 ∷ 0 ∷ 1 ∷ []) ((float 5) ∷ (float 5) ∷ (float 100) ∷ [])) (float 100) (steps 2 512) (ofBits binary64 0x3fb999999999999a) ((float 0) ∷ (float 1) ∷ []) ((ofBits binary64 0x3f847ae147ae147b) ∷ (ofBits binary64 0x3f889374bc6a7efa) ∷ []) (ofBits binary64 0x3f747ae147ae147b) (pillars (100 ∷ 465 ∷ 900 ∷ []) ((float 1) ∷ (ofBits binary64 0x8000000000000000) ∷ (float 0) ∷ []))) (calls (465 ∷ []) (465 ∷ []) ((float 101) ∷ [])) (room 64 96 9 9) ≡ tree.Refused (record { number = 44; place = 1 })
+unfolding treeValue paidInto rawStep curveOver onOutcome onCheck lowest onAnswer rounded ieee.ofBits ieee.add ieee.sub ieee.mul ieee.div ieee.neg ieee.lt ieee.le ieee.ofInt ieee.toSigned
+minus-zero = refl
+
+-- 44 is tried last: after a factor out of range, and after the pillars' days.
+after-range : treeValue (market 100 (leg (465 ∷ 830 ∷ 830 ∷ []) (0 ∷ 0 ∷ 1 ∷ []) ((float 5) ∷ (float 5) ∷ (float 100) ∷ [])) (float 100) (steps 2 512) (ofBits binary64 0x3fb999999999999a) ((float 0) ∷ (float 1) ∷ []) ((ofBits binary64 0x3f847ae147ae147b) ∷ (ofBits binary64 0x3f889374bc6a7efa) ∷ []) (ofBits binary64 0x3f747ae147ae147b) (pillars (100 ∷ 465 ∷ 900 ∷ []) ((float 1) ∷ (ofBits binary64 0xbff0000000000000) ∷ (ofBits binary64 0xc09f400000000000) ∷ []))) (calls (465 ∷ []) (465 ∷ []) ((float 101) ∷ [])) (room 64 96 9 9) ≡ tree.Refused (record { number = 4; place = 2 })
+unfolding treeValue paidInto rawStep curveOver onOutcome onCheck lowest onAnswer rounded ieee.ofBits ieee.add ieee.sub ieee.mul ieee.div ieee.neg ieee.lt ieee.le ieee.ofInt ieee.toSigned
+after-range = refl
+
+after-days : treeValue (market 100 (leg (465 ∷ 830 ∷ 830 ∷ []) (0 ∷ 0 ∷ 1 ∷ []) ((float 5) ∷ (float 5) ∷ (float 100) ∷ [])) (float 100) (steps 2 512) (ofBits binary64 0x3fb999999999999a) ((float 0) ∷ (float 1) ∷ []) ((ofBits binary64 0x3f847ae147ae147b) ∷ (ofBits binary64 0x3f889374bc6a7efa) ∷ []) (ofBits binary64 0x3f747ae147ae147b) (pillars (100 ∷ 465 ∷ 829 ∷ []) ((float 1) ∷ (ofBits binary64 0xbff0000000000000) ∷ (ofBits binary64 0x3fedc28f5c28f5c3) ∷ []))) (calls (465 ∷ []) (465 ∷ []) ((float 101) ∷ [])) (room 64 96 9 9) ≡ tree.Refused (record { number = 8; place = 2 })
+unfolding treeValue paidInto rawStep curveOver onOutcome onCheck lowest onAnswer rounded ieee.ofBits ieee.add ieee.sub ieee.mul ieee.div ieee.neg ieee.lt ieee.le ieee.ofInt ieee.toSigned
+after-days = refl
+
+-- Positive, but too small for ln; read at the pillar before it already.
+subnormal : treeValue (market 100 (leg (465 ∷ 830 ∷ 830 ∷ []) (0 ∷ 0 ∷ 1 ∷ []) ((float 5) ∷ (float 5) ∷ (float 100) ∷ [])) (float 100) (steps 2 512) (ofBits binary64 0x3fb999999999999a) ((float 0) ∷ (float 1) ∷ []) ((ofBits binary64 0x3f847ae147ae147b) ∷ (ofBits binary64 0x3f889374bc6a7efa) ∷ []) (ofBits binary64 0x3f747ae147ae147b) (pillars (100 ∷ 465 ∷ 900 ∷ []) ((float 1) ∷ (ofBits binary64 0x3fef0a3d70a3d70a) ∷ (ofBits binary64 0x1) ∷ []))) (calls (465 ∷ []) (465 ∷ []) ((float 101) ∷ [])) (room 64 96 9 9) ≡ tree.Refused (record { number = 26; place = 1 })
+unfolding treeValue paidInto rawStep curveOver onOutcome onCheck lowest onAnswer rounded ieee.ofBits ieee.add ieee.sub ieee.mul ieee.div ieee.neg ieee.lt ieee.le ieee.ofInt ieee.toSigned
+subnormal = refl
+
 dropped : treeValue (market 0 (leg (1095 ∷ []) (1 ∷ []) ((ofBits binary64 0x426d1a94a2000000) ∷ [])) (float 100) (steps 1 512) (ofBits binary64 0x3fb999999999999a) ((float 0) ∷ []) ((float 0) ∷ []) (float 0) (pillars (0 ∷ 365 ∷ 730 ∷ 1095 ∷ []) ((float 1) ∷ (ofBits binary64 0x1a56e1fc2f8f359) ∷ (ofBits binary64 0x20ca2fe76a3f9475) ∷ (float 1000) ∷ []))) (calls ([]) ([]) ([])) (room 64 96 9 9) ≡ tree.Refused (record { number = 27; place = 1 })
 unfolding treeValue paidInto rawStep curveOver onOutcome onCheck lowest onAnswer rounded ieee.ofBits ieee.add ieee.sub ieee.mul ieee.div ieee.neg ieee.lt ieee.le ieee.ofInt ieee.toSigned
 dropped = refl
@@ -144,17 +168,39 @@ kept : treeValue (market 0 (leg (1095 ∷ []) (1 ∷ []) ((ofBits binary64 0x426
 unfolding treeValue paidInto rawStep curveOver onOutcome onCheck lowest onAnswer rounded ieee.ofBits ieee.add ieee.sub ieee.mul ieee.div ieee.neg ieee.lt ieee.le ieee.ofInt ieee.toSigned
 kept = refl
 
-straight : straightValue 100 (leg (465 ∷ 830 ∷ 830 ∷ []) (0 ∷ 0 ∷ 1 ∷ []) ((float 5) ∷ (float 5) ∷ (float 100) ∷ [])) (ofBits binary64 0x3f747ae147ae147b) (pillars (100 ∷ 465 ∷ 900 ∷ []) ((float 1) ∷ (ofBits binary64 0x3fef0a3d70a3d70a) ∷ (ofBits binary64 0x3fedc28f5c28f5c3) ∷ [])) ≡ answer.Value (ofBits binary64 0x40598b1793433290)
+straight : straightValue 100 (leg (465 ∷ 830 ∷ 830 ∷ []) (0 ∷ 0 ∷ 1 ∷ []) ((float 5) ∷ (float 5) ∷ (float 100) ∷ [])) (ofBits binary64 0x3f747ae147ae147b) (pillars (100 ∷ 465 ∷ 900 ∷ []) ((float 1) ∷ (ofBits binary64 0x3fef0a3d70a3d70a) ∷ (ofBits binary64 0x3fedc28f5c28f5c3) ∷ [])) ≡ answer.Value (ofBits binary64 0x40598a56cf612a92)
 unfolding straightValue curveOver onCheck lowest onAnswer rounded ieee.ofBits ieee.add ieee.sub ieee.mul ieee.div ieee.neg ieee.lt ieee.le ieee.ofInt ieee.toSigned
 straight = refl
 
-straight-25 : straightValue 100 (leg (465 ∷ 830 ∷ 830 ∷ []) (0 ∷ 0 ∷ 1 ∷ []) ((float 5) ∷ (float 5) ∷ (float 100) ∷ [])) (ofBits binary64 0x3f747ae147ae147b) (pillars (100 ∷ 465 ∷ 900 ∷ []) ((float 0) ∷ (ofBits binary64 0x3fef0a3d70a3d70a) ∷ (ofBits binary64 0x3fedc28f5c28f5c3) ∷ [])) ≡ answer.Refused (record { number = 25; place = 0 })
+straight-25 : straightValue 100 (leg (465 ∷ 830 ∷ 830 ∷ []) (0 ∷ 0 ∷ 1 ∷ []) ((float 5) ∷ (float 5) ∷ (float 100) ∷ [])) (ofBits binary64 0x3f747ae147ae147b) (pillars (100 ∷ 465 ∷ 900 ∷ []) ((ofBits binary64 0x9c16c5c5253575) ∷ (ofBits binary64 0x3fef0a3d70a3d70a) ∷ (ofBits binary64 0x3fedc28f5c28f5c3) ∷ [])) ≡ answer.Refused (record { number = 25; place = 0 })
 unfolding straightValue curveOver onCheck lowest onAnswer rounded ieee.ofBits ieee.add ieee.sub ieee.mul ieee.div ieee.neg ieee.lt ieee.le ieee.ofInt ieee.toSigned
 straight-25 = refl
 
-straight-27 : straightValue 100 (leg (465 ∷ 830 ∷ 830 ∷ []) (0 ∷ 0 ∷ 1 ∷ []) ((float 5) ∷ (float 5) ∷ (float 100) ∷ [])) (ofBits binary64 0x3f747ae147ae147b) (pillars (100 ∷ 465 ∷ 900 ∷ []) ((ofBits binary64 0x1) ∷ (ofBits binary64 0x3fef0a3d70a3d70a) ∷ (float 1000) ∷ [])) ≡ answer.Refused (record { number = 27; place = 0 })
+straight-26 : straightValue 100 (leg (465 ∷ 830 ∷ 830 ∷ []) (0 ∷ 0 ∷ 1 ∷ []) ((float 5) ∷ (float 5) ∷ (float 100) ∷ [])) (ofBits binary64 0x3f747ae147ae147b) (pillars (100 ∷ 465 ∷ 900 ∷ []) ((ofBits binary64 0x1) ∷ (ofBits binary64 0x3fef0a3d70a3d70a) ∷ (float 1000) ∷ [])) ≡ answer.Refused (record { number = 26; place = 0 })
+unfolding straightValue curveOver onCheck lowest onAnswer rounded ieee.ofBits ieee.add ieee.sub ieee.mul ieee.div ieee.neg ieee.lt ieee.le ieee.ofInt ieee.toSigned
+straight-26 = refl
+
+straight-27 : straightValue 100 (leg (465 ∷ 830 ∷ 830 ∷ []) (0 ∷ 0 ∷ 1 ∷ []) ((float 5) ∷ (float 5) ∷ (ofBits binary64 0x426d1a94a2000000) ∷ [])) (ofBits binary64 0x3f747ae147ae147b) (pillars (100 ∷ 465 ∷ 900 ∷ []) ((ofBits binary64 0x1a56e1fc2f8f359) ∷ (ofBits binary64 0x3fef0a3d70a3d70a) ∷ (float 1000) ∷ [])) ≡ answer.Refused (record { number = 27; place = 0 })
 unfolding straightValue curveOver onCheck lowest onAnswer rounded ieee.ofBits ieee.add ieee.sub ieee.mul ieee.div ieee.neg ieee.lt ieee.le ieee.ofInt ieee.toSigned
 straight-27 = refl
+
+straight-44 : straightValue 100 (leg (465 ∷ 830 ∷ 830 ∷ []) (0 ∷ 0 ∷ 1 ∷ []) ((float 5) ∷ (float 5) ∷ (float 100) ∷ [])) (ofBits binary64 0x3f747ae147ae147b) (pillars (100 ∷ 465 ∷ 900 ∷ []) ((float 0) ∷ (ofBits binary64 0x3fef0a3d70a3d70a) ∷ (ofBits binary64 0x3fedc28f5c28f5c3) ∷ [])) ≡ answer.Refused (record { number = 44; place = 0 })
+unfolding straightValue curveOver onCheck lowest onAnswer rounded ieee.ofBits ieee.add ieee.sub ieee.mul ieee.div ieee.neg ieee.lt ieee.le ieee.ofInt ieee.toSigned
+straight-44 = refl
+
+-- The factor at an inner pillar is exp of its ln, one bit below 0.3; at the last pillar it is 0.3 itself.
+inner-pillar : straightValue 0 (leg (365 ∷ []) (1 ∷ []) ((float 1) ∷ [])) (float 0) (pillars (0 ∷ 365 ∷ 730 ∷ []) ((float 1) ∷ (ofBits binary64 0x3fd3333333333333) ∷ (ofBits binary64 0x3fb999999999999a) ∷ [])) ≡ answer.Value (ofBits binary64 0x3fd3333333333332)
+unfolding straightValue curveOver onCheck lowest onAnswer rounded ieee.ofBits ieee.add ieee.sub ieee.mul ieee.div ieee.neg ieee.lt ieee.le ieee.ofInt ieee.toSigned
+inner-pillar = refl
+
+last-pillar : straightValue 0 (leg (365 ∷ []) (1 ∷ []) ((float 1) ∷ [])) (float 0) (pillars (0 ∷ 365 ∷ []) ((float 1) ∷ (ofBits binary64 0x3fd3333333333333) ∷ [])) ≡ answer.Value (ofBits binary64 0x3fd3333333333333)
+unfolding straightValue curveOver onCheck lowest onAnswer rounded ieee.ofBits ieee.add ieee.sub ieee.mul ieee.div ieee.neg ieee.lt ieee.le ieee.ofInt ieee.toSigned
+last-pillar = refl
+
+-- Only settlement's factor is tested for 25.
+sunk : straightValue 0 (leg (365 ∷ []) (1 ∷ []) ((float 1) ∷ [])) (float 0) (pillars (0 ∷ 365 ∷ 730 ∷ []) ((float 1) ∷ (ofBits binary64 0x9c16c5c5253575) ∷ (float 1) ∷ [])) ≡ answer.Value (float 0)
+unfolding straightValue curveOver onCheck lowest onAnswer rounded ieee.ofBits ieee.add ieee.sub ieee.mul ieee.div ieee.neg ieee.lt ieee.le ieee.ofInt ieee.toSigned
+sunk = refl
 
 compounding-0 : priceFromYield 100 (leg (465 ∷ 830 ∷ 830 ∷ []) (0 ∷ 0 ∷ 1 ∷ []) ((float 5) ∷ (float 5) ∷ (float 100) ∷ [])) 0 7 (ofBits binary64 0x3fa5c28f5c28f5c3) ≡ price.Price (ofBits binary64 0x40596480b90b44a9) (ofBits binary64 0xc066df8f5453f2a9)
 unfolding priceFromYield withCode onPrice onOutcome onCheck lowest onAnswer rounded ieee.ofBits ieee.add ieee.sub ieee.mul ieee.div ieee.neg ieee.lt ieee.le ieee.ofInt ieee.toSigned
@@ -257,3 +303,7 @@ spread-29 = refl
 spread-36 : spreadFromPrice (market 0 (leg (365 ∷ []) (1 ∷ []) ((float 105) ∷ [])) (float 100) (steps 1 512) (float 0) ((float 0) ∷ []) ((float 0) ∷ []) (float 1) (pillars (0 ∷ 365 ∷ []) ((float 1) ∷ (float 1) ∷ []))) (calls ([]) ([]) ([])) (room 4 6 1 1) ≡ root.Refused (record { number = 36; place = 0 }) 6
 unfolding spreadFromPrice onTreeValue treeValue paidInto rawStep curveOver onOutcome onCheck lowest onAnswer rounded ieee.ofBits ieee.add ieee.sub ieee.mul ieee.div ieee.neg ieee.lt ieee.le ieee.ofInt ieee.toSigned
 spread-36 = refl
+
+spread-44 : spreadFromPrice (market 0 (leg (365 ∷ []) (1 ∷ []) ((float 105) ∷ [])) (float 100) (steps 1 512) (float 0) ((float 0) ∷ []) ((float 0) ∷ []) (float 100) (pillars (0 ∷ 365 ∷ []) ((float 1) ∷ (float 0) ∷ []))) (calls ([]) ([]) ([])) (room 4 6 1 1) ≡ root.Refused (record { number = 44; place = 1 }) 0
+unfolding spreadFromPrice onTreeValue treeValue paidInto rawStep curveOver onOutcome onCheck lowest onAnswer rounded ieee.ofBits ieee.add ieee.sub ieee.mul ieee.div ieee.neg ieee.lt ieee.le ieee.ofInt ieee.toSigned
+spread-44 = refl

@@ -43,6 +43,11 @@ fn all_floats(xs: &[f64], x: f64) -> bool {
     true
 }
 
+// Whether a refusal is the input's: 1 to 8, or 44.
+fn of_input(refused: u32) -> bool {
+    refused > 0 && (refused < 9 || refused == 44)
+}
+
 // Whether the slices, filled with 7, are still so after a refusal of the input, and else all zero.
 fn left_so(
     refused: u32,
@@ -51,7 +56,7 @@ fn left_so(
     first: &[f64],
     second: &[f64],
 ) -> bool {
-    if refused > 0 && refused < 9 {
+    if of_input(refused) {
         return all_numbers(nodes, 7)
             && all_floats(probabilities, 7.0)
             && all_floats(first, 7.0)

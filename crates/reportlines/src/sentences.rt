@@ -33,6 +33,7 @@ pub fn what_to_do(number: u32) -> [u8; 80]
         41 => text_line(b"Too many notices: at most 256 are taken in one go."),
         42 => text_line(b"Look at this notice: its series, its version or its action."),
         43 => text_line(b"This notice repeats the series and version of an earlier one."),
+        44 => text_line(b"A discount factor must be above 0: look at this pillar."),
         _ => text_line(b"This number is not known: look it up in the README."),
     }
 }

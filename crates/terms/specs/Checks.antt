@@ -162,3 +162,8 @@ pillarOrder settlement maturity p =
     (leb (getD (p .days) i 0) (getD (p .days) (i - 1) 0)
     || (eqb i (length (p .days) - 1) && ltb (getD (p .days) i 0) maturity)))
     (p .days)
+
+-- ---- 44: a pillar factor that isn't positive
+
+abbrev pub positiveFactors : Pillars → Check
+positiveFactors p = indexed 44 (λ i. le (getD (p .factors) i plusZero) plusZero) (p .factors)

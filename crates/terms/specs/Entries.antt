@@ -6,7 +6,7 @@ use lib.Ieee.{Float}
 use Rattle.terms.specs.declared.Check.{Check}
 use Rattle.terms.specs.Numbers.{float, million, targetLimit}
 use Rattle.terms.specs.Terms.{Leg, CallSchedule, SigmaSchedule, Pillars, Bond, TimeGrid, HullWhite, Market}
-use Rattle.terms.specs.Checks.{firstOf, settings, legCount, callCount, sigmaCount, pillarCount, settlementDay, legDays, callDays, pillarDays, unitsRange, within, amountRange, strikeRange, sigmaRange, factorRange, callOrder, sigmaOrder, lastDay, anyPaid, pillarOrder}
+use Rattle.terms.specs.Checks.{firstOf, settings, legCount, callCount, sigmaCount, pillarCount, settlementDay, legDays, callDays, pillarDays, unitsRange, within, amountRange, strikeRange, sigmaRange, factorRange, callOrder, sigmaOrder, lastDay, anyPaid, pillarOrder, positiveFactors}
 
 -- ---- the grid: settlement, cashflows, units, calls and the two step settings
 
@@ -78,9 +78,9 @@ treeNumbers limit units alpha spread leg calls sigma pillars =
 abbrev pub treeOrders : ℕ → Leg → CallSchedule → SigmaSchedule → List Check
 treeOrders settlement leg calls sigma = callOrders calls ++ sigmaOrder sigma ∷ anyPaid settlement leg ∷ []
 
--- 8.
+-- 8, and last of all 44.
 abbrev pub lateChecks : ℕ → Leg → Pillars → List Check
-lateChecks settlement leg pillars = pillarOrder settlement (lastDay (leg .days)) pillars ∷ []
+lateChecks settlement leg pillars = pillarOrder settlement (lastDay (leg .days)) pillars ∷ positiveFactors pillars ∷ []
 
 unfoldable pub marketChecks : Float → Market → CallSchedule → Check
 unfolding firstOf
@@ -117,7 +117,7 @@ straightDays settlement leg pillars = settlementDay settlement ∷ legDays leg �
 abbrev pub straightNumbers : Float → Leg → Pillars → List Check
 straightNumbers spread leg pillars = within (float 1) spread ∷ amountRange leg ∷ factorRange pillars ∷ []
 
--- 7 and 8.
+-- 7, 8 and 44.
 abbrev pub straightOrders : ℕ → Leg → Pillars → List Check
 straightOrders settlement leg pillars = anyPaid settlement leg ∷ lateChecks settlement leg pillars
 

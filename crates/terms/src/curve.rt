@@ -1,7 +1,9 @@
-// The discount curve: linear between the pillars around a time, and from the last pillar on its factor.
+// The discount curve: straight lines in the logarithm of the factor between the pillars around a time, and from the last pillar on its factor.
 
 use crate::lists::number_at;
 use crate::time::year_fraction;
+use elementary::exp::exp_at;
+use elementary::ln::ln_at;
 use floats::Answer;
 use floats::Refusal;
 use floats::finite::not_finite;
@@ -10,13 +12,13 @@ ghost use Prim.Native.Nat.{_+_, _<_, _≤_};
 ghost use lib.Ieee.{lt};
 ghost use lib.ListN.{length, getD, take};
 ghost use Rattle.floats.specs.Answers.{plusZero};
-ghost use Rattle.terms.specs.Curve.{between, curveOver, pillarTimes};
+ghost use Rattle.terms.specs.Curve.{onLine, between, curveOver, pillarTimes};
 
-// d0 + (d1 − d0) × ((t − t0)/(t1 − t0)).
-fn on_line(t: f64, t0: f64, d0: f64, t1: f64, d1: f64, place: u32) -> Answer
-    ensures { λ r. ⌜ r ≡ between t t0 d0 t1 d1 place ⌝ }
+// The linear rule: l0 + (l1 − l0) × ((t − t0)/(t1 − t0)).
+fn on_line(t: f64, t0: f64, l0: f64, t1: f64, l1: f64, place: u32) -> Answer
+    ensures { λ r. ⌜ r ≡ onLine t t0 l0 t1 l1 place ⌝ }
 {
-    let rise = d1 - d0;
+    let rise = l1 - l0;
     if not_finite(rise) {
         return Answer::Refused(Refusal {
             number: Refusal::NOT_FINITE,
@@ -51,14 +53,33 @@ fn on_line(t: f64, t0: f64, d0: f64, t1: f64, d1: f64, place: u32) -> Answer
             place,
         });
     }
-    let factor = d0 + more;
-    if not_finite(factor) {
+    let x = l0 + more;
+    if not_finite(x) {
         return Answer::Refused(Refusal {
             number: Refusal::NOT_FINITE,
             place,
         });
     }
-    Answer::Value(factor)
+    Answer::Value(x)
+}
+
+// exp of the linear rule over ln of the two factors.
+fn in_logarithms(t: f64, t0: f64, d0: f64, t1: f64, d1: f64, place: u32) -> Answer
+    ensures { λ r. ⌜ r ≡ between t t0 d0 t1 d1 place ⌝ }
+{
+    let a = ln_at(d0, place);
+    let Answer::Value(l0) = a else {
+        return a;
+    };
+    let b = ln_at(d1, place);
+    let Answer::Value(l1) = b else {
+        return b;
+    };
+    let c = on_line(t, t0, l0, t1, l1, place);
+    let Answer::Value(x) = c else {
+        return c;
+    };
+    exp_at(x, place)
 }
 
 // Before the pillar that follows i.
@@ -79,7 +100,7 @@ fn on_piece(times: &[f64], factors: &[f64], i: usize, t: f64, place: u32) -> Ans
     let d0 = number_at(factors, i);
     let t1 = number_at(times, i + 1);
     let d1 = number_at(factors, i + 1);
-    on_line(t, t0, d0, t1, d1, place)
+    in_logarithms(t, t0, d0, t1, d1, place)
 }
 
 // The curve at time t, over the pillars' times and factors.

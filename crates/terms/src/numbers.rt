@@ -9,7 +9,7 @@ use crate::refusing::refused_at;
 use floats::Refusal;
 ghost use mathlib.Core.Path.{_≡_};
 ghost use Prim.Native.Nat.{_-_, _<_, _≤_};
-ghost use lib.Ieee.{lt};
+ghost use lib.Ieee.{lt, le};
 ghost use lib.ListN.{length, getD};
 ghost use Rattle.floats.specs.Answers.{plusZero};
 ghost use Rattle.terms.specs.Checks.{beyond, notAbove, notUpTo, indexed};
@@ -36,6 +36,14 @@ pub fn not_up_to_at(limit: f64, xs: &[f64], i: usize) -> bool
     ensures { λ r. ⌜ r ≡ notUpTo limit (getD (now (xs .entry)) i plusZero) ⌝ }
 {
     not_up_to(limit, number_at(xs, i))
+}
+
+// Not positive, at an index.
+pub fn not_positive_at(xs: &[f64], i: usize) -> bool
+    requires { ⌜ i < length (now xs) ⌝ }
+    ensures { λ r. ⌜ r ≡ le (getD (now (xs .entry)) i plusZero) plusZero ⌝ }
+{
+    number_at(xs, i) <= 0.0
 }
 
 // Above the number before it.

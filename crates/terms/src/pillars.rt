@@ -4,6 +4,7 @@ use crate::Check;
 use crate::limits::PillarEntries;
 use crate::lists::last_day;
 use crate::numbers::all_within;
+use crate::numbers::not_positive_at;
 use crate::ranges::no_day;
 use crate::refusing::refused_at;
 use floats::Refusal;
@@ -14,7 +15,7 @@ ghost use Prim.Native.Nat.{_-_, _<_, _≤_};
 ghost use lib.Dec.{eqb, ltb, leb};
 ghost use lib.ListN.{length, getD};
 ghost use Rattle.terms.specs.Terms.{Pillars};
-ghost use Rattle.terms.specs.Checks.{pillarDays, factorRange, lastDay, pillarOrder};
+ghost use Rattle.terms.specs.Checks.{pillarDays, factorRange, lastDay, pillarOrder, positiveFactors};
 
 // 3: pillar days.
 pub fn pillar_days(days: &[u32]) -> Check
@@ -77,4 +78,19 @@ pub fn pillars_to_maturity(settlement: u32, days: &[u32], pillars: &[u32]) -> Ch
     ensures { λ r. ⌜ r ≡ pillarOrder settlement (lastDay (now (days .entry))) (record { days = now (pillars .entry); factors = [] }) ⌝ }
 {
     pillar_order(settlement, last_day(days), pillars)
+}
+
+// 44: a factor that isn't positive.
+pub fn positive_factors(factors: &[f64]) -> Check
+    requires { ⌜ length (now factors) ≤ 256 ⌝ }
+    ensures { λ r. ⌜ r ≡ positiveFactors (record { days = []; factors = now (factors .entry) }) ⌝ }
+{
+    let mut i = 0;
+    while i < factors.len() {
+        if not_positive_at(factors, i) {
+            return refused_at(Refusal::FACTOR_NOT_POSITIVE, i);
+        }
+        i += 1;
+    }
+    Check::Passed
 }

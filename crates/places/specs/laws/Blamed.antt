@@ -15,7 +15,7 @@ use Rattle.terms.specs.declared.Check.{Check}
 use Rattle.terms.specs.declared.Check.the-variants.{Passed, Refused}
 use Rattle.terms.specs.Numbers.{float, amountLimit}
 use Rattle.terms.specs.Terms.{Leg, CallSchedule, SigmaSchedule, Market}
-use Rattle.terms.specs.Checks.{firstOf, single, indexed, noDay, falls, beyond, notAbove, settings, legDays, callDays, within, amountRange, strikeRange, sigmaRange, callOrder, sigmaOrder, lastDay, anyPaid, pillarOrder}
+use Rattle.terms.specs.Checks.{firstOf, single, indexed, noDay, falls, beyond, notAbove, settings, legDays, callDays, within, amountRange, strikeRange, sigmaRange, callOrder, sigmaOrder, lastDay, anyPaid, pillarOrder, positiveFactors}
 use Rattle.terms.specs.Entries.{settingChecks, marketChecks, treeChecks}
 use Rattle.terms.specs.laws.Sequence.{passed-not-refused, indexed-passed, indexed-refused}
 use Rattle.terms.specs.laws.Searching.{below-or-not}
@@ -131,8 +131,11 @@ module _ (m : Market) (calls : CallSchedule) (r : Refusal) where
       (last (numberCheck m calls) r _ Pillar refl))))))
 
   -- A check whose refusals have one number is blamed by that number.
+  named : (n : ℕ) (c : Check) → Numbers n n c → c ≡ Refused r → orderCheck m calls (whoseOrder n) ≡ Refused r → orderCheck m calls (whoseOrder (r .number)) ≡ Refused r
+  named n c p h e = let b = p .between r h in let q : r .number ≡ n = omega arith in ap (λ (k : ℕ). orderCheck m calls (whoseOrder k)) q ∙ e
+
   by-number : (n : ℕ) (c : Check) → Numbers n n c → orderCheck m calls (whoseOrder n) ≡ c → c ≡ Refused r → orderCheck m calls (whoseOrder (r .number)) ≡ Refused r
-  by-number n c p e h = let b = p .between r h in let q : r .number ≡ n = omega arith in ap (λ (k : ℕ). orderCheck m calls (whoseOrder k)) q ∙ e ∙ h
+  by-number n c p e h = named n c p h (e ∙ h)
 
   orders-blamed : firstOf (orderChecks m calls) ≡ Refused r → orderCheck m calls (whoseOrder (r .number)) ≡ Refused r
   unfolding checksOf whoseOrder
@@ -147,8 +150,12 @@ module _ (m : Market) (calls : CallSchedule) (r : Refusal) where
                     | inl e ↦ by-number 7 (anyPaid (m .settlement) (m .bond .leg)) (search numbers) refl e
                     | inr c ↦
                         elim (first-refused _ _ r (c .1)) [
-                          | inl e ↦ by-number 8 (pillarOrder (m .settlement) (lastDay (m .bond .leg .days)) (m .pillars)) (search numbers) refl e
-                          | inr d ↦ absurd (none-refused r (d .1))
+                          | inl e ↦ named 8 (pillarOrder (m .settlement) (lastDay (m .bond .leg .days)) (m .pillars)) (search numbers) e (c .1)
+                          | inr d ↦
+                              elim (first-refused _ _ r (d .1)) [
+                                | inl e ↦ named 44 (positiveFactors (m .pillars)) (search numbers) e (c .1)
+                                | inr f ↦ absurd (none-refused r (f .1))
+                              ]
                         ]
                   ]
             ]

@@ -82,7 +82,7 @@ module _ (m : Market) (calls : CallSchedule) where
   number-numbers : (limit : Float) → Numbers 4 4 (firstOf (numberChecks limit))
   number-numbers limit = search numbers depth 24
 
-  order-numbers : Numbers 5 8 (firstOf orderChecks)
+  order-numbers : Numbers 5 44 (firstOf orderChecks)
   order-numbers = search numbers depth 24
 
   -- Where the counts are passed.

@@ -20,4 +20,5 @@ each-met =
     (more (record { market = _; calls = _; room = _; place = _; refused = tried.number-25 })
     (more (record { market = _; calls = _; room = _; place = _; refused = tried.number-26 })
     (more (record { market = _; calls = _; room = _; place = _; refused = tried.number-27 })
-    none))))))))))))))
+    (more (record { market = _; calls = _; room = _; place = _; refused = tried.number-44 })
+    none)))))))))))))))

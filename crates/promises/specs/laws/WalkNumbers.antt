@@ -3,7 +3,7 @@ use Prim.Native.Nat.{ℕ}
 use mathlib.Core.List.{List, [], _∷_}
 use lib.IntN.{ℤ}
 use lib.Ieee.{Float}
-use Rattle.terms.specs.Curve.{curveOver}
+use Rattle.terms.specs.Curve.{between, curveOver}
 use Rattle.bondevents.specs.declared.CallStep.{CallStep}
 use Rattle.lattice.specs.declared.Transition.{Transition}
 use Rattle.lattice.specs.Layers.{At}
@@ -17,11 +17,15 @@ use Rattle.promises.specs.laws.ElementaryNumbers.{exp-number, ln-number}
 
 -- ---- curve
 
+between-number : (t t0 d0 t1 d1 : Float) (place : ℕ) → Holds (AnswerAmong treeRefusals) (between t t0 d0 t1 d1 place)
+unfolding between
+between-number t t0 d0 t1 d1 place = search (exp-number, ln-number, numbers) depth 24
+
 curve-number : (times factors : List Float) (t : Float) (place : ℕ) → Holds (AnswerAmong treeRefusals) (curveOver times factors t place)
 unfolding curveOver
 curve-number (t0 ∷ t1 ∷ times) (d0 ∷ d1 ∷ factors) t place =
     let later = curve-number (t1 ∷ times) (d1 ∷ factors) t place in
-    search numbers depth 24
+    search (between-number, numbers)
 curve-number (t0 ∷ []) (d0 ∷ factors) t place = search numbers
 curve-number (t0 ∷ t1 ∷ times) (d0 ∷ []) t place = search numbers
 curve-number (t0 ∷ []) [] t place = search numbers

@@ -219,6 +219,7 @@ module _ (limit : Float) (m : Market) (calls : CallSchedule) where
           days = g .pillar-days;
           factors = g .model-numbers .1 .0;
           ordered = g .late .0;
+          positive = g .late .1 .0;
         };
         alpha = g .fields .1 .0;
         spread = g .fields .1 .1 .0;
@@ -266,7 +267,7 @@ module _ (limit : Float) (m : Market) (calls : CallSchedule) where
           (k .ordered, tt),
           (
             (t .sigma .ordered, (t .grid .leg .paid, tt)),
-            ((t .pillars .ordered, tt), tt),
+            ((t .pillars .ordered, (t .pillars .positive, tt)), tt),
           ),
         ),
       ))
@@ -364,7 +365,7 @@ module _ (settlement : ℕ) (leg : Leg) (spread : Float) (pillars : Pillars) whe
       let paid = g .1 .1 .1 .0 in
       let late = g .1 .1 .1 .1 .0 in (
         record { settled = days .0; counted = counts .0; days = days .1 .0; amounts = numbers .1 .0; paid = paid .0 },
-        record { counted = counts .1 .0; days = days .1 .1 .0; factors = numbers .1 .1 .0; ordered = late .0 },
+        record { counted = counts .1 .0; days = days .1 .1 .0; factors = numbers .1 .1 .0; ordered = late .0; positive = late .1 .0 },
         numbers .0,
       )
 
@@ -379,7 +380,7 @@ module _ (settlement : ℕ) (leg : Leg) (spread : Float) (pillars : Pillars) whe
             (e, (l .amounts, (q .factors, tt))),
             (
               (l .paid, tt),
-              ((q .ordered, tt), tt),
+              ((q .ordered, (q .positive, tt)), tt),
             ),
           ),
         ),

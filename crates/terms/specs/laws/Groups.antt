@@ -5,7 +5,7 @@ use lib.Ieee.{Float}
 use Rattle.terms.specs.declared.Check.the-variants.{Passed}
 use Rattle.terms.specs.Numbers.{float}
 use Rattle.terms.specs.Terms.{Leg, CallSchedule, SigmaSchedule, Pillars, Bond, TimeGrid, Market}
-use Rattle.terms.specs.Checks.{settings, legCount, callCount, sigmaCount, pillarCount, settlementDay, legDays, callDays, pillarDays, unitsRange, within, amountRange, strikeRange, sigmaRange, factorRange, callOrder, sigmaOrder, lastDay, anyPaid, pillarOrder}
+use Rattle.terms.specs.Checks.{settings, legCount, callCount, sigmaCount, pillarCount, settlementDay, legDays, callDays, pillarDays, unitsRange, within, amountRange, strikeRange, sigmaRange, factorRange, callOrder, sigmaOrder, lastDay, anyPaid, pillarOrder, positiveFactors}
 
 -- Settlement and cashflows.
 pub record LegPassed (settlement : ℕ) (l : Leg) : Type 0 where
@@ -34,6 +34,7 @@ pub record PillarsPassed (settlement : ℕ) (l : Leg) (p : Pillars) : Type 0 whe
   pub days : pillarDays p ≡ Passed
   pub factors : factorRange p ≡ Passed
   pub ordered : pillarOrder settlement (lastDay (l .days)) p ≡ Passed
+  pub positive : positiveFactors p ≡ Passed
 
 -- What the grid takes, but for the call entries.
 pub record GridTermsPassed (settlement : ℕ) (bond : Bond) (controls : TimeGrid) : Type 0 where

@@ -54,11 +54,11 @@ enum-told-8 c = search needs
 returns-4 : tie.Need-returns-4
 returns-4 c = as-market _ _ _ (passed-first _ _ (c .before .before .before .before .before .before .before .before .before .before .before .tree-counts .ensures .same) (c .before .before .before .before .before .before .before .before .before .enum-told .given .1) (passed-first _ _ (c .before .before .before .before .before .before .before .before .tree-days .ensures) (c .before .before .before .before .before .before .enum-told3 .given .1) (passed-first _ _ (c .before .before .before .before .before .tree-numbers .ensures) (c .before .before .before .enum-told5 .given .1) (refused-first _ _ (c .before .before .tree-orders .ensures) (c .enum-told8 .given .1) refl))))
 
-pillars-to-maturity-requires : tie.Need-pillars-to-maturity-requires
-pillars-to-maturity-requires c κs = let n = c .before .before .before .before .before .before .before .before .before .before .before .tree-counts .ensures .passed (c .before .before .before .before .before .before .before .before .before .enum-told .given .1) in omega arith
+late-checks-requires : tie.Need-late-checks-requires
+late-checks-requires c κs = let n = c .before .before .before .before .before .before .before .before .before .before .before .tree-counts .ensures .passed (c .before .before .before .before .before .before .before .before .before .enum-told .given .1) in omega arith
 
 returns-5 : tie.Need-returns-5
-returns-5 c = as-market _ _ _ (passed-first _ _ (c .before .before .before .before .before .before .before .before .before .before .before .before .tree-counts .ensures .same) (c .before .before .before .before .before .before .before .before .before .before .enum-told .given .1) (passed-first _ _ (c .before .before .before .before .before .before .before .before .before .tree-days .ensures) (c .before .before .before .before .before .before .before .enum-told3 .given .1) (passed-first _ _ (c .before .before .before .before .before .before .tree-numbers .ensures) (c .before .before .before .before .enum-told5 .given .1) (passed-first _ _ (c .before .before .before .tree-orders .ensures) (c .before .enum-told7 .given .1) (only-one _ (only-one _ (c .pillars-to-maturity .ensures)))))))
+returns-5 c = as-market _ _ _ (passed-first _ _ (c .before .before .before .before .before .before .before .before .before .before .before .before .tree-counts .ensures .same) (c .before .before .before .before .before .before .before .before .before .before .enum-told .given .1) (passed-first _ _ (c .before .before .before .before .before .before .before .before .before .tree-days .ensures) (c .before .before .before .before .before .before .before .enum-told3 .given .1) (passed-first _ _ (c .before .before .before .before .before .before .tree-numbers .ensures) (c .before .before .before .before .enum-told5 .given .1) (passed-first _ _ (c .before .before .before .tree-orders .ensures) (c .before .enum-told7 .given .1) (only-one _ (c .late-checks .ensures))))))
 
 pub market-checks-spec : {M : Type 1} → statement M
 market-checks-spec =
@@ -80,5 +80,5 @@ market-checks-spec =
     enum-told-7
     enum-told-8
     returns-4
-    pillars-to-maturity-requires
+    late-checks-requires
     returns-5)

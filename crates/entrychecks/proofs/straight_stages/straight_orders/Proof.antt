@@ -1,5 +1,6 @@
 -- `straight_orders` meets its contract: the checks follow one another as in the definition. Assumes nothing.
-use Rattle.terms.proofs.Laws.{sequence}
+use mathlib.Core.Path.{refl}
+use Rattle.terms.proofs.Laws.{passed-first, refused-first, sequence}
 use Rattle.entrychecks.proofs.straight_stages.straight_orders.Statement.{statement}
 use Rattle.entrychecks.proofs.straight_stages.straight_orders.Tie as tie
 
@@ -13,13 +14,13 @@ enum-told-2 : tie.Need-enum-told-2
 enum-told-2 c = search sequence
 
 returns : tie.Need-returns
-returns c = search sequence
+returns c = refused-first _ _ (c .before .before .any-paid .ensures) (c .enum-told2 .given .1) refl
 
-pillars-to-maturity-requires : tie.Need-pillars-to-maturity-requires
-pillars-to-maturity-requires c κs = search sequence
+late-checks-requires : tie.Need-late-checks-requires
+late-checks-requires c κs = search sequence
 
 returns-2 : tie.Need-returns-2
-returns-2 c = search sequence
+returns-2 c = passed-first _ _ (c .before .before .before .any-paid .ensures) (c .before .enum-told .given .1) (c .late-checks .ensures)
 
 pub straight-orders-spec : {M : Type 1} → statement M
 straight-orders-spec =
@@ -29,5 +30,5 @@ straight-orders-spec =
     enum-told
     enum-told-2
     returns
-    pillars-to-maturity-requires
+    late-checks-requires
     returns-2)

@@ -155,6 +155,12 @@ slice-aggregate-text-line-25 c = search needs
 text-line-requires-25 : tie.Need-text-line-requires-25
 text-line-requires-25 c κs = search needs
 
+slice-aggregate-text-line-26 : tie.Need-slice-aggregate-text-line-26
+slice-aggregate-text-line-26 c = search needs
+
+text-line-requires-26 : tie.Need-text-line-requires-26
+text-line-requires-26 c κs = search needs
+
 returns : tie.Need-returns
 unfolding sentenceFor
 returns c = named (c .before .before .match .keys1) (c .text-line .ensures)
@@ -253,7 +259,11 @@ returns-24 c = named (c .before .before .match .keys24) (c .text-line24 .ensures
 
 returns-25 : tie.Need-returns-25
 unfolding sentenceFor
-returns-25 c = unnamed _ (c .before .before .match .rest) (c .text-line25 .ensures)
+returns-25 c = named (c .before .before .match .keys25) (c .text-line25 .ensures)
+
+returns-26 : tie.Need-returns-26
+unfolding sentenceFor
+returns-26 c = unnamed _ (c .before .before .match .rest) (c .text-line26 .ensures)
 
 pub what-to-do-spec : {M : Type 1} → statement M
 what-to-do-spec =
@@ -309,6 +319,8 @@ what-to-do-spec =
     text-line-requires-24
     slice-aggregate-text-line-25
     text-line-requires-25
+    slice-aggregate-text-line-26
+    text-line-requires-26
     returns
     returns-2
     returns-3
@@ -333,4 +345,5 @@ what-to-do-spec =
     returns-22
     returns-23
     returns-24
-    returns-25)
+    returns-25
+    returns-26)

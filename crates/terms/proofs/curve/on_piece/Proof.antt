@@ -1,4 +1,4 @@
--- `on_piece` meets its contract: the line goes through the two pillars that were read. Assumes nothing.
+-- `on_piece` meets its contract: the rule goes through the two pillars that were read. Assumes nothing.
 use Rattle.terms.proofs.Curving.{between-read}
 use Rattle.terms.proofs.Timing.{timing}
 use Rattle.terms.proofs.curve.on_piece.Statement.{statement}
@@ -22,11 +22,11 @@ add-number-at-2 c = search timing
 number-at-requires-4 : tie.Need-number-at-requires-4
 number-at-requires-4 c κs = search timing
 
-on-line-requires : tie.Need-on-line-requires
-on-line-requires c κs = search timing
+in-logarithms-requires : tie.Need-in-logarithms-requires
+in-logarithms-requires c κs = search timing
 
 returns : tie.Need-returns
-returns c = between-read _ _ (c .before .before .before .before .number-at .ensures) (c .before .before .before .number-at2 .ensures) (c .before .before .number-at3 .ensures) (c .before .number-at4 .ensures) (c .on-line .ensures)
+returns c = between-read _ _ (c .before .before .before .before .number-at .ensures) (c .before .before .before .number-at2 .ensures) (c .before .before .number-at3 .ensures) (c .before .number-at4 .ensures) (c .in-logarithms .ensures)
 
 pub on-piece-spec : {M : Type 1} → statement M
 on-piece-spec =
@@ -38,5 +38,5 @@ on-piece-spec =
     number-at-requires-3
     add-number-at-2
     number-at-requires-4
-    on-line-requires
+    in-logarithms-requires
     returns)
