@@ -1,5 +1,5 @@
 -- Definitions only. Dates of the proleptic Gregorian calendar, and their numbers: day 0 is 1 January 1900.
-use Prim.Native.Nat.{ℕ, zero, suc, _+_, _-_, _%_}
+use Prim.Native.Nat.{ℕ, zero, suc, _+_, _-_, _*_, _%_, min}
 use mathlib.Core.Bool.{Bool, cond, _&&_, _||_}
 use lib.Dec.{eqb, leb, ltb}
 use Rattle.calendar.specs.declared.Date.{Date}
@@ -80,3 +80,12 @@ dateOf (suc n) = dayAfter (dateOf n)
 unfoldable pub dating : ℕ → Dating
 unfolding dateOf
 dating n = cond (ltb lastDay n) NoDay (On (dateOf n))
+
+-- The 30E number of a date (30E/360, ISDA 2006 4.16(g), Eurobond basis): 360 to a year and 30 to a month; a 31st counts as the 30th, February as it is.
+unfoldable pub thirtyDays : Date → ℕ
+thirtyDays d = 360 * d .year + 30 * d .month + min (d .day) 30
+
+-- The 30E number of a day; one past the last counts as the last.
+unfoldable pub thirties : ℕ → ℕ
+unfolding dateOf thirtyDays
+thirties n = thirtyDays (dateOf (min lastDay n))

@@ -1,8 +1,9 @@
 -- Dates and their numbers, computed by the checker.
+use Prim.Native.Nat.{_+_}
 use mathlib.Core.Path.{_≡_, refl}
 use Rattle.calendar.specs.declared.Dated.the-variants.{Day, NoSuchDate, OutOfRange}
 use Rattle.calendar.specs.declared.Dating.the-variants.{On, NoDay}
-use Rattle.calendar.specs.Calendar.{dated, dating}
+use Rattle.calendar.specs.Calendar.{dated, dating, thirtyDays, thirties}
 use Rattle.calendar.specs.laws.Days.{date}
 
 pub record Starred : Type 0 where
@@ -24,9 +25,18 @@ pub record Starred : Type 0 where
   pub day-46339 : dating 46339 ≡ On (date 2026 11 15)
   pub day-200000 : dating 200000 ≡ On (date 2447 8 1)
   pub day-200001 : dating 200001 ≡ NoDay
+  -- 30E: no day from a 30th to its 31st, three over a common February's end, 31 from 29 February to 31 March, 30 from a 31st to the next.
+  pub thirty-first : thirtyDays (date 2026 1 31) ≡ thirtyDays (date 2026 1 30) + 0
+  pub february-28 : thirtyDays (date 2025 3 1) ≡ thirtyDays (date 2025 2 28) + 3
+  pub february-29 : thirtyDays (date 2024 3 31) ≡ thirtyDays (date 2024 2 29) + 31
+  pub over-new-year : thirtyDays (date 2026 1 31) ≡ thirtyDays (date 2025 12 31) + 30
+  -- Of day numbers: 30 and 31 January and 1 February 1900.
+  pub thirties-29 : thirties 29 ≡ 684060
+  pub thirties-30 : thirties 30 ≡ 684060
+  pub thirties-31 : thirties 31 ≡ 684061
 
 pub starred : Starred
-unfolding dated dating
+unfolding dated dating thirties
 starred =
     record {
       first = refl;
@@ -43,4 +53,11 @@ starred =
       day-46339 = refl;
       day-200000 = refl;
       day-200001 = refl;
+      thirty-first = refl;
+      february-28 = refl;
+      february-29 = refl;
+      over-new-year = refl;
+      thirties-29 = refl;
+      thirties-30 = refl;
+      thirties-31 = refl;
     }

@@ -2,3 +2,5 @@
 pub mod Days
 pub mod BothWays
 pub mod Search
+pub mod Leaps
+pub mod Thirties

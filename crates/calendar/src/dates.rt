@@ -7,6 +7,7 @@ use crate::Date;
 use crate::Dating;
 use crate::lengths::month_length;
 use crate::lengths::year_length;
+use crate::numbers::days_of_years;
 
 // A year and the days of it that have passed, or a month and its days.
 struct Found {
@@ -14,14 +15,15 @@ struct Found {
     passed: u32,
 }
 
-// The year that a day lies in.
+// The year that a day lies in, looked for from the year that it would lie in if all were leap years.
 fn year_of(day: u32) -> Found
     requires { ⌜ day ≤ 200000 ⌝ }
     ensures { λ r. ⌜ InYear day (r .which) (r .passed) ⌝ }
 {
-    let mut year = 1900;
-    let mut rest = day;
-    let mut size = year_length(1900);
+    let near = day / 366;
+    let mut year = 1900 + near;
+    let mut rest = day - days_of_years(near);
+    let mut size = year_length(year);
     while rest >= size {
         rest -= size;
         year += 1;
@@ -53,7 +55,7 @@ fn month_of(year: u32, day: u32) -> Found
 }
 
 // The date of a day that is in range.
-fn date_within(day: u32) -> Date
+pub(crate) fn date_within(day: u32) -> Date
     requires { ⌜ day ≤ 200000 ⌝ }
     ensures { λ r. ⌜ r ≡ dateOf day ⌝ }
 {

@@ -3,6 +3,7 @@
 pub mod dates;
 pub mod lengths;
 pub mod numbers;
+pub mod thirties;
 
 // A year, a month from 1 and a day of the month from 1.
 pub struct Date {

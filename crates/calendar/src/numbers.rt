@@ -5,7 +5,6 @@ ghost use Rattle.calendar.specs.Calendar.{daysOfYears, daysOfMonths, exi
 ghost use Rattle.calendar.specs.laws.Days.{date, Exists};
 use crate::Dated;
 use crate::lengths::month_length;
-use crate::lengths::year_length;
 
 // Whether there is such a date.
 pub fn date_exists(year: u32, month: u32, day: u32) -> bool
@@ -23,18 +22,14 @@ pub fn date_exists(year: u32, month: u32, day: u32) -> bool
     day <= month_length(year, month)
 }
 
-// The days of the first years from 1900.
-fn days_of_years(years: u32) -> u32
+// The days of the first years from 1900. Of the years up to 1899, 460 are leap years.
+pub(crate) fn days_of_years(years: u32) -> u32
     requires { ⌜ years ≤ 547 ⌝ }
     ensures { λ r. ⌜ r ≡ daysOfYears years ⌝ }
 {
-    let mut days = 0;
-    let mut i = 0;
-    while i < years {
-        days += year_length(1900 + i);
-        i += 1;
-    }
-    days
+    let last = 1899 + years;
+    let leaps = last / 4 - last / 100 + last / 400 - 460;
+    365 * years + leaps
 }
 
 // The days of the first months of a year.

@@ -92,11 +92,7 @@ year-more y h =
     let k : 1900 + (y - 1900) ≡ y = omega arith in
     ap daysOfYears e ∙ ap (λ (z : ℕ). daysOfYears (y - 1900) + yearLength z) k
 
--- The days of the first years and months, counted one after the other, and their bounds.
-pub more-years : {days size : ℕ} (i : ℕ) → days ≡ daysOfYears i → size ≡ yearLength (1900 + i) → days + size ≡ daysOfYears (i + 1)
-unfolding daysOfYears
-more-years i e f = rw (add-one, e, f)
-
+-- The days of the first months, counted one after the other, and bounds of years and months.
 pub more-months : {days size : ℕ} (y i : ℕ) → days ≡ daysOfMonths y i → size ≡ monthLength y (i + 1) → days + size ≡ daysOfMonths y (i + 1)
 unfolding daysOfMonths
 more-months y i e f = rw (e, f, add-one)
@@ -115,9 +111,6 @@ pub months-most : (y i : ℕ) → daysOfMonths y i ≤ 31 * i
 unfolding daysOfMonths
 months-most y zero = omega arith
 months-most y (suc i) = omega (arith, months-most y i, month-bounds y (suc i))
-
-pub all-years : {days : ℕ} (i n : ℕ) → days ≡ daysOfYears i → i ≤ n → n ≤ i → days ≡ daysOfYears n
-all-years i n e h l = e ∙ ap daysOfYears (le-antisymm h l)
 
 pub all-months : {days : ℕ} (y i n : ℕ) → days ≡ daysOfMonths y i → i ≤ n → n ≤ i → days ≡ daysOfMonths y n
 all-months y i n e h l = e ∙ ap (daysOfMonths y) (le-antisymm h l)

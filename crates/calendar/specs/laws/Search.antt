@@ -27,10 +27,6 @@ pub record InMonth (y day m rest : ℕ) : Type 0 where
   pub reached : FromMonth y day m rest
   pub within : rest < monthLength y m
 
-pub start-year : (day : ℕ) → FromYear day 1900 day
-unfolding daysOfYears
-start-year day = record { from = omega arith; days = omega arith; least = omega arith }
-
 pub next-year : (day y rest size : ℕ) → FromYear day y rest → size ≡ yearLength y → size ≤ rest → FromYear day (y + 1) (rest - size)
 next-year day y rest size h e l =
     record {
