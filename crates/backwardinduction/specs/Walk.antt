@@ -47,7 +47,7 @@ abbrev pub called : CallStep → Float → Float
 called c continuation = cond (c .marked) (minOf continuation (c .«call_price»)) continuation
 
 unfoldable pub nodeValue : Reads → ℤ → Transition → List At → ℕ → Answer
-unfolding valueAt expAt minOf add mul neg
+unfolding valueAt minOf add mul neg
 nodeValue r node t next place =
     andThen (expected t next place) λ e.
     andThen (discountOf r node place) λ d.

@@ -5,12 +5,12 @@ use elementary::exp::exp_at;
 use floats::Answer;
 use floats::finite::not_finite;
 use floats::min::lesser;
+use floats::refusals::overflow;
 use forwardinduction::fit::spot;
 use lattice::reach::nothing_below;
 use lattice::reach::reached;
-use lattice::refusals::overflow;
-use lattice::refusals::row_refused;
 use terms::Check;
+use terms::refusing::refused_by;
 ghost use mathlib.Core.Path.{_≡_};
 ghost use Prim.Native.Nat.{_≤_, _<_};
 ghost use lib.ListN.{length};
@@ -176,7 +176,7 @@ pub fn roll(
             next,
         );
         let Answer::Value(value) = v else {
-            return row_refused(v);
+            return refused_by(v);
         };
         row[i] = value;
         r = after;

@@ -13,11 +13,12 @@ use Rattle.terms.specs.declared.Check.{Check}
 use Rattle.terms.specs.declared.Check.the-variants.{Passed}
 use Rattle.terms.specs.declared.Check.the-variants as check
 use Rattle.terms.specs.Outcomes.{Outcome, given, refused, follow, onOutcome, valued}
+use Rattle.terms.specs.Checks.{refusedBy}
 use Rattle.bondevents.specs.declared.CallStep.{CallStep}
 use Rattle.bondevents.specs.declared.CallsAnswer.{CallsAnswer}
 use Rattle.bondevents.specs.Calls.{newStep, keepLowest}
 use Rattle.terms.proofs.Laws.{same-at}
-use Rattle.bondevents.specs.Parts.{noCalls, refusalOf, callsAnswer}
+use Rattle.bondevents.specs.Parts.{noCalls, callsAnswer}
 
 -- What only hands on changes nothing.
 pub follow-given : {A : Type 0} (o : Outcome A) → follow o given ≡ o
@@ -58,10 +59,10 @@ calls-refused (refused s) e p = cc (ap (λ (z : CallsAnswer). z .check) e, p)
 
 module _ (a : Answer) (f : Float → Outcome (List CallStep)) {s : Answer} (e : s ≡ a) where
   -- A refusal is handed up.
-  pub handed-up : {q : Refusal} {k : Check} {r : CallsAnswer} → s ≡ Refused q → k ≡ refusalOf s → r ≡ record { check = k; calls = noCalls } → r ≡ callsAnswer (valued a f)
+  pub handed-up : {q : Refusal} {k : Check} {r : CallsAnswer} → s ≡ Refused q → k ≡ refusedBy s → r ≡ record { check = k; calls = noCalls } → r ≡ callsAnswer (valued a f)
   unfolding onOutcome onAnswer
   handed-up {q} {k} {r} v g p =
-      let w : k ≡ check.Refused q = g ∙ ap refusalOf v in
+      let w : k ≡ check.Refused q = g ∙ ap refusedBy v in
       p ∙ ap (λ (z : Check). record { check = z; calls = noCalls }) w ∙ ap (λ (z : Answer). callsAnswer (valued z f)) (sym v ∙ e)
 
   -- A value goes on.

@@ -14,12 +14,13 @@ use Rattle.floats.specs.declared.Answer.{Answer}
 use Rattle.floats.specs.declared.Answer.the-variants.{Value, Refused}
 use Rattle.floats.specs.Answers.{onAnswer}
 use Rattle.terms.specs.Outcomes.{Outcome, given, refused, follow, onOutcome, valued}
+use Rattle.terms.specs.Checks.{refusedBy}
 use Rattle.bondevents.specs.declared.CallStep.{CallStep}
 use Rattle.terms.specs.declared.Check.{Check}
 use Rattle.terms.specs.declared.Check.the-variants.{Passed}
 use Rattle.bondevents.specs.declared.CallsAnswer.{CallsAnswer}
 use Rattle.bondevents.specs.Calls.{newStep, keepLowest}
-use Rattle.bondevents.specs.Parts.{overPrices, noCalls, refusalOf, callsAnswer}
+use Rattle.bondevents.specs.Parts.{overPrices, noCalls, callsAnswer}
 use Rattle.bondevents.proofs.Outcomes.{follow-given, follow-follow, follow-same}
 
 -- What a step c becomes.
@@ -100,11 +101,11 @@ module _ (E : ℕ → Bool) (P : ℕ → Answer) (steps : ℕ) (few : steps ≤ 
       unfolding onAnswer
       keep {x} {k} d v w = turn kept i s h d k (at-answer d ∙ ap (λ (b : Answer). valued b λ x. given (keepLowest (getD kept i d) x)) v ∙ ap given (sym w))
 
-      pub refuse : {q : Refusal} {k : Check} {r : CallsAnswer} → a ≡ Refused q → k ≡ refusalOf a → r ≡ record { check = k; calls = noCalls } → r ≡ callsAnswer (overPrices E P steps 0 calls)
+      pub refuse : {q : Refusal} {k : Check} {r : CallsAnswer} → a ≡ Refused q → k ≡ refusedBy a → r ≡ record { check = k; calls = noCalls } → r ≡ callsAnswer (overPrices E P steps 0 calls)
       unfolding onAnswer onOutcome
       refuse {q} {k} {r} v w p =
           let z : stepped E P i (getD kept i newStep) ≡ refused q = at-answer newStep ∙ ap (λ (b : Answer). valued b λ x. given (keepLowest (getD kept i newStep) x)) v in
-          p ∙ ap (λ (y : Check). record { check = y; calls = noCalls }) (w ∙ ap refusalOf v) ∙ sym (ap callsAnswer (stopped kept i s h newStep q z))
+          p ∙ ap (λ (y : Check). record { check = y; calls = noCalls }) (w ∙ ap refusedBy v) ∙ sym (ap callsAnswer (stopped kept i s h newStep q z))
 
   pub finish : (kept : List CallStep) (i : ℕ) → Scanning E P steps calls kept i → steps ≤ i → record { check = Passed; calls = kept } ≡ callsAnswer (overPrices E P steps 0 calls)
   unfolding onOutcome

@@ -9,7 +9,7 @@ use lib.Ieee.{Float, nan, binary64, add, mul, div, le}
 use Rattle.floats.specs.declared.Refusal.{Refusal}
 use Rattle.floats.specs.declared.Answer.{Answer}
 use Rattle.terms.specs.Checks.{onCheck}
-use Rattle.floats.specs.Answers.{plusZero, refusal, tested, whenFinite, onAnswer}
+use Rattle.floats.specs.Answers.{plusZero, refusal, tested, whenFinite}
 use Rattle.terms.specs.declared.Check.{Check}
 use Rattle.terms.specs.declared.Check.the-variants.{Passed, Refused}
 use Rattle.terms.specs.Numbers.{tolerance}
@@ -69,10 +69,6 @@ pub record Principals (a : Axis) (leg : Leg) (count : ℕ) (table : List Float) 
 -- No step has a call price.
 unfoldable pub noCalls : List CallStep
 noCalls = replicate 513 newStep
-
--- What an answer refuses.
-abbrev pub refusalOf : Answer → Check
-refusalOf a = onAnswer a Refused λ x. Passed
 
 -- The calls of each step, or the refusal beside none.
 abbrev pub callsAnswer : Outcome (List CallStep) → CallsAnswer

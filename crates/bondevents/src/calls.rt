@@ -7,7 +7,9 @@ use crate::steps::call_step_of;
 use floats::Answer;
 use floats::Refusal;
 use floats::finite::not_finite;
+use floats::refusals::overflow;
 use terms::Check;
+use terms::refusing::refused_by;
 use terms::time::year_fraction;
 ghost use mathlib.Core.Path.{_≡_};
 ghost use mathlib.Core.List.{List};
@@ -16,7 +18,7 @@ ghost use lib.ListN.{length, getD, set, replicate};
 ghost use lib.Ieee.{nan};
 ghost use Rattle.terms.specs.Outcomes.{given, valued};
 ghost use Rattle.bondevents.specs.Calls.{newStep, keepLowest, overSteps, withEntry};
-ghost use Rattle.bondevents.specs.Parts.{axisAt, bondOf, entryOf, priced, inWindow, overPrices, Principals, noCalls, refusalOf, callsAnswer};
+ghost use Rattle.bondevents.specs.Parts.{axisAt, bondOf, entryOf, priced, inWindow, overPrices, Principals, noCalls, callsAnswer};
 
 // Strike × principal/units, refused where there is no principal.
 fn call_price(strike: f64, principal: f64, units: f64) -> Answer
@@ -30,17 +32,11 @@ fn call_price(strike: f64, principal: f64, units: f64) -> Answer
     }
     let paid = strike * principal;
     if not_finite(paid) {
-        return Answer::Refused(Refusal {
-            number: Refusal::NOT_FINITE,
-            place: 0,
-        });
+        return overflow(0);
     }
     let price = paid / units;
     if not_finite(price) {
-        return Answer::Refused(Refusal {
-            number: Refusal::NOT_FINITE,
-            place: 0,
-        });
+        return overflow(0);
     }
     Answer::Value(price)
 }
@@ -55,16 +51,6 @@ fn in_window(maturity: f64, steps: usize, from: f64, to: f64, step: usize) -> bo
         return time <= to + 1.0e-12;
     }
     false
-}
-
-// What an answer refuses.
-fn refusal_of(answer: Answer) -> Check
-    ensures { λ r. ⌜ r ≡ refusalOf answer ⌝ }
-{
-    match answer {
-        Answer::Value(_) => Check::Passed,
-        Answer::Refused(refusal) => Check::Refused(refusal),
-    }
 }
 
 // No call price at any step, beside a refusal.
@@ -98,7 +84,7 @@ fn over_window(
         if in_window(maturity, steps, from, to, step) {
             let answer = call_price(strike, principals[step], units);
             let Answer::Value(price) = answer else {
-                return no_calls(refusal_of(answer));
+                return no_calls(refused_by(answer));
             };
             let call = kept[step];
             kept[step] = call.keep_lowest(price);
@@ -123,7 +109,7 @@ fn at_step(
 {
     let answer = call_price(strike, principal, units);
     let Answer::Value(price) = answer else {
-        return no_calls(refusal_of(answer));
+        return no_calls(refused_by(answer));
     };
     let mut kept = calls;
     let call = kept[step];

@@ -16,7 +16,7 @@ use Rattle.terms.specs.Entries.{straightChecks}
 
 -- amount × (the day's factor / settlement's) × exp(spread × −time), added to the value.
 unfoldable pub withFlow : (Float → ℕ → Answer) → ℕ → Float → Float → ℕ → Float → Float → Answer
-unfolding yearFraction expAt add mul div neg
+unfolding yearFraction add mul div neg
 withFlow curve settlement spread reference day amount value =
     andThen (factorOf curve settlement day 0) λ factor.
     whenFinite (div binary64 factor reference) 0 λ discount.

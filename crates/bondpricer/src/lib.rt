@@ -4,6 +4,7 @@ use entrychecks::entries::straight_checks;
 use floats::Answer;
 use floats::Refusal;
 use floats::finite::not_finite;
+use floats::refusals::overflow;
 use terms::Check;
 use terms::curve::curve_at;
 use terms::curve::pillar_times;
@@ -11,17 +12,10 @@ use terms::time::year_fraction;
 ghost use mathlib.Core.Path.{_≡_};
 ghost use mathlib.Core.List.{[]};
 ghost use lib.ListN.{length};
-ghost use Rattle.floats.specs.Answers.{plusZero, refusal};
+ghost use Rattle.floats.specs.Answers.{plusZero};
 ghost use Rattle.terms.specs.Terms.{Leg, Pillars};
 ghost use Rattle.terms.specs.Curve.{curveOver};
 ghost use Rattle.bondpricer.specs.Straight.{withFlow, flows, discountedValue, straightValue};
-
-// A refusal with its number, at place 0.
-fn refused(number: u32) -> Answer
-    ensures { λ r. ⌜ r ≡ refusal number 0 ⌝ }
-{
-    Answer::Refused(Refusal { number, place: 0 })
-}
 
 // amount × (the day's factor / settlement's) × exp(spread × −time), added to the value.
 fn with_flow(
@@ -43,11 +37,11 @@ fn with_flow(
     };
     let discount = factor / reference;
     if not_finite(discount) {
-        return refused(Refusal::NOT_FINITE);
+        return overflow(0);
     }
     let x = spread * -time;
     if not_finite(x) {
-        return refused(Refusal::NOT_FINITE);
+        return overflow(0);
     }
     let e = exp_at(x, 0);
     let Answer::Value(spread_discount) = e else {
@@ -55,15 +49,15 @@ fn with_flow(
     };
     let y = amount * discount;
     if not_finite(y) {
-        return refused(Refusal::NOT_FINITE);
+        return overflow(0);
     }
     let z = y * spread_discount;
     if not_finite(z) {
-        return refused(Refusal::NOT_FINITE);
+        return overflow(0);
     }
     let sum = value + z;
     if not_finite(sum) {
-        return refused(Refusal::NOT_FINITE);
+        return overflow(0);
     }
     Answer::Value(sum)
 }
@@ -129,7 +123,10 @@ pub fn discounted_value(
         return a;
     };
     if reference <= 0.0 {
-        return refused(Refusal::FACTOR);
+        return Answer::Refused(Refusal {
+            number: Refusal::FACTOR,
+            place: 0,
+        });
     }
     all_flows(
         settlement,

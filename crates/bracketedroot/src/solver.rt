@@ -7,7 +7,7 @@ use brackets::brackets::is_small;
 use floats::Answer;
 use floats::Refusal;
 use floats::max::greater;
-use interestrate::refusals::refusal_of;
+use floats::refusals::refusal_of;
 use sought::Sought;
 use sought::objectives::objective;
 ghost use mathlib.Core.Path.{_≡_};

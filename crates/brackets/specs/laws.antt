@@ -1,5 +1,4 @@
 -- Laws of brackets and roots that proofs and the crates above may cite.
-pub mod Cases
 pub mod Evaluations
 pub mod Roots
 pub mod SoughtRoots

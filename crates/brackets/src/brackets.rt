@@ -3,11 +3,11 @@ use crate::Bracket;
 use crate::Halved;
 use crate::Widened;
 use floats::Answer;
-use floats::Refusal;
 use floats::finite::not_finite;
 use floats::max::greater;
 use floats::midpoint::midpoint_at;
-use interestrate::refusals::refusal_of;
+use floats::refusals::overflow_refusal;
+use floats::refusals::refusal_of;
 use rounded::mul_add::mul_add_at;
 use sought::Sought;
 use sought::objectives::objective;
@@ -156,13 +156,7 @@ impl Bracket {
         let lower = greater(x, lowest);
         let moved = lower - self.lower;
         if not_finite(moved) {
-            return Widened::Refused(
-                Refusal {
-                    number: Refusal::NOT_FINITE,
-                    place: 0,
-                },
-                self.evaluations,
-            );
+            return Widened::Refused(overflow_refusal(0), self.evaluations);
         }
         if is_small(Bracket::EPSILON, moved) {
             return Widened::Last(self);
@@ -321,13 +315,7 @@ impl Bracket {
         }
         let width = self.upper - self.lower;
         if not_finite(width) {
-            return Halved::Refused(
-                Refusal {
-                    number: Refusal::NOT_FINITE,
-                    place: 0,
-                },
-                evaluations,
-            );
+            return Halved::Refused(overflow_refusal(0), evaluations);
         }
         if is_small(Bracket::WIDTH, width) {
             return Halved::Found(middle, evaluations);

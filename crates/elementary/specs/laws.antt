@@ -7,3 +7,4 @@ pub mod Normal
 pub mod Scales
 pub mod Logarithm
 pub mod Values
+pub mod Refusing

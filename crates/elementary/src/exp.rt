@@ -3,6 +3,7 @@
 use floats::Answer;
 use floats::Refusal;
 use floats::finite::not_finite;
+use floats::refusals::overflow;
 use floats::round::near;
 ghost use mathlib.Core.Path.{_≡_};
 ghost use Prim.Native.Nat.{_-_};
@@ -56,10 +57,7 @@ pub fn exp_at(x: f64, place: u32) -> Answer
     ensures { λ r. ⌜ r ≡ expAt x place ⌝ }
 {
     if not_finite(x) {
-        return Answer::Refused(Refusal {
-            number: Refusal::NOT_FINITE,
-            place,
-        });
+        return overflow(place);
     }
     if x > 700.0 {
         return Answer::Refused(Refusal {
@@ -72,10 +70,7 @@ pub fn exp_at(x: f64, place: u32) -> Answer
     }
     let y = reduced(x);
     if not_finite(y) {
-        return Answer::Refused(Refusal {
-            number: Refusal::NOT_FINITE,
-            place,
-        });
+        return overflow(place);
     }
     Answer::Value(y)
 }

@@ -5,6 +5,7 @@ use crate::exp::series;
 use floats::Answer;
 use floats::Refusal;
 use floats::finite::not_finite;
+use floats::refusals::overflow;
 ghost use mathlib.Core.Path.{_≡_};
 ghost use Rattle.elementary.specs.Exponential.{expM1At, expM1Alone};
 ghost use Rattle.elementary.specs.laws.Exponential.{nearZero, lessOne};
@@ -15,10 +16,7 @@ fn near_zero(x: f64, place: u32) -> Answer
 {
     let y = x * series(x, 1);
     if not_finite(y) {
-        return Answer::Refused(Refusal {
-            number: Refusal::NOT_FINITE,
-            place,
-        });
+        return overflow(place);
     }
     Answer::Value(y)
 }
@@ -33,10 +31,7 @@ fn less_one(x: f64, place: u32) -> Answer
     };
     let y = e - 1.0;
     if not_finite(y) {
-        return Answer::Refused(Refusal {
-            number: Refusal::NOT_FINITE,
-            place,
-        });
+        return overflow(place);
     }
     Answer::Value(y)
 }
@@ -46,10 +41,7 @@ pub fn exp_m1_at(x: f64, place: u32) -> Answer
     ensures { λ r. ⌜ r ≡ expM1At x place ⌝ }
 {
     if not_finite(x) {
-        return Answer::Refused(Refusal {
-            number: Refusal::NOT_FINITE,
-            place,
-        });
+        return overflow(place);
     }
     if -0.5 < x {
         if x < 0.5 {

@@ -5,6 +5,7 @@ use crate::exp::LN2_LOW;
 use floats::Answer;
 use floats::Refusal;
 use floats::finite::not_finite;
+use floats::refusals::overflow;
 ghost use mathlib.Core.Path.{_≡_};
 ghost use lib.Ieee.{binary64, ofBits};
 ghost use Rattle.elementary.specs.Logarithm.{fraction, exponent, lnAt, lnAlone};
@@ -65,10 +66,7 @@ pub fn ln_at(x: f64, place: u32) -> Answer
     ensures { λ r. ⌜ r ≡ lnAt x place ⌝ }
 {
     if not_finite(x) {
-        return Answer::Refused(Refusal {
-            number: Refusal::NOT_FINITE,
-            place,
-        });
+        return overflow(place);
     }
     if x < SMALLEST_NORMAL {
         return Answer::Refused(Refusal {
@@ -78,10 +76,7 @@ pub fn ln_at(x: f64, place: u32) -> Answer
     }
     let y = straight(x);
     if not_finite(y) {
-        return Answer::Refused(Refusal {
-            number: Refusal::NOT_FINITE,
-            place,
-        });
+        return overflow(place);
     }
     Answer::Value(y)
 }

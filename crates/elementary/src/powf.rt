@@ -5,6 +5,7 @@ use crate::ln::ln_at;
 use floats::Answer;
 use floats::Refusal;
 use floats::finite::not_finite;
+use floats::refusals::overflow;
 ghost use mathlib.Core.Path.{_≡_};
 ghost use Rattle.elementary.specs.Power.{powfAt, powfAlone};
 
@@ -18,10 +19,7 @@ pub fn powf_at(b: f64, y: f64, place: u32) -> Answer
     };
     let t = y * l;
     if not_finite(t) {
-        return Answer::Refused(Refusal {
-            number: Refusal::NOT_FINITE,
-            place,
-        });
+        return overflow(place);
     }
     exp_at(t, place)
 }

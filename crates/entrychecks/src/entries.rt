@@ -18,7 +18,7 @@ use crate::yield_stages::yield_numbers;
 use terms::Check;
 use terms::cashflows::any_paid;
 use terms::counts::leg_count;
-use terms::limits::PillarEntries;
+use terms::limits::Spread;
 use terms::limits::Target;
 use terms::limits::Yields;
 ghost use mathlib.Core.Path.{_≡_};
@@ -235,7 +235,7 @@ pub fn tree_checks(
         (callsIn starts ends strikes) ⌝ }
 {
     market_checks(
-        PillarEntries::SPREAD,
+        Spread::MOST,
         settlement,
         days,
         kinds,

@@ -17,7 +17,7 @@ use Rattle.treebasedbondpricer.specs.declared.TreeValue.{TreeValue}
 use Rattle.treebasedbondpricer.specs.Tree.{treeValue, Lent, roomOf, zeroed, lentAfter}
 use Rattle.treebasedbondpricer.specs.Entry.{Entered}
 use Rattle.brackets.specs.declared.Root.{Root}
-use Rattle.spreads.specs.Spreads.{Solved}
+use Rattle.spreads.specs.Spreads.{quoting, Solved}
 use Rattle.filevalue.specs.declared.Ask.{Ask}
 use Rattle.filevalue.specs.declared.Ask.the-variants as ask
 use Rattle.filevalue.specs.declared.Reply.{Reply}
@@ -30,7 +30,7 @@ valued e h v q =
     rw (e, ← h .settled, ← h .in-units, ← h .per-year, ← h .at-most, ← h .with-alpha, ← h .with-spread)
     (record { reply = q ∙ ap ofValue (v .value); slices = v .slices })
 
-pub solved : {asked : Ask} {text : List ℕ} {f : Fields} {leg : Leg} {sigma : SigmaSchedule} {pillars : Pillars} {calls : CallSchedule} {target : Float} {a : Root} {r : Reply} {before after : Lent} → asked ≡ ask.Spread target → FieldsRead text f → Solved (marketAt f leg sigma pillars target) calls a before after → r ≡ ofRoot a → Replied asked (marketWith text leg sigma pillars) calls r before after
+pub solved : {asked : Ask} {text : List ℕ} {f : Fields} {leg : Leg} {sigma : SigmaSchedule} {pillars : Pillars} {calls : CallSchedule} {target : Float} {a : Root} {r : Reply} {before after : Lent} → asked ≡ ask.Spread target → FieldsRead text f → Solved (quoting (marketAt f leg sigma pillars (f .spread)) target) calls a before after → r ≡ ofRoot a → Replied asked (marketWith text leg sigma pillars) calls r before after
 unfolding replyTo leftBy
 solved e h v q =
     rw (e, ← h .settled, ← h .in-units, ← h .per-year, ← h .at-most, ← h .with-alpha)

@@ -5,7 +5,7 @@ use mathlib.Core.List.{List, []}
 use lib.Ieee.{Float, binary64, sub}
 use Rattle.floats.specs.declared.Answer.{Answer}
 use Rattle.floats.specs.Answers.{tested, onAnswer}
-use Rattle.terms.specs.Terms.{Leg, CallSchedule, SigmaSchedule, Pillars, Market, withSpread}
+use Rattle.terms.specs.Terms.{Leg, CallSchedule, SigmaSchedule, Pillars, Market}
 use Rattle.filebond.specs.Bond.{legOf, pillarsOf, marketOf}
 use Rattle.lattice.specs.Layers.{Room}
 use Rattle.treebasedbondpricer.specs.declared.TreeValue.{TreeValue}
@@ -15,7 +15,7 @@ use Rattle.brackets.specs.declared.Root.{Root}
 use Rattle.brackets.specs.declared.Root.the-variants as root
 use Rattle.bondpricer.specs.Straight.{straightValue}
 use Rattle.bondanalytics.specs.Yields.{yieldFromPrice}
-use Rattle.spreads.specs.Spreads.{spreadFromPrice}
+use Rattle.spreads.specs.Spreads.{quoting, spreadFromPrice}
 use Rattle.spreads.specs.Spreads as spreads
 use Rattle.filevalue.specs.declared.Ask.{Ask}
 use Rattle.filevalue.specs.declared.Ask.the-variants as ask
@@ -53,17 +53,17 @@ worthOfCalls (tree.Refused r) uncalled = Refused r
 
 -- ---- what the tree is asked
 
--- Both trees of what the calls are worth have the same room. The quote stands in the spread's place.
+-- Both trees of what the calls are worth have the same room. A quote stands in place of the spread.
 unfoldable pub replyTo : Ask → Market → CallSchedule → Room → Reply
 replyTo ask.Value m calls room = ofValue (treeValue m calls room)
 replyTo ask.Calls m calls room = worthOfCalls (treeValue m calls room) (treeValue m noCalls room)
-replyTo (ask.Spread target) m calls room = ofRoot (spreadFromPrice (withSpread m target) calls room)
+replyTo (ask.Spread target) m calls room = ofRoot (spreadFromPrice (quoting m target) calls room)
 
 -- The slices are left as the entry that was asked leaves them.
 unfoldable pub leftBy : Ask → Market → CallSchedule → Lent → Lent
 leftBy ask.Value m calls lent = lentAfter m calls lent
 leftBy ask.Calls m calls lent = lentAfter m noCalls (lentAfter m calls lent)
-leftBy (ask.Spread target) m calls lent = spreads.lentAfter (withSpread m target) calls lent
+leftBy (ask.Spread target) m calls lent = spreads.lentAfter (quoting m target) calls lent
 
 -- What is promised: the reply, in the room of the lent slices, and their end content.
 pub record Replied (ask : Ask) (m : Market) (calls : CallSchedule) (answer : Reply) (before after : Lent) : Type 0 where

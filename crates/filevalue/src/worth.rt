@@ -3,14 +3,16 @@ use crate::Reply;
 use bondfile::Fields;
 use filebond::parts::days_of;
 use filebond::parts::numbers_of;
-use floats::Refusal;
 use floats::finite::not_finite;
+use floats::refusals::overflow_refusal;
 use treebasedbondpricer::TreeValue;
 use treevalue::tree::tree_value;
 ghost use mathlib.Core.Path.{_≡_};
 ghost use Rattle.filevalue.specs.declared.Ask.the-variants.{Calls};
 ghost use Rattle.filevalue.specs.Values.{less, worthOfCalls, Replied};
 ghost use Rattle.filevalue.specs.laws.Fields.{marketAt};
+ghost use Rattle.terms.specs.Slices.{legIn, callsIn, sigmaIn, pillarsIn};
+ghost use Rattle.treebasedbondpricer.specs.Slices.{lentIn, lentOut};
 
 // A difference, and the nodes that stand beside it.
 fn difference(y: f64, x: f64, nodes: u64) -> Reply
@@ -18,10 +20,7 @@ fn difference(y: f64, x: f64, nodes: u64) -> Reply
 {
     let d = y - x;
     if not_finite(d) {
-        return Reply::Refused(Refusal {
-            number: Refusal::NOT_FINITE,
-            place: 0,
-        });
+        return Reply::Refused(overflow_refusal(0));
     }
     Reply::Found(d, nodes)
 }
@@ -57,11 +56,11 @@ pub fn of_calls(
     second: &mut [f64],
 ) -> Reply
     ensures { λ r. ⌜ Replied Calls
-        (marketAt f (record { days = now (days .entry); kinds = now (kinds .entry); amounts = now (amounts .entry) }) (record { times = now (times .entry); sigmas = now (sigmas .entry) }) (record { days = now (pillars .entry); factors = now (factors .entry) }) (f .spread))
-        (record { starts = now (starts .entry); ends = now (ends .entry); strikes = now (strikes .entry) })
+        (marketAt f (legIn days kinds amounts) (sigmaIn times sigmas) (pillarsIn pillars factors) (f .spread))
+        (callsIn starts ends strikes)
         r
-        (record { nodes = now (nodes .entry); probabilities = now (probabilities .entry); first = now (first .entry); second = now (second .entry) })
-        (record { nodes = now (nodes .exit); probabilities = now (probabilities .exit); first = now (first .exit); second = now (second .exit) }) ⌝ }
+        (lentIn nodes probabilities first second)
+        (lentOut nodes probabilities first second) ⌝ }
 {
     let called = tree_value(
         f.settlement,

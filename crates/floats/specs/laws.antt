@@ -15,3 +15,4 @@ pub mod Integers
 pub mod Patterns
 pub mod Finite
 pub mod SameNumber
+pub mod Cases

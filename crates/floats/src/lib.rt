@@ -6,6 +6,7 @@ pub mod finite;
 pub mod max;
 pub mod midpoint;
 pub mod min;
+pub mod refusals;
 pub mod round;
 mod sign;
 

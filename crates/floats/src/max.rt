@@ -3,6 +3,7 @@
 use crate::Answer;
 use crate::Refusal;
 use crate::finite::not_finite;
+use crate::refusals::overflow;
 ghost use mathlib.Core.Path.{_≡_};
 ghost use Rattle.floats.specs.Extremes.{maxOf, maxAt, maxAlone};
 
@@ -21,16 +22,10 @@ pub fn max_at(a: f64, b: f64, place: u32) -> Answer
     ensures { λ r. ⌜ r ≡ maxAt a b place ⌝ }
 {
     if not_finite(a) {
-        return Answer::Refused(Refusal {
-            number: Refusal::NOT_FINITE,
-            place,
-        });
+        return overflow(place);
     }
     if not_finite(b) {
-        return Answer::Refused(Refusal {
-            number: Refusal::NOT_FINITE,
-            place,
-        });
+        return overflow(place);
     }
     Answer::Value(greater(a, b))
 }

@@ -3,6 +3,7 @@
 use crate::Answer;
 use crate::Refusal;
 use crate::finite::not_finite;
+use crate::refusals::overflow;
 ghost use mathlib.Core.Path.{_≡_};
 ghost use Rattle.floats.specs.Middle.{midpointAt, midpointAlone};
 
@@ -12,17 +13,11 @@ pub fn midpoint_at(a: f64, b: f64, place: u32) -> Answer
 {
     let s = a + b;
     if not_finite(s) {
-        return Answer::Refused(Refusal {
-            number: Refusal::NOT_FINITE,
-            place,
-        });
+        return overflow(place);
     }
     let m = s / 2.0;
     if not_finite(m) {
-        return Answer::Refused(Refusal {
-            number: Refusal::NOT_FINITE,
-            place,
-        });
+        return overflow(place);
     }
     Answer::Value(m)
 }

@@ -3,6 +3,7 @@
 use crate::Answer;
 use crate::Refusal;
 use crate::finite::not_finite;
+use crate::refusals::overflow;
 use crate::sign::signed;
 ghost use mathlib.Core.Path.{_≡_};
 ghost use Prim.Native.Nat.{_+_, _*_, _/_, _^_, _<_, _≤_};
@@ -43,10 +44,7 @@ pub fn round_at(x: f64, place: u32) -> Answer
     ensures { λ r. ⌜ r ≡ roundAt x place ⌝ }
 {
     if not_finite(x) {
-        return Answer::Refused(Refusal {
-            number: Refusal::NOT_FINITE,
-            place,
-        });
+        return overflow(place);
     }
     Answer::Value(near(x))
 }

@@ -17,7 +17,7 @@ use Rattle.lattice.specs.Lattice.{Layer}
 
 -- Weighted sum of state prices: each price × exp(spacing × (−node × time_step)), added from 0, nodes rising.
 unfoldable pub weighted : Float → Float → ℕ → List At → Float → Answer
-unfolding expAt add mul neg
+unfolding add mul neg
 weighted spacing dt place [] total = Value total
 weighted spacing dt place (a ∷ row) total =
     whenFinite (mul binary64 (neg (nodeFloat (a .node))) dt) place λ x.
@@ -28,7 +28,7 @@ weighted spacing dt place (a ∷ row) total =
 
 -- The curve is read at time_step × (step+1); 25: a factor ≤ 0; the shift is ln(weighted/factor)/time_step.
 unfoldable pub shiftOf : (Float → ℕ → Answer) → Float → ℕ → Float → Answer
-unfolding lnAt mul div le
+unfolding mul div le
 shiftOf curve dt place sum =
     whenFinite (mul binary64 dt (float (place + 1))) place λ time.
     andThen (curve time place) λ factor.
@@ -57,7 +57,7 @@ contributeThree place t price row =
 
 -- Node rising: exp((shift + spacing × node) × −time_step) × state price, then its three contributions.
 unfoldable pub onward : Float → Float → Float → ℕ → List Transition → List At → List At → Outcome (List At)
-unfolding contribute expAt add mul neg
+unfolding contribute add mul neg
 onward spacing dt shift place (t ∷ ts) (a ∷ row) next =
     finiteThen (mul binary64 spacing (nodeFloat (a .node))) place λ state.
     finiteThen (add binary64 shift state) place λ rate.

@@ -5,12 +5,12 @@ use elementary::ln::ln_at;
 use floats::Answer;
 use floats::Refusal;
 use floats::finite::not_finite;
+use floats::refusals::overflow;
 use lattice::reach::nothing_below;
 use lattice::reach::reached;
-use lattice::refusals::overflow;
 use lattice::refusals::row_overflow;
-use lattice::refusals::row_refused;
 use terms::Check;
+use terms::refusing::refused_by;
 ghost use mathlib.Core.Path.{_≡_};
 ghost use Prim.Native.Nat.{_*_, _+_, _^_, _<_, _≤_};
 ghost use lib.ListN.{length};
@@ -230,7 +230,7 @@ pub fn onward(
         let middle = nodes[i * 2 + 1];
         let d = discounted(node as f64, row[i], spacing, dt, shift, place);
         let Answer::Value(price) = d else {
-            return row_refused(d);
+            return refused_by(d);
         };
         let after = reached(r, middle);
         let before = r.count;

@@ -4,8 +4,8 @@ use crate::layer::advance;
 use crate::layer::layer_shift;
 use crate::rows::current;
 use floats::Answer;
-use lattice::refusals::row_refused;
 use terms::Check;
+use terms::refusing::refused_by;
 ghost use mathlib.Core.Path.{_≡_};
 ghost use Rattle.terms.specs.Curve.{curveOver};
 ghost use Prim.Native.Nat.{_+_, _^_, _<_, _≤_};
@@ -100,7 +100,7 @@ pub fn fit(
         second,
     );
     let Answer::Value(shift) = s else {
-        return row_refused(s);
+        return refused_by(s);
     };
     shifts[0] = shift;
     fit(

@@ -5,7 +5,7 @@ use crate::fit::shift_from;
 use crate::fit::weighted_sum;
 use floats::Answer;
 use floats::finite::not_finite;
-use lattice::refusals::overflow;
+use floats::refusals::overflow;
 use terms::Check;
 use terms::curve::curve_at;
 ghost use mathlib.Core.Path.{_≡_};

@@ -12,7 +12,7 @@ use Rattle.treebasedbondpricer.specs.Tree.{Lent}
 use Rattle.treebasedbondpricer.specs.Entry.{Entered}
 use Rattle.interestrate.specs.declared.YieldPrice.{YieldPrice}
 use Rattle.brackets.specs.declared.Root.{Root}
-use Rattle.spreads.specs.Spreads.{Solved}
+use Rattle.spreads.specs.Spreads.{Quoted, Solved}
 use Rattle.host.specs.Handed.{Handed, HandedGrid, HandedList, HandedValue, HandedTree, HandedPrice, HandedRoot, HandedSpread}
 
 pub handed-as : {a b : Answer} {result place : ℕ} {value : Float} → a ≡ b → Handed a result place value → Handed b result place value
@@ -33,5 +33,5 @@ price-as e h = rw (← e) h
 pub root-as : {a b : Root} {result place evaluations : ℕ} {value : Float} → a ≡ b → HandedRoot a result place value evaluations → HandedRoot b result place value evaluations
 root-as e h = rw (← e) h
 
-pub spread-as : {m : Market} {calls : CallSchedule} {a : Root} {before after : Lent} {result place tried : ℕ} {spread : Float} → Solved m calls a before after → HandedRoot a result place spread tried → HandedSpread m calls before after result place spread tried
+pub spread-as : {asked : Quoted} {calls : CallSchedule} {a : Root} {before after : Lent} {result place tried : ℕ} {spread : Float} → Solved asked calls a before after → HandedRoot a result place spread tried → HandedSpread asked calls before after result place spread tried
 spread-as e h = record { handed = rw (← e .root) h; slices = e .slices }

@@ -14,7 +14,7 @@ use Rattle.treebasedbondpricer.specs.Tree.{treeValue, Lent, roomOf, lentAfter}
 use Rattle.treebasedbondpricer.specs.Tree as tree
 use Rattle.interestrate.specs.declared.YieldPrice.{YieldPrice}
 use Rattle.brackets.specs.declared.Root.{Root}
-use Rattle.spreads.specs.Spreads.{spreadFromPrice}
+use Rattle.spreads.specs.Spreads.{Quoted, spreadFromPrice}
 use Rattle.spreads.specs.Spreads as spreads
 use Rattle.bondanalytics.specs.Yields.{priceNumber, pricePlace, priceOf, derivativeOf}
 use Rattle.brackets.specs.Brackets.{rootNumber, rootPlace, rootValue, evaluationsOf}
@@ -71,6 +71,6 @@ pub record HandedRoot (answer : Root) (result place : ℕ) (value : Float) (eval
   pub evaluations-is : evaluations ≡ evaluationsOf answer
 
 -- Of spread from price: the answer, tries on refusals too, and the end content of the four lent slices.
-pub record HandedSpread (m : Market) (calls : CallSchedule) (before after : Lent) (result place : ℕ) (spread : Float) (tried : ℕ) : Type 0 where
-  pub handed : HandedRoot (spreadFromPrice m calls (roomOf before)) result place spread tried
-  pub slices : after ≡ spreads.lentAfter m calls before
+pub record HandedSpread (asked : Quoted) (calls : CallSchedule) (before after : Lent) (result place : ℕ) (spread : Float) (tried : ℕ) : Type 0 where
+  pub handed : HandedRoot (spreadFromPrice asked calls (roomOf before)) result place spread tried
+  pub slices : after ≡ spreads.lentAfter asked calls before

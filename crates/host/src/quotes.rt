@@ -2,7 +2,8 @@
 
 use crate::handing::hand_root;
 ghost use Rattle.host.specs.Handed.{HandedSpread};
-ghost use Rattle.terms.specs.Slices.{legIn, callsIn, sigmaIn, pillarsIn, marketIn};
+ghost use Rattle.terms.specs.Slices.{legIn, callsIn, sigmaIn, pillarsIn};
+ghost use Rattle.spreads.specs.Spreads.{quotedIn};
 ghost use Rattle.treebasedbondpricer.specs.Slices.{lentIn, lentOut};
 
 // The spread that makes the bond worth the target; how many spreads were tried.
@@ -33,7 +34,7 @@ pub extern "C" fn gutirapeo_spread_from_price(
     tried: &mut u32,
 ) -> u32
     ensures { λ r. ⌜ HandedSpread
-        (marketIn settlement (legIn «cashflow_days» «cashflow_kinds» «cashflow_amounts») units «steps_per_year» «max_steps» alpha
+        (quotedIn settlement (legIn «cashflow_days» «cashflow_kinds» «cashflow_amounts») units «steps_per_year» «max_steps» alpha
         (sigmaIn «sigma_times» sigmas) target (pillarsIn «pillar_days» «pillar_factors»))
         (callsIn «call_starts» «call_ends» «call_strikes»)
         (lentIn nodes probabilities «first_row» «second_row»)

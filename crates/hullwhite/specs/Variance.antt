@@ -36,7 +36,7 @@ weight alpha lower upper end place =
 
 -- One sigma's piece: nothing where upper ≤ lower; else sigma × sigma × weight is added.
 unfoldable pub withPiece : Float → Float → Float → Float → Float → Float → ℕ → Answer
-unfolding expAt expM1At add sub mul div neg lt le
+unfolding add sub mul div neg lt le
 withPiece alpha lower upper end sigma total place =
     cond (le upper lower) (Value total)
     (andThen (weight alpha lower upper end place) λ w.

@@ -2,17 +2,18 @@
 
 use crate::weight::weight;
 use floats::Answer;
-use floats::Refusal;
 use floats::finite::not_finite;
 use floats::max::greater;
 use floats::min::lesser;
+use floats::refusals::overflow;
 use terms::Check;
+use terms::refusing::refused_by;
 ghost use mathlib.Core.Path.{_≡_};
 ghost use Prim.Native.Nat.{_≤_};
 ghost use lib.ListN.{length};
 ghost use Rattle.terms.specs.Terms.{HullWhite};
 ghost use Rattle.hullwhite.specs.Variance.{withPiece, varianceOver, stepVariance, transitionVariances};
-ghost use Rattle.hullwhite.specs.laws.Filled.{Filled, modelOf, carriedOf};
+ghost use Rattle.hullwhite.specs.laws.Filled.{Filled, modelOf};
 
 // One sigma's piece: nothing where upper ≤ lower; else sigma × sigma × weight is added.
 fn with_piece(
@@ -26,10 +27,6 @@ fn with_piece(
 ) -> Answer
     ensures { λ r. ⌜ r ≡ withPiece alpha lower upper end sigma total place ⌝ }
 {
-    let not_finite_here = Refusal {
-        number: Refusal::NOT_FINITE,
-        place,
-    };
     if upper <= lower {
         return Answer::Value(total);
     }
@@ -39,15 +36,15 @@ fn with_piece(
     };
     let square = sigma * sigma;
     if not_finite(square) {
-        return Answer::Refused(not_finite_here);
+        return overflow(place);
     }
     let more = square * w;
     if not_finite(more) {
-        return Answer::Refused(not_finite_here);
+        return overflow(place);
     }
     let sum = total + more;
     if not_finite(sum) {
-        return Answer::Refused(not_finite_here);
+        return overflow(place);
     }
     Answer::Value(sum)
 }
@@ -90,29 +87,15 @@ pub fn hull_white_piecewise_variance(
 fn step_variance(alpha: f64, sigma_times: &[f64], sigmas: &[f64], time_step: f64, k: u32) -> Answer
     ensures { λ r. ⌜ r ≡ stepVariance (modelOf alpha (now («sigma_times» .entry)) (now (sigmas .entry))) «time_step» k ⌝ }
 {
-    let not_finite_here = Refusal {
-        number: Refusal::NOT_FINITE,
-        place: k,
-    };
     let start = (k as f64) * time_step;
     if not_finite(start) {
-        return Answer::Refused(not_finite_here);
+        return overflow(k);
     }
     let end = start + time_step;
     if not_finite(end) {
-        return Answer::Refused(not_finite_here);
+        return overflow(k);
     }
     hull_white_piecewise_variance(alpha, sigma_times, sigmas, start, end, k)
-}
-
-// A refusal met on the way is handed up unchanged.
-pub fn carried(found: Answer) -> Check
-    ensures { λ r. ⌜ r ≡ carriedOf found ⌝ }
-{
-    match found {
-        Answer::Value(_) => Check::Passed,
-        Answer::Refused(refusal) => Check::Refused(refusal),
-    }
 }
 
 // The variances of all steps, in front of the row.
@@ -131,7 +114,7 @@ pub fn transition_variances(
     while k < steps {
         let found = step_variance(alpha, sigma_times, sigmas, time_step, k);
         let Answer::Value(v) = found else {
-            return carried(found);
+            return refused_by(found);
         };
         variances[k as usize] = v;
         k += 1;

@@ -3,8 +3,8 @@
 use elementary::exp::exp_at;
 use elementary::exp_m1::exp_m1_at;
 use floats::Answer;
-use floats::Refusal;
 use floats::finite::not_finite;
+use floats::refusals::overflow;
 ghost use mathlib.Core.Path.{_≡_};
 ghost use Rattle.hullwhite.specs.Variance.{noDecay, decayingWeight, weight};
 
@@ -19,21 +19,17 @@ fn no_decay(alpha: f64) -> bool
 fn decaying_weight(alpha: f64, lower: f64, upper: f64, end: f64, place: u32) -> Answer
     ensures { λ r. ⌜ r ≡ decayingWeight alpha lower upper end place ⌝ }
 {
-    let not_finite_here = Refusal {
-        number: Refusal::NOT_FINITE,
-        place,
-    };
     let rate = -2.0 * alpha;
     if not_finite(rate) {
-        return Answer::Refused(not_finite_here);
+        return overflow(place);
     }
     let after = end - upper;
     if not_finite(after) {
-        return Answer::Refused(not_finite_here);
+        return overflow(place);
     }
     let x = rate * after;
     if not_finite(x) {
-        return Answer::Refused(not_finite_here);
+        return overflow(place);
     }
     let decayed = exp_at(x, place);
     let Answer::Value(left) = decayed else {
@@ -41,11 +37,11 @@ fn decaying_weight(alpha: f64, lower: f64, upper: f64, end: f64, place: u32) -> 
     };
     let length = upper - lower;
     if not_finite(length) {
-        return Answer::Refused(not_finite_here);
+        return overflow(place);
     }
     let y = rate * length;
     if not_finite(y) {
-        return Answer::Refused(not_finite_here);
+        return overflow(place);
     }
     let gain = exp_m1_at(y, place);
     let Answer::Value(grown) = gain else {
@@ -53,15 +49,15 @@ fn decaying_weight(alpha: f64, lower: f64, upper: f64, end: f64, place: u32) -> 
     };
     let both = left * -grown;
     if not_finite(both) {
-        return Answer::Refused(not_finite_here);
+        return overflow(place);
     }
     let twice = 2.0 * alpha;
     if not_finite(twice) {
-        return Answer::Refused(not_finite_here);
+        return overflow(place);
     }
     let quotient = both / twice;
     if not_finite(quotient) {
-        return Answer::Refused(not_finite_here);
+        return overflow(place);
     }
     Answer::Value(quotient)
 }
@@ -73,10 +69,7 @@ pub fn weight(alpha: f64, lower: f64, upper: f64, end: f64, place: u32) -> Answe
     if no_decay(alpha) {
         let length = upper - lower;
         if not_finite(length) {
-            return Answer::Refused(Refusal {
-                number: Refusal::NOT_FINITE,
-                place,
-            });
+            return overflow(place);
         }
         return Answer::Value(length);
     }

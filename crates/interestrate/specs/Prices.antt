@@ -61,7 +61,7 @@ compoundly rate time frequency =
 
 -- exp(−rate × time), and −time × it.
 unfoldable pub continuously : Float → Float → YieldPrice
-unfolding expAt mul neg
+unfolding mul neg
 continuously rate time =
     finitely (mul binary64 (neg rate) time) λ x.
     fromAnswer (expAt x 0) λ discount.

@@ -3,7 +3,6 @@ use floats::Refusal;
 
 pub mod prices;
 pub mod rates;
-pub mod refusals;
 
 // How often interest is compounded in a year.
 pub enum Frequency {

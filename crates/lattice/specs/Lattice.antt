@@ -48,7 +48,7 @@ spacingOf variance place = whenFinite (mul binary64 variance (float 3)) place λ
 
 -- Per step 22 is tried, then the new spacing and the two divisors.
 unfoldable pub stepOf : Float → Float → Float → ℕ → Outcome Step
-unfolding sqrtAt mul le
+unfolding mul le
 stepOf spacing decay variance k =
     cond (le variance epsilon) (refuse 22 k)
     (valued (spacingOf variance k) λ new.
@@ -106,7 +106,7 @@ decayOf alpha dt = whenFinite (mul binary64 (neg alpha) dt) 0 λ x. expAt x 0
 
 -- Spacing 0 and 1 both come from variance 0. Layer 0 is tried after decay and spacing 0.
 unfoldable pub curved : Room → Float → Float → List Float → Outcome Lattice
-unfolding grown expAt sqrtAt mul neg
+unfolding grown mul neg
 curved room alpha dt [] = given (record { layers = []; final = rootLayer })
 curved room alpha dt (v ∷ vs) =
     valued (decayOf alpha dt) λ decay.

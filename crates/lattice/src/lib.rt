@@ -1,5 +1,8 @@
 // The trinomial tree: what its layers and transitions are, and the transition of one node.
 use floats::Refusal;
+ghost use mathlib.Core.Path.{_≡_};
+ghost use Rattle.lattice.specs.laws.MadeSteps.{stepRefusal};
+ghost use Rattle.lattice.specs.laws.Growing.{layerRefusal};
 
 pub mod node;
 pub mod reach;
@@ -28,6 +31,21 @@ pub enum NextLayer {
     Refused(Refusal),
 }
 
+impl NextLayer {
+    // Its number and place, both 0 where it is laid.
+    pub fn refusal(self) -> Refusal
+        ensures { λ r. ⌜ r ≡ layerRefusal self ⌝ }
+    {
+        match self {
+            NextLayer::Laid(_, _) => Refusal {
+                number: 0,
+                place: 0,
+            },
+            NextLayer::Refused(refusal) => refusal,
+        }
+    }
+}
+
 // A step's new spacing and its two divisors; or a refusal.
 pub enum MadeStep {
     Made(f64, f64, f64),
@@ -37,4 +55,17 @@ pub enum MadeStep {
 impl MadeStep {
     // 2^−52: a variance at or below it is none.
     pub const EPSILON: f64 = 2.220446049250313e-16;
+
+    // Its number and place, both 0 where it is made.
+    pub fn refusal(self) -> Refusal
+        ensures { λ r. ⌜ r ≡ stepRefusal self ⌝ }
+    {
+        match self {
+            MadeStep::Made(_, _, _) => Refusal {
+                number: 0,
+                place: 0,
+            },
+            MadeStep::Refused(refusal) => refusal,
+        }
+    }
 }

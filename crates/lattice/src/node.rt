@@ -5,12 +5,13 @@ use crate::Transition;
 use floats::Refusal;
 use floats::finite::not_finite;
 use floats::max::greater;
+use floats::refusals::overflow_refusal;
 use floats::round::near;
 ghost use mathlib.Core.Path.{_≡_};
 ghost use Rattle.floats.specs.laws.Cuts.{IsWhole};
 ghost use Rattle.lattice.specs.Transitions.{clamped, middleOf, transitionOf};
 ghost use Rattle.lattice.specs.laws.Bounds.{Within};
-ghost use Rattle.lattice.specs.laws.Making.{madeOutcome, middleOutcome, stepFrom, shares, chances, centred, held};
+ghost use Rattle.lattice.specs.laws.Making.{madeOutcome, middleOutcome, middleRefusal, stepFrom, shares, chances, centred, held};
 
 impl Transition {
     // A middle node lies within ±1,000,000.
@@ -21,6 +22,21 @@ impl Transition {
 pub enum MadeMiddle {
     Made(Middle),
     Refused(Refusal),
+}
+
+impl MadeMiddle {
+    // Its number and place, both 0 where it is made.
+    pub fn refusal(self) -> Refusal
+        ensures { λ r. ⌜ r ≡ middleRefusal self ⌝ }
+    {
+        match self {
+            MadeMiddle::Made(_) => Refusal {
+                number: 0,
+                place: 0,
+            },
+            MadeMiddle::Refused(refusal) => refusal,
+        }
+    }
 }
 
 // A transition, or the refusal that was met.
@@ -34,10 +50,7 @@ fn shares(middle: i32, d: f64, m: f64, u: f64, place: u32) -> MadeTransition
     requires { ⌜ Within middle ⌝ }
     ensures { λ r. ⌜ madeOutcome r ≡ shares middle d m u place ⌝ }
 {
-    let not_finite_here = Refusal {
-        number: Refusal::NOT_FINITE,
-        place,
-    };
+    let not_finite_here = overflow_refusal(place);
     let part = d + m;
     if not_finite(part) {
         return MadeTransition::Refused(not_finite_here);
@@ -90,10 +103,7 @@ fn probabilities(
     requires { ⌜ Within middle ⌝ }
     ensures { λ r. ⌜ madeOutcome r ≡ chances middle error denominator scale place ⌝ }
 {
-    let not_finite_here = Refusal {
-        number: Refusal::NOT_FINITE,
-        place,
-    };
+    let not_finite_here = overflow_refusal(place);
     let too_low = Refusal {
         number: Refusal::PROBABILITY,
         place,
@@ -147,10 +157,7 @@ fn centred(m: Middle, new_spacing: f64, denominator: f64, scale: f64, place: u32
     requires { ⌜ Within (m .node) ⌝ }
     ensures { λ r. ⌜ madeOutcome r ≡ centred m «new_spacing» denominator scale place ⌝ }
 {
-    let not_finite_here = Refusal {
-        number: Refusal::NOT_FINITE,
-        place,
-    };
+    let not_finite_here = overflow_refusal(place);
     let middle = m.middle;
     let expectation = m.expectation;
     let node = m.node;
@@ -191,10 +198,7 @@ fn held(expectation: f64, middle: f64, place: u32) -> MadeMiddle
 pub fn middle_of(spacing: f64, decay: f64, new_spacing: f64, place: u32, node: i32) -> MadeMiddle
     ensures { λ r. ⌜ middleOutcome r ≡ middleOf spacing decay «new_spacing» place node ⌝ }
 {
-    let not_finite_here = Refusal {
-        number: Refusal::NOT_FINITE,
-        place,
-    };
+    let not_finite_here = overflow_refusal(place);
     let state = spacing * (node as f64);
     if not_finite(state) {
         return MadeMiddle::Refused(not_finite_here);
@@ -224,8 +228,8 @@ pub fn transition_of(
     ensures { λ r. ⌜ madeOutcome r ≡ transitionOf (stepFrom spacing decay «new_spacing» denominator scale place) node ⌝ }
 {
     let made = middle_of(spacing, decay, new_spacing, place, node);
-    match made {
-        MadeMiddle::Made(m) => centred(m, new_spacing, denominator, scale, place),
-        MadeMiddle::Refused(refusal) => MadeTransition::Refused(refusal),
-    }
+    let MadeMiddle::Made(m) = made else {
+        return MadeTransition::Refused(made.refusal());
+    };
+    centred(m, new_spacing, denominator, scale, place)
 }

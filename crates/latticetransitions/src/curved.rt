@@ -4,13 +4,13 @@ use elementary::exp::exp_at;
 use floats::Answer;
 use floats::Refusal;
 use floats::finite::not_finite;
+use floats::refusals::overflow;
 use lattice::NextLayer;
-use lattice::refusals::overflow;
-use lattice::refusals::row_refused;
 use layers::grow::grow;
 use layers::grow::has_room;
 use layers::grow::spacing_of;
 use terms::Check;
+use terms::refusing::refused_by;
 ghost use mathlib.Core.Path.{_≡_};
 ghost use mathlib.Core.Bool.{false};
 ghost use Prim.Native.Nat.{_+_, _^_, _<_, _≤_};
@@ -60,26 +60,24 @@ fn layers(
         one,
         two,
     );
-    match next {
-        NextLayer::Laid(new_spacing, new_count) => {
-            let pairs = count * 2;
-            let threes = count * 3;
-            layers(
-                decay,
-                new_spacing,
-                step + 1,
-                new_count,
-                &variances[1..],
-                &mut counts[1..],
-                &mut spacings[1..],
-                &mut nodes[pairs..],
-                &mut probabilities[threes..],
-                one,
-                two,
-            )
-        }
-        NextLayer::Refused(q) => Check::Refused(q),
-    }
+    let NextLayer::Laid(new_spacing, new_count) = next else {
+        return Check::Refused(next.refusal());
+    };
+    let pairs = count * 2;
+    let threes = count * 3;
+    layers(
+        decay,
+        new_spacing,
+        step + 1,
+        new_count,
+        &variances[1..],
+        &mut counts[1..],
+        &mut spacings[1..],
+        &mut nodes[pairs..],
+        &mut probabilities[threes..],
+        one,
+        two,
+    )
 }
 
 // exp(−alpha × dt).
@@ -150,11 +148,11 @@ pub fn curved_tree(
 {
     let found = decay_of(alpha, dt);
     let Answer::Value(decay) = found else {
-        return row_refused(found);
+        return refused_by(found);
     };
     let first = spacing_of(variances[0], 0);
     let Answer::Value(spacing) = first else {
-        return row_refused(first);
+        return refused_by(first);
     };
     rooted(
         decay,

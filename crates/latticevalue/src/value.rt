@@ -4,6 +4,7 @@ use bondevents::BondEventGrid;
 use bondevents::marks::marks_of;
 use bondevents::marks::prices_of;
 use floats::Answer;
+use floats::refusals::refusal_of;
 use latticetransitions::transitions::node_count;
 use rollback::walking::root_value;
 use treebasedbondpricer::TreeValue;
@@ -20,26 +21,16 @@ ghost use Rattle.hullwhite.specs.laws.Filled.{modelOf};
 ghost use Rattle.lattice.specs.laws.Growing.{roomLeft};
 ghost use Rattle.backwardinduction.specs.laws.WalkMore.{callsOf};
 ghost use Rattle.treebasedbondpricer.specs.laws.FittedIn.{fittedOver};
-ghost use Rattle.treebasedbondpricer.specs.laws.Valued.{treeOf, unfitValue, countedValue, walked};
-
-// A refusal met on the way is handed up unchanged.
-fn unfit_value(tree: FittedTree) -> TreeValue
-    ensures { λ r. ⌜ r ≡ unfitValue tree ⌝ }
-{
-    match tree {
-        FittedTree::Fitted(_, _) => TreeValue::Value(0.0, 0),
-        FittedTree::Refused(refusal) => TreeValue::Refused(refusal),
-    }
-}
+ghost use Rattle.treebasedbondpricer.specs.laws.Valued.{treeOf, countedValue, walked};
 
 // The root's value beside the node count, or the refusal.
 fn counted_value(answer: Answer, count: u64) -> TreeValue
     ensures { λ r. ⌜ r ≡ countedValue answer count ⌝ }
 {
-    match answer {
-        Answer::Value(value) => TreeValue::Value(value, count),
-        Answer::Refused(refusal) => TreeValue::Refused(refusal),
-    }
+    let Answer::Value(value) = answer else {
+        return TreeValue::Refused(refusal_of(answer));
+    };
+    TreeValue::Value(value, count)
 }
 
 // Fit, then walk. Counts, spacings and shifts have room for the steps.
@@ -84,7 +75,7 @@ fn value_over(
         second,
     );
     let FittedTree::Fitted(dt, flat) = f else {
-        return unfit_value(f);
+        return TreeValue::Refused(f.refusal());
     };
     let answer = root_value(
         nodes,

@@ -6,6 +6,9 @@ use crate::layers::spread;
 use floats::Answer;
 use floats::Refusal;
 use floats::finite::not_finite;
+use floats::refusals::overflow;
+use floats::refusals::overflow_refusal;
+use floats::refusals::refusal_of;
 use lattice::MadeStep;
 use lattice::NextLayer;
 use rounded::sqrt::sqrt_at;
@@ -32,10 +35,7 @@ pub fn spacing_of(variance: f64, place: u32) -> Answer
 {
     let x = variance * 3.0;
     if not_finite(x) {
-        return Answer::Refused(Refusal {
-            number: Refusal::NOT_FINITE,
-            place,
-        });
+        return overflow(place);
     }
     sqrt_at(x, place)
 }
@@ -44,10 +44,7 @@ pub fn spacing_of(variance: f64, place: u32) -> Answer
 fn divisors(variance: f64, new_spacing: f64, place: u32) -> MadeStep
     ensures { λ r. ⌜ DivisorsMade variance «new_spacing» place r ⌝ }
 {
-    let not_finite_here = Refusal {
-        number: Refusal::NOT_FINITE,
-        place,
-    };
+    let not_finite_here = overflow_refusal(place);
     let denominator = variance * 6.0;
     if not_finite(denominator) {
         return MadeStep::Refused(not_finite_here);
@@ -70,10 +67,10 @@ fn step_of(variance: f64, place: u32) -> MadeStep
         });
     }
     let found = spacing_of(variance, place);
-    match found {
-        Answer::Value(new_spacing) => divisors(variance, new_spacing, place),
-        Answer::Refused(refusal) => MadeStep::Refused(refusal),
-    }
+    let Answer::Value(new_spacing) = found else {
+        return MadeStep::Refused(refusal_of(found));
+    };
+    divisors(variance, new_spacing, place)
 }
 
 // Whether a layer of `next` nodes behind `count` others fits slices and rows of these lengths.
@@ -187,20 +184,20 @@ pub fn grow(
     ensures { λ r. ⌜ GrownLayer (grownNext (roomLeft (now (nodes .entry)) (now (probabilities .entry)) one two) decay spacing (numbersIn (frontNodes count (now (nodes .entry)))) step variance) count r (now (nodes .entry)) (now (nodes .exit)) (now (probabilities .entry)) (now (probabilities .exit)) ⌝ }
 {
     let made = step_of(variance, step);
-    match made {
-        MadeStep::Made(new_spacing, denominator, scale) => grow_by(
-            spacing,
-            decay,
-            new_spacing,
-            denominator,
-            scale,
-            step,
-            count,
-            nodes,
-            probabilities,
-            one,
-            two,
-        ),
-        MadeStep::Refused(refusal) => NextLayer::Refused(refusal),
-    }
+    let MadeStep::Made(new_spacing, denominator, scale) = made else {
+        return NextLayer::Refused(made.refusal());
+    };
+    grow_by(
+        spacing,
+        decay,
+        new_spacing,
+        denominator,
+        scale,
+        step,
+        count,
+        nodes,
+        probabilities,
+        one,
+        two,
+    )
 }

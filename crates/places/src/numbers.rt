@@ -1,9 +1,10 @@
 // Refusal 4: units, alpha, spread, amounts, strikes, sigma, factors.
 use crate::Whose;
+use terms::limits::Alpha;
 use terms::limits::CallEntries;
 use terms::limits::Cashflows;
-use terms::limits::PillarEntries;
 use terms::limits::SigmaEntries;
+use terms::limits::Spread;
 use terms::limits::Units;
 use terms::lists::number_at;
 use terms::numbers::not_above_at;
@@ -60,10 +61,10 @@ pub fn whose_field(units: f64, alpha: f64, spread: f64) -> Whose
     if not_above(Units::MOST, units) {
         return Whose::Units;
     }
-    if not_within(SigmaEntries::ALPHA, alpha) {
+    if not_within(Alpha::MOST, alpha) {
         return Whose::Alpha;
     }
-    if not_within(PillarEntries::SPREAD, spread) {
+    if not_within(Spread::MOST, spread) {
         return Whose::Spread;
     }
     Whose::Nobody

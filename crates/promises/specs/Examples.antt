@@ -11,6 +11,7 @@ use Rattle.floats.specs.declared.Answer.{Answer}
 use Rattle.floats.specs.declared.Answer.the-variants as answer
 use Rattle.floats.specs.Answers.{plusZero, one, onAnswer}
 use Rattle.floats.specs.Whole.{roundAlone, rounded}
+use Rattle.rounded.specs.Root.{sqrtAt}
 use Rattle.elementary.specs.Exponential.{expAlone, expAt}
 use Rattle.elementary.specs.Logarithm.{lnAlone, lnAt}
 use Rattle.rounded.specs.Fused.{mulAddAlone, mulAdd}
@@ -138,7 +139,7 @@ pub record Starred : Type 0 where
   pub slices : lentAfter market99 (callFrom 0 365) lent ≡ zeroed lent
 
 pub starred : Starred
-unfolding gridAnswer axisOf rawStep varianceOver lattice treeValue lentAfter rounded expAt lnAt mulAdd onAnswer onOutcome onCheck lowest paidInto ieee.ofBits ieee.add ieee.sub ieee.mul ieee.div ieee.neg ieee.lt ieee.le ieee.ofInt ieee.toUnsigned
+unfolding gridAnswer axisOf rawStep varianceOver lattice treeValue lentAfter rounded expAt lnAt sqrtAt mulAdd onAnswer onOutcome onCheck lowest paidInto ieee.ofBits ieee.add ieee.sub ieee.mul ieee.div ieee.neg ieee.lt ieee.le ieee.ofInt ieee.toUnsigned
 starred =
     record {
       twelve-steps = refl;

@@ -5,10 +5,11 @@ use mathlib.Core.Logic.{_↔_, _⊎_}
 use mathlib.Core.List.{List}
 use lib.Dec.{T}
 use lib.Ieee.{Float, le}
-use Rattle.terms.specs.Terms.{CallSchedule, Market, withSpread}
+use Rattle.terms.specs.Terms.{CallSchedule, Market}
 use Rattle.terms.specs.CallLists.{MadeFrom, Reordered, StrikeAbove}
 use Rattle.bondevents.specs.Grid.{gridAnswer}
 use Rattle.treebasedbondpricer.specs.Tree.{Lent, roomOf}
+use Rattle.spreads.specs.Spreads.{quoting}
 use Rattle.host.specs.Handed.{HandedGrid, HandedTree, HandedSpread}
 
 -- ---- one call of each function: what is lent, what is left there, and what is handed back
@@ -34,7 +35,7 @@ pub record TreeCall (m : Market) (calls : CallSchedule) : Type 0 where
   pub nodes : ℕ
   pub handed : HandedTree m calls lent left number place value nodes
 
--- gutirapeo_spread_from_price, with a target in the spread's place
+-- gutirapeo_spread_from_price, with a target in place of the spread
 pub record SpreadCall (m : Market) (target : Float) (calls : CallSchedule) : Type 0 where
   pub lent : Lent
   pub left : Lent
@@ -42,7 +43,7 @@ pub record SpreadCall (m : Market) (target : Float) (calls : CallSchedule) : Typ
   pub place : ℕ
   pub spread : Float
   pub tried : ℕ
-  pub handed : HandedSpread (withSpread m target) calls lent left number place spread tried
+  pub handed : HandedSpread (quoting m target) calls lent left number place spread tried
 
 -- ---- the call-list rule
 

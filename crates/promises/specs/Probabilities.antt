@@ -18,7 +18,7 @@ use Rattle.lattice.specs.laws.Proper.{Each}
 use Rattle.chances.specs.Unclamped.{leastProbability, stepOver, middleOf, downOf, midOf, upOf, EveryResultFinite}
 use Rattle.treebasedbondpricer.specs.Tree.{treeValue, numberOf}
 use Rattle.brackets.specs.Brackets.{rootNumber}
-use Rattle.spreads.specs.Spreads.{spreadFromPrice}
+use Rattle.spreads.specs.Spreads.{Quoted, spreadFromPrice}
 
 -- 0.04 is given as the double nearest to it, which as a fraction is not below 4/100.
 pub record FourHundredths : Type 0 where
@@ -62,4 +62,4 @@ BetweenZeroAndOne =
 -- 24 is never given, whatever the input.
 pub record NeverGiven24 : Type 0 where
   pub tree-value : (m : Market) (calls : CallSchedule) (room : Room) → numberOf (treeValue m calls room) ≡ 24 → ⊥
-  pub spread-from-price : (m : Market) (calls : CallSchedule) (room : Room) → rootNumber (spreadFromPrice m calls room) ≡ 24 → ⊥
+  pub spread-from-price : (asked : Quoted) (calls : CallSchedule) (room : Room) → rootNumber (spreadFromPrice asked calls room) ≡ 24 → ⊥

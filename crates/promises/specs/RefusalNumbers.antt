@@ -11,7 +11,7 @@ use Rattle.lattice.specs.laws.Proper.{Each}
 use Rattle.treebasedbondpricer.specs.declared.TreeValue.the-variants as tree
 use Rattle.treebasedbondpricer.specs.Tree.{treeValue}
 use Rattle.brackets.specs.declared.Root.the-variants as root
-use Rattle.spreads.specs.Spreads.{spreadFromPrice}
+use Rattle.spreads.specs.Spreads.{Quoted, spreadFromPrice}
 
 abbrev pub member : ℕ → List ℕ → Bool
 member n [] = false
@@ -34,8 +34,8 @@ TreeNumbers = (m : Market) (calls : CallSchedule) (room : Room) (q : Refusal) �
 
 abbrev pub SpreadNumbers : Type 0
 SpreadNumbers =
-    (m : Market) (calls : CallSchedule) (room : Room) (q : Refusal) (n : ℕ)
-    → spreadFromPrice m calls room ≡ root.Refused q n
+    (asked : Quoted) (calls : CallSchedule) (room : Room) (q : Refusal) (n : ℕ)
+    → spreadFromPrice asked calls room ≡ root.Refused q n
     → Among spreadRefusals (q .number)
 
 -- Terms that the tree value refuses with this number.

@@ -4,6 +4,7 @@ use backwardinduction::walk::Rates;
 use backwardinduction::walk::roll;
 use bondevents::CallStep;
 use floats::Answer;
+use forwardinduction::rows::current;
 use terms::Check;
 ghost use mathlib.Core.Path.{_≡_};
 ghost use Prim.Native.Nat.{_+_, _^_, _<_, _≤_};
@@ -212,7 +213,8 @@ pub fn root_value(
         second,
     );
     let Check::Refused(q) = behind else {
-        return Answer::Value(first[0]);
+        let row = current(first, second, 0, 1);
+        return Answer::Value(row[0]);
     };
     Answer::Refused(q)
 }

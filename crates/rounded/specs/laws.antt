@@ -10,3 +10,4 @@ pub mod RootBounds
 pub mod Midpoints
 pub mod MidpointUnits
 pub mod NearestRoot
+pub mod Refusing

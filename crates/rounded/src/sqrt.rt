@@ -13,6 +13,7 @@ use crate::split::split;
 use floats::Answer;
 use floats::Refusal;
 use floats::finite::not_finite;
+use floats::refusals::overflow;
 
 // The root of high × 2^64 + low, doubled, and 1 more where something is cut off.
 fn doubled(start: u64, high: u64, low: u64) -> u64
@@ -57,10 +58,7 @@ pub fn sqrt_at(x: f64, place: u32) -> Answer
     ensures { λ r. ⌜ r ≡ sqrtAt x place ⌝ }
 {
     if not_finite(x) {
-        return Answer::Refused(Refusal {
-            number: Refusal::NOT_FINITE,
-            place,
-        });
+        return overflow(place);
     }
     if x < 0.0 {
         return Answer::Refused(Refusal {

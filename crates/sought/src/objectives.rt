@@ -4,10 +4,11 @@ use crate::Sought;
 use floats::Answer;
 use floats::Refusal;
 use floats::finite::not_finite;
+use floats::refusals::overflow;
 use interestrate::YieldPrice;
 use interestrate::prices::yield_price_and_derivative;
 use rollback::walking::root_value;
-use terms::limits::PillarEntries;
+use terms::limits::Spread;
 use terms::ranges::not_within;
 ghost use mathlib.Core.Path.{_≡_};
 ghost use mathlib.Core.List.{[]};
@@ -23,10 +24,7 @@ fn above_target(value: f64, target: f64) -> Answer
 {
     let above = value - target;
     if not_finite(above) {
-        return Answer::Refused(Refusal {
-            number: Refusal::NOT_FINITE,
-            place: 0,
-        });
+        return overflow(0);
     }
     Answer::Value(above)
 }
@@ -67,7 +65,7 @@ fn at_spread(
             place: 0,
         });
     }
-    if not_within(PillarEntries::SPREAD, spread) {
+    if not_within(Spread::MOST, spread) {
         return Answer::Refused(Refusal {
             number: Refusal::NUMBER,
             place: 0,

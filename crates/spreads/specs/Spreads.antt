@@ -7,7 +7,8 @@ use Rattle.floats.specs.declared.Refusal.{Refusal}
 use Rattle.floats.specs.declared.Answer.{Answer}
 use Rattle.floats.specs.declared.Answer.the-variants as answer
 use Rattle.floats.specs.Answers.{one, refusal, tested}
-use Rattle.terms.specs.Terms.{CallSchedule, Market, withSpread}
+use Rattle.terms.specs.declared.Check.{Check}
+use Rattle.terms.specs.Terms.{Leg, CallSchedule, SigmaSchedule, Pillars, Bond, TimeGrid, HullWhite, Market}
 use Rattle.terms.specs.Checks.{onCheck}
 use Rattle.terms.specs.Entries.{spreadChecks}
 use Rattle.treebasedbondpricer.specs.declared.TreeValue.{TreeValue}
@@ -24,28 +25,81 @@ unfoldable pub onTreeValue : {A : Type 0} → TreeValue → (Refusal → A) → 
 onTreeValue (tree.Value x n) f g = g x
 onTreeValue (tree.Refused r) f g = f r
 
+-- ---- what is asked
+
+-- What spread from price takes, but for the call entries and the lent slices: the tree value's terms, with a target in place of a spread.
+pub record Quoted : Type 0 where
+  pub settlement : ℕ
+  pub bond : Bond
+  pub controls : TimeGrid
+  pub model : HullWhite
+  pub target : Float
+  pub pillars : Pillars
+
+-- The tree value's terms with a spread.
+abbrev pub atSpread : Quoted → Float → Market
+atSpread q s =
+    record {
+      settlement = q .settlement;
+      bond = q .bond;
+      controls = q .controls;
+      model = q .model;
+      spread = s;
+      pillars = q .pillars;
+    }
+
+-- Terms of the tree value with a target in place of their spread.
+abbrev pub quoting : Market → Float → Quoted
+quoting m target =
+    record {
+      settlement = m .settlement;
+      bond = m .bond;
+      controls = m .controls;
+      model = m .model;
+      target = target;
+      pillars = m .pillars;
+    }
+
+-- The tree value's checks. Among 4's single fields the target, within ±1e15, is tried where the spread would be.
+abbrev pub quotedChecks : Quoted → CallSchedule → Check
+quotedChecks q calls = spreadChecks (atSpread q (q .target)) calls
+
+-- ---- the answer
+
 -- Tree value less target. 36: a spread tried above 1. Any other refuses as a value call would.
-unfoldable pub spreadObjective : Market → CallSchedule → Room → Float → Float → Answer
+unfoldable pub spreadObjective : Quoted → CallSchedule → Room → Float → Answer
 unfolding treeValue onTreeValue sub lt
-spreadObjective m calls room target s =
+spreadObjective q calls room s =
     cond (lt one s) (refusal 36 0)
-    (onTreeValue (treeValue (withSpread m s) calls room) answer.Refused λ x. tested (sub binary64 x target) 0)
+    (onTreeValue (treeValue (atSpread q s) calls room) answer.Refused λ x. tested (sub binary64 x (q .target)) 0)
 
 -- The bracket rules from −0.05 and 0.10, lowest −1.
-abbrev pub solveSpread : Market → CallSchedule → Room → Float → Root
-solveSpread m calls room target = bracketedRoot (spreadObjective m calls room target) firstLower firstUpper (neg one)
+abbrev pub solveSpread : Quoted → CallSchedule → Room → Root
+solveSpread q calls room = bracketedRoot (spreadObjective q calls room) firstLower firstUpper (neg one)
 
--- The spread and the number of spreads tried, 0 where the input is refused. The target stands where the spread stood.
-unfoldable pub spreadFromPrice : Market → CallSchedule → Room → Root
+-- The spread and the number of spreads tried, 0 where the input is refused.
+unfoldable pub spreadFromPrice : Quoted → CallSchedule → Room → Root
 unfolding spreadChecks bracketedRoot spreadObjective
-spreadFromPrice m calls room = onCheck (spreadChecks m calls) (λ r. root.Refused r 0) (solveSpread m calls room (m .spread))
+spreadFromPrice q calls room = onCheck (quotedChecks q calls) (λ r. root.Refused r 0) (solveSpread q calls room)
 
 -- Untouched after an input refusal; all zero after everything else.
-unfoldable pub lentAfter : Market → CallSchedule → Lent → Lent
+unfoldable pub lentAfter : Quoted → CallSchedule → Lent → Lent
 unfolding spreadChecks
-lentAfter m calls l = onCheck (spreadChecks m calls) (λ r. l) (zeroed l)
+lentAfter q calls l = onCheck (quotedChecks q calls) (λ r. l) (zeroed l)
 
 -- What the entry promises: the spread, the tries, the refusal, and the end content of the lent slices.
-pub record Solved (m : Market) (calls : CallSchedule) (answer : Root) (before after : Lent) : Type 0 where
-  pub root : answer ≡ spreadFromPrice m calls (roomOf before)
-  pub slices : after ≡ lentAfter m calls before
+pub record Solved (q : Quoted) (calls : CallSchedule) (answer : Root) (before after : Lent) : Type 0 where
+  pub root : answer ≡ spreadFromPrice q calls (roomOf before)
+  pub slices : after ≡ lentAfter q calls before
+
+-- What a call brings, gathered.
+abbrev pub quotedIn : ℕ → Leg → Float → ℕ → ℕ → Float → SigmaSchedule → Float → Pillars → Quoted
+quotedIn settlement leg units yearly maximum alpha sigma target pillars =
+    record {
+      settlement = settlement;
+      bond = record { leg = leg; units = units };
+      controls = record { perYear = yearly; maximum = maximum };
+      model = record { alpha = alpha; sigma = sigma };
+      target = target;
+      pillars = pillars;
+    }

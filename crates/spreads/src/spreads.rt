@@ -26,33 +26,13 @@ ghost use Rattle.terms.specs.Outcomes.{finiteThen};
 ghost use Rattle.hullwhite.specs.laws.Filled.{modelOf};
 ghost use Rattle.backwardinduction.specs.laws.WalkMore.{callsOf};
 ghost use Rattle.treebasedbondpricer.specs.laws.FittedIn.{fittedOver};
-ghost use Rattle.spreads.specs.Spreads.{Solved};
+ghost use Rattle.spreads.specs.Spreads.{Solved, quotedIn};
 ghost use Rattle.spreads.specs.laws.SpreadTree.{foundOver};
-ghost use Rattle.spreads.specs.laws.SpreadSolved.{foundFor, unfitRoot, uncheckedRoot};
-ghost use Rattle.terms.specs.Slices.{legIn, callsIn, sigmaIn, pillarsIn, marketIn};
+ghost use Rattle.spreads.specs.laws.SpreadSolved.{foundFor};
+ghost use Rattle.terms.specs.Slices.{legIn, callsIn, sigmaIn, pillarsIn};
 ghost use Rattle.treebasedbondpricer.specs.Slices.{lentIn, lentOut, roomIn};
 
-// What is refused before the walk is met at the first try.
-fn unfit_root(tree: FittedTree) -> Root
-    ensures { λ r. ⌜ r ≡ unfitRoot tree ⌝ }
-{
-    match tree {
-        FittedTree::Fitted(_, _) => Root::Found(0.0, 0),
-        FittedTree::Refused(refusal) => Root::Refused(refusal, 1),
-    }
-}
-
-// A check's refusal, with the tries that were made.
-fn unchecked_root(check: Check, tried: u32) -> Root
-    ensures { λ r. ⌜ r ≡ uncheckedRoot check tried ⌝ }
-{
-    match check {
-        Check::Passed => Root::Found(0.0, 0),
-        Check::Refused(refusal) => Root::Refused(refusal, tried),
-    }
-}
-
-// Fit once, then the root. Counts, spacings and shifts have room for the steps.
+// Fit once, then the root. What is refused before the walk is met at the first try. Counts, spacings and shifts have room for the steps.
 fn solve_over(
     maturity: f64,
     steps: u32,
@@ -99,7 +79,7 @@ fn solve_over(
         second,
     );
     let FittedTree::Fitted(dt, flat) = f else {
-        return unfit_root(f);
+        return Root::Refused(f.refusal(), 1);
     };
     let sought = Sought {
         priced: Priced::Spread,
@@ -213,7 +193,7 @@ fn checked_spread(
     requires { ⌜ (length (now ends) ≡ length (now starts)) × (length (now strikes) ≡ length (now starts)) ⌝ }
     requires { ⌜ length (now pillars) ≤ 256 ⌝ }
     ensures { λ r. ⌜ r ≡ foundFor
-        (marketIn settlement (legIn days kinds amounts) units yearly maximum alpha (sigmaIn times sigmas) target (pillarsIn pillars factors))
+        (quotedIn settlement (legIn days kinds amounts) units yearly maximum alpha (sigmaIn times sigmas) target (pillarsIn pillars factors))
         (callsIn starts ends strikes)
         (roomIn nodes probabilities first second) ⌝ }
 {
@@ -230,9 +210,9 @@ fn checked_spread(
         maximum,
     );
     let check = answer.check;
-    let Check::Passed = check else {
-        return unchecked_root(check, 1);
-    };
+    if let Check::Refused(refusal) = check {
+        return Root::Refused(refusal, 1);
+    }
     let grid = answer.grid;
     let curve_times = pillar_times(settlement, pillars);
     solve_grid(
@@ -274,7 +254,7 @@ pub fn spread_from_price(
     second_row: &mut [f64],
 ) -> Root
     ensures { λ r. ⌜ Solved
-        (marketIn settlement (legIn «cashflow_days» «cashflow_kinds» «cashflow_amounts») units «steps_per_year» «max_steps» alpha
+        (quotedIn settlement (legIn «cashflow_days» «cashflow_kinds» «cashflow_amounts») units «steps_per_year» «max_steps» alpha
         (sigmaIn «sigma_times» sigmas) target (pillarsIn «pillar_days» «pillar_factors»))
         (callsIn «call_starts» «call_ends» «call_strikes»)
         r
@@ -299,9 +279,9 @@ pub fn spread_from_price(
         pillar_days,
         pillar_factors,
     );
-    let Check::Passed = check else {
-        return unchecked_root(check, 0);
-    };
+    if let Check::Refused(refusal) = check {
+        return Root::Refused(refusal, 0);
+    }
     let root = checked_spread(
         settlement,
         cashflow_days,

@@ -6,7 +6,8 @@ use lib.ListN.{length, getD}
 use lib.Dec.{eqb, ltb, leb}
 use lib.Ieee.{Float, neg, lt, le}
 use Rattle.floats.specs.declared.Refusal.{Refusal}
-use Rattle.floats.specs.Answers.{plusZero, notFinite}
+use Rattle.floats.specs.declared.Answer.{Answer}
+use Rattle.floats.specs.Answers.{plusZero, onAnswer, notFinite}
 use Rattle.terms.specs.declared.Check.{Check}
 use Rattle.terms.specs.declared.Check.the-variants.{Passed, Refused}
 use Rattle.terms.specs.Numbers.{float, amountLimit, million}
@@ -17,6 +18,10 @@ use Rattle.terms.specs.Terms.{Leg, CallSchedule, SigmaSchedule, Pillars,
 unfoldable pub onCheck {ℓ} : {A : Type ℓ} → Check → (Refusal → A) → A → A
 onCheck Passed f a = a
 onCheck (Refused r) f a = f r
+
+-- What an answer refuses; a value refuses nothing.
+abbrev pub refusedBy : Answer → Check
+refusedBy a = onAnswer a Refused λ x. Passed
 
 -- The first refusal of a list of checks.
 unfoldable pub firstOf : List Check → Check

@@ -22,7 +22,6 @@ onLine t t0 l0 t1 l1 place =
 
 -- exp of the linear rule over ln of the two factors.
 unfoldable pub between : Float → Float → Float → Float → Float → ℕ → Answer
-unfolding lnAt expAt
 between t t0 d0 t1 d1 place =
     andThen (lnAt d0 place) λ l0.
     andThen (lnAt d1 place) λ l1.

@@ -5,8 +5,8 @@ use crate::time::year_fraction;
 use elementary::exp::exp_at;
 use elementary::ln::ln_at;
 use floats::Answer;
-use floats::Refusal;
 use floats::finite::not_finite;
+use floats::refusals::overflow;
 ghost use mathlib.Core.Path.{_≡_};
 ghost use Prim.Native.Nat.{_+_, _<_, _≤_};
 ghost use lib.Ieee.{lt};
@@ -20,45 +20,27 @@ fn on_line(t: f64, t0: f64, l0: f64, t1: f64, l1: f64, place: u32) -> Answer
 {
     let rise = l1 - l0;
     if not_finite(rise) {
-        return Answer::Refused(Refusal {
-            number: Refusal::NOT_FINITE,
-            place,
-        });
+        return overflow(place);
     }
     let part = t - t0;
     if not_finite(part) {
-        return Answer::Refused(Refusal {
-            number: Refusal::NOT_FINITE,
-            place,
-        });
+        return overflow(place);
     }
     let all = t1 - t0;
     if not_finite(all) {
-        return Answer::Refused(Refusal {
-            number: Refusal::NOT_FINITE,
-            place,
-        });
+        return overflow(place);
     }
     let share = part / all;
     if not_finite(share) {
-        return Answer::Refused(Refusal {
-            number: Refusal::NOT_FINITE,
-            place,
-        });
+        return overflow(place);
     }
     let more = rise * share;
     if not_finite(more) {
-        return Answer::Refused(Refusal {
-            number: Refusal::NOT_FINITE,
-            place,
-        });
+        return overflow(place);
     }
     let x = l0 + more;
     if not_finite(x) {
-        return Answer::Refused(Refusal {
-            number: Refusal::NOT_FINITE,
-            place,
-        });
+        return overflow(place);
     }
     Answer::Value(x)
 }

@@ -1,9 +1,9 @@
 // The checks of single fields, whose place is 0.
 
 use crate::Check;
+use crate::limits::Alpha;
 use crate::limits::GridSettings;
-use crate::limits::PillarEntries;
-use crate::limits::SigmaEntries;
+use crate::limits::Spread;
 use crate::limits::Units;
 use crate::ranges::no_day;
 use crate::ranges::not_above;
@@ -59,12 +59,12 @@ pub fn within(limit: f64, x: f64) -> Check
 pub fn alpha_range(alpha: f64) -> Check
     ensures { λ r. ⌜ r ≡ checks.within (float 10) alpha ⌝ }
 {
-    within(SigmaEntries::ALPHA, alpha)
+    within(Alpha::MOST, alpha)
 }
 
 // 4: the spread.
 pub fn spread_range(spread: f64) -> Check
     ensures { λ r. ⌜ r ≡ checks.within (float 1) spread ⌝ }
 {
-    within(PillarEntries::SPREAD, spread)
+    within(Spread::MOST, spread)
 }

@@ -49,7 +49,14 @@ impl CallEntries {
     pub const STRIKE: f64 = 1e6;
 }
 
-// Alpha within ±10; 1 to 64 sigma entries: time 0 to 600, sigma 0 to 10.
+// Alpha within ±10.
+pub struct Alpha;
+
+impl Alpha {
+    pub const MOST: f64 = 10.0;
+}
+
+// 1 to 64 sigma entries: time 0 to 600, sigma 0 to 10.
 pub struct SigmaEntries;
 
 impl SigmaEntries {
@@ -60,11 +67,9 @@ impl SigmaEntries {
     pub const TIME: f64 = 600.0;
 
     pub const SIGMA: f64 = 10.0;
-
-    pub const ALPHA: f64 = 10.0;
 }
 
-// 2 to 256 pillars: factor within ±1000. Spread within ±1.
+// 2 to 256 pillars: factor within ±1000.
 pub struct PillarEntries;
 
 impl PillarEntries {
@@ -73,8 +78,13 @@ impl PillarEntries {
     pub const MOST: usize = 256;
 
     pub const FACTOR: f64 = 1000.0;
+}
 
-    pub const SPREAD: f64 = 1.0;
+// Spread within ±1.
+pub struct Spread;
+
+impl Spread {
+    pub const MOST: f64 = 1.0;
 }
 
 // A yield that is given within ±1e6.

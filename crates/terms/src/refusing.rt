@@ -1,6 +1,7 @@
 // How a cause becomes a check: refused with its number and place.
 
 use crate::Check;
+use floats::Answer;
 use floats::Refusal;
 ghost use mathlib.Core.Path.{_≡_};
 ghost use Prim.Native.Nat.{_≤_};
@@ -27,4 +28,14 @@ pub fn single(number: u32, bad: bool) -> Check
         return Check::Refused(Refusal { number, place: 0 });
     }
     Check::Passed
+}
+
+// A refusal met on the way is handed up unchanged.
+pub fn refused_by(answer: Answer) -> Check
+    ensures { λ r. ⌜ r ≡ checks.refusedBy answer ⌝ }
+{
+    match answer {
+        Answer::Value(_) => Check::Passed,
+        Answer::Refused(refusal) => Check::Refused(refusal),
+    }
 }

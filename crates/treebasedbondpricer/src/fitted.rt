@@ -2,6 +2,7 @@
 
 use floats::Refusal;
 use floats::finite::not_finite;
+use floats::refusals::overflow_refusal;
 use forwardinduction::fitting::fit_tree;
 use hullwhite::variance::transition_variances;
 use latticetransitions::flat::all_flat;
@@ -16,7 +17,7 @@ ghost use Rattle.terms.specs.Curve.{curveOver};
 ghost use Rattle.terms.specs.Outcomes.{finiteThen};
 ghost use Rattle.hullwhite.specs.laws.Filled.{modelOf};
 ghost use Rattle.lattice.specs.laws.Growing.{roomLeft};
-ghost use Rattle.treebasedbondpricer.specs.laws.FittedIn.{FitsTree, fittedWith, fittedOver, unfittedOf};
+ghost use Rattle.treebasedbondpricer.specs.laws.FittedIn.{FitsTree, fittedWith, fittedOver, treeRefusal};
 
 // Fitted: time_step, and whether the tree is flat. Its layers stand in the lent slices, counts, spacings and shifts beside them.
 pub enum FittedTree {
@@ -24,13 +25,18 @@ pub enum FittedTree {
     Refused(Refusal),
 }
 
-// A refusal met on the way is handed up unchanged.
-fn unfitted(check: Check) -> FittedTree
-    ensures { λ r. ⌜ r ≡ unfittedOf check ⌝ }
-{
-    match check {
-        Check::Passed => FittedTree::Fitted(0.0, false),
-        Check::Refused(refusal) => FittedTree::Refused(refusal),
+impl FittedTree {
+    // Its number and place, both 0 where it is fitted.
+    pub fn refusal(self) -> Refusal
+        ensures { λ r. ⌜ r ≡ treeRefusal self ⌝ }
+    {
+        match self {
+            FittedTree::Fitted(_, _) => Refusal {
+                number: 0,
+                place: 0,
+            },
+            FittedTree::Refused(refusal) => refusal,
+        }
     }
 }
 
@@ -66,9 +72,9 @@ fn fitted_with(
         one,
         two,
     );
-    let Check::Passed = l else {
-        return unfitted(l);
-    };
+    if let Check::Refused(refusal) = l {
+        return FittedTree::Refused(refusal);
+    }
     let flat = all_flat(variances);
     let s = fit_tree(
         nodes,
@@ -83,9 +89,9 @@ fn fitted_with(
         second,
         shifts,
     );
-    let Check::Passed = s else {
-        return unfitted(s);
-    };
+    if let Check::Refused(refusal) = s {
+        return FittedTree::Refused(refusal);
+    }
     FittedTree::Fitted(dt, flat)
 }
 
@@ -112,9 +118,9 @@ fn fitted_over(
     ensures { λ r. ⌜ FitsTree (fittedOver (curveOver (now («curve_times» .entry)) (now (factors .entry))) (modelOf alpha (now (times .entry)) (now (sigmas .entry))) (roomLeft (now (nodes .entry)) (now (probabilities .entry)) (length (now (first .entry))) (length (now (second .entry)))) steps dt) (length (now (first .entry))) (length (now (second .entry))) (now (counts .exit)) (now (spacings .exit)) (now (shifts .exit)) (now (nodes .exit)) (now (probabilities .exit)) r ⌝ }
 {
     let v = transition_variances(alpha, times, sigmas, steps, dt, variances);
-    let Check::Passed = v else {
-        return unfitted(v);
-    };
+    if let Check::Refused(refusal) = v {
+        return FittedTree::Refused(refusal);
+    }
     fitted_with(
         dt,
         alpha,
@@ -154,10 +160,7 @@ pub fn fitted_tree(
 {
     let dt = maturity / (steps as f64);
     if not_finite(dt) {
-        return FittedTree::Refused(Refusal {
-            number: Refusal::NOT_FINITE,
-            place: 0,
-        });
+        return FittedTree::Refused(overflow_refusal(0));
     }
     let mut variances = [0.0; 512];
     fitted_over(

@@ -12,19 +12,9 @@ ghost use mathlib.Core.Path.{_≡_};
 ghost use Prim.Native.Nat.{_≤_};
 ghost use lib.ListN.{length};
 ghost use Rattle.treebasedbondpricer.specs.Entry.{Entered};
-ghost use Rattle.treebasedbondpricer.specs.laws.Entered.{uncheckedOf, valueOn};
+ghost use Rattle.treebasedbondpricer.specs.laws.Entered.{valueOn};
 ghost use Rattle.terms.specs.Slices.{legIn, callsIn, sigmaIn, pillarsIn, marketIn};
 ghost use Rattle.treebasedbondpricer.specs.Slices.{lentIn, lentOut, roomIn};
-
-// A refusal met on the way is handed up unchanged.
-fn unchecked(check: Check) -> TreeValue
-    ensures { λ r. ⌜ r ≡ uncheckedOf check ⌝ }
-{
-    match check {
-        Check::Passed => TreeValue::Value(0.0, 0),
-        Check::Refused(refusal) => TreeValue::Refused(refusal),
-    }
-}
 
 // The grid of checked terms, then the tree.
 pub fn checked_value(
@@ -71,9 +61,9 @@ pub fn checked_value(
         maximum,
     );
     let check = answer.check;
-    let Check::Passed = check else {
-        return unchecked(check);
-    };
+    if let Check::Refused(refusal) = check {
+        return TreeValue::Refused(refusal);
+    }
     let grid = answer.grid;
     let curve_times = pillar_times(settlement, pillars);
     lattice_value(
@@ -140,9 +130,9 @@ pub fn tree_value(
         pillar_days,
         pillar_factors,
     );
-    let Check::Passed = check else {
-        return unchecked(check);
-    };
+    if let Check::Refused(refusal) = check {
+        return TreeValue::Refused(refusal);
+    }
     let value = checked_value(
         settlement,
         cashflow_days,

@@ -29,7 +29,7 @@ sumOf low down mid middle high up place =
 
 -- exp((shift + spacing × node + spread) × −time_step).
 unfoldable pub discountWith : Rates → Float → ℕ → Answer
-unfolding expAt add mul neg
+unfolding add mul neg
 discountWith r node place =
     whenFinite (mul binary64 (r .spacing) node) place λ state.
     whenFinite (add binary64 (r .shift) state) place λ rate.

@@ -19,9 +19,6 @@ enum-told c = search answers
 returns : tie.Need-returns
 returns c = search (answers, no-reference)
 
-refused-requires : tie.Need-refused-requires
-refused-requires c κs = search answers
-
 returns-2 : tie.Need-returns-2
 returns-2 c = search (answers, at-settlement)
 
@@ -40,7 +37,6 @@ discounted-value-spec =
     enum-known-a
     enum-told
     returns
-    refused-requires
     returns-2
     all-flows-requires
     returns-3)

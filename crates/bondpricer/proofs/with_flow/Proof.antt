@@ -22,8 +22,8 @@ returns c = search (answers, no-factor)
 not-finite-requires : tie.Need-not-finite-requires
 not-finite-requires c κs = search answers
 
-refused-requires : tie.Need-refused-requires
-refused-requires c κs = search answers
+overflow-requires : tie.Need-overflow-requires
+overflow-requires c κs = search answers
 
 returns-2 : tie.Need-returns-2
 returns-2 c = search (answers, at-time) depth 20 fits 4000
@@ -31,8 +31,8 @@ returns-2 c = search (answers, at-time) depth 20 fits 4000
 not-finite-requires-2 : tie.Need-not-finite-requires-2
 not-finite-requires-2 c κs = search answers
 
-refused-requires-2 : tie.Need-refused-requires-2
-refused-requires-2 c κs = search answers
+overflow-requires-2 : tie.Need-overflow-requires-2
+overflow-requires-2 c κs = search answers
 
 returns-3 : tie.Need-returns-3
 returns-3 c = search (answers, at-time) depth 20 fits 4000
@@ -52,8 +52,8 @@ returns-4 c = search (answers, at-time) depth 20 fits 4000
 not-finite-requires-3 : tie.Need-not-finite-requires-3
 not-finite-requires-3 c κs = search answers
 
-refused-requires-3 : tie.Need-refused-requires-3
-refused-requires-3 c κs = search answers
+overflow-requires-3 : tie.Need-overflow-requires-3
+overflow-requires-3 c κs = search answers
 
 returns-5 : tie.Need-returns-5
 returns-5 c = search (answers, at-time) depth 20 fits 4000
@@ -61,20 +61,20 @@ returns-5 c = search (answers, at-time) depth 20 fits 4000
 not-finite-requires-4 : tie.Need-not-finite-requires-4
 not-finite-requires-4 c κs = search answers
 
-refused-requires-4 : tie.Need-refused-requires-4
-refused-requires-4 c κs = search answers
+overflow-requires-4 : tie.Need-overflow-requires-4
+overflow-requires-4 c κs = search answers
 
 returns-6 : tie.Need-returns-6
-returns-6 c = search (answers, at-time, c .before .before .before .before .before .before .before .before .before .before .before .before .before .before .before .before .before .year-fraction .ensures, c .before .before .before .before .before .before .before .before .before .before .before .before .before .before .before .before .curve-at .ensures, c .before .before .before .before .before .before .before .before .before .before .before .before .before .before .a .given .1, c .before .before .before .before .before .before .before .before .before .before .before .before .not-finite .ensures, c .before .before .before .before .before .before .before .before .before .before .before .if1 .left, c .before .before .before .before .before .before .before .before .before .before .not-finite2 .ensures, c .before .before .before .before .before .before .before .before .before .if2 .left, c .before .before .before .before .before .before .before .before .exp-at .ensures, c .before .before .before .before .before .before .e .given .1, c .before .before .before .before .not-finite3 .ensures, c .before .before .before .if3 .left, c .before .before .not-finite4 .ensures, c .before .if4 .taken, c .refused4 .ensures) depth 30 fits 4000
+returns-6 c = search (answers, at-time, c .before .before .before .before .before .before .before .before .before .before .before .before .before .before .before .before .before .year-fraction .ensures, c .before .before .before .before .before .before .before .before .before .before .before .before .before .before .before .before .curve-at .ensures, c .before .before .before .before .before .before .before .before .before .before .before .before .before .before .a .given .1, c .before .before .before .before .before .before .before .before .before .before .before .before .not-finite .ensures, c .before .before .before .before .before .before .before .before .before .before .before .if1 .left, c .before .before .before .before .before .before .before .before .before .before .not-finite2 .ensures, c .before .before .before .before .before .before .before .before .before .if2 .left, c .before .before .before .before .before .before .before .before .exp-at .ensures, c .before .before .before .before .before .before .e .given .1, c .before .before .before .before .not-finite3 .ensures, c .before .before .before .if3 .left, c .before .before .not-finite4 .ensures, c .before .if4 .taken, c .overflow4 .ensures) depth 30 fits 4000
 
 not-finite-requires-5 : tie.Need-not-finite-requires-5
 not-finite-requires-5 c κs = search answers
 
-refused-requires-5 : tie.Need-refused-requires-5
-refused-requires-5 c κs = search answers
+overflow-requires-5 : tie.Need-overflow-requires-5
+overflow-requires-5 c κs = search answers
 
 returns-7 : tie.Need-returns-7
-returns-7 c = search (answers, at-time, c .before .before .before .before .before .before .before .before .before .before .before .before .before .before .before .before .before .before .before .year-fraction .ensures, c .before .before .before .before .before .before .before .before .before .before .before .before .before .before .before .before .before .before .curve-at .ensures, c .before .before .before .before .before .before .before .before .before .before .before .before .before .before .before .before .a .given .1, c .before .before .before .before .before .before .before .before .before .before .before .before .before .before .not-finite .ensures, c .before .before .before .before .before .before .before .before .before .before .before .before .before .if1 .left, c .before .before .before .before .before .before .before .before .before .before .before .before .not-finite2 .ensures, c .before .before .before .before .before .before .before .before .before .before .before .if2 .left, c .before .before .before .before .before .before .before .before .before .before .exp-at .ensures, c .before .before .before .before .before .before .before .before .e .given .1, c .before .before .before .before .before .before .not-finite3 .ensures, c .before .before .before .before .before .if3 .left, c .before .before .before .before .not-finite4 .ensures, c .before .before .before .if4 .left, c .before .before .not-finite5 .ensures, c .before .if5 .taken, c .refused5 .ensures) depth 30 fits 4000
+returns-7 c = search (answers, at-time, c .before .before .before .before .before .before .before .before .before .before .before .before .before .before .before .before .before .before .before .year-fraction .ensures, c .before .before .before .before .before .before .before .before .before .before .before .before .before .before .before .before .before .before .curve-at .ensures, c .before .before .before .before .before .before .before .before .before .before .before .before .before .before .before .before .a .given .1, c .before .before .before .before .before .before .before .before .before .before .before .before .before .before .not-finite .ensures, c .before .before .before .before .before .before .before .before .before .before .before .before .before .if1 .left, c .before .before .before .before .before .before .before .before .before .before .before .before .not-finite2 .ensures, c .before .before .before .before .before .before .before .before .before .before .before .if2 .left, c .before .before .before .before .before .before .before .before .before .before .exp-at .ensures, c .before .before .before .before .before .before .before .before .e .given .1, c .before .before .before .before .before .before .not-finite3 .ensures, c .before .before .before .before .before .if3 .left, c .before .before .before .before .not-finite4 .ensures, c .before .before .before .if4 .left, c .before .before .not-finite5 .ensures, c .before .if5 .taken, c .overflow5 .ensures) depth 30 fits 4000
 
 returns-8 : tie.Need-returns-8
 returns-8 c = search (answers, at-time, c .before .before .before .before .before .before .before .before .before .before .before .before .before .before .before .before .before .before .year-fraction .ensures, c .before .before .before .before .before .before .before .before .before .before .before .before .before .before .before .before .before .curve-at .ensures, c .before .before .before .before .before .before .before .before .before .before .before .before .before .before .before .a .given .1, c .before .before .before .before .before .before .before .before .before .before .before .before .before .not-finite .ensures, c .before .before .before .before .before .before .before .before .before .before .before .before .if1 .left, c .before .before .before .before .before .before .before .before .before .before .before .not-finite2 .ensures, c .before .before .before .before .before .before .before .before .before .before .if2 .left, c .before .before .before .before .before .before .before .before .before .exp-at .ensures, c .before .before .before .before .before .before .before .e .given .1, c .before .before .before .before .before .not-finite3 .ensures, c .before .before .before .before .if3 .left, c .before .before .before .not-finite4 .ensures, c .before .before .if4 .left, c .before .not-finite5 .ensures, c .if5 .left) depth 30 fits 4000
@@ -89,22 +89,22 @@ with-flow-spec =
     enum-told
     returns
     not-finite-requires
-    refused-requires
+    overflow-requires
     returns-2
     not-finite-requires-2
-    refused-requires-2
+    overflow-requires-2
     returns-3
     exp-at-requires
     enum-known-e
     enum-told-2
     returns-4
     not-finite-requires-3
-    refused-requires-3
+    overflow-requires-3
     returns-5
     not-finite-requires-4
-    refused-requires-4
+    overflow-requires-4
     returns-6
     not-finite-requires-5
-    refused-requires-5
+    overflow-requires-5
     returns-7
     returns-8)

@@ -15,7 +15,7 @@ use Rattle.brackets.specs.declared.Halved.the-variants as halved
 use Rattle.brackets.specs.declared.Root.{Root}
 use Rattle.brackets.specs.declared.Root.the-variants as root
 use Rattle.brackets.specs.Brackets.{raised, widen, halve, onWidened, onHalved, halving, settled, widening, bracketedRoot, evaluationsOf}
-use Rattle.brackets.specs.laws.Cases.{Holds, cases}
+use Rattle.floats.specs.laws.Cases.{Holds, cases}
 
 -- ---- the count that an outcome carries, and a bound on it
 

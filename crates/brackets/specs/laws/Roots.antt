@@ -18,7 +18,7 @@ use Rattle.brackets.specs.declared.Halved.the-variants as halved
 use Rattle.brackets.specs.declared.Root.{Root}
 use Rattle.brackets.specs.declared.Root.the-variants.{Found, Refused}
 use Rattle.brackets.specs.Brackets.{small, bracketed, raised, widen, halve, onWidened, onHalved, halving, settled, widening, bracketedRoot}
-use Rattle.brackets.specs.laws.Cases.{Holds, cases}
+use Rattle.floats.specs.laws.Cases.{Holds, cases}
 
 -- ---- tests of floats
 

@@ -11,8 +11,7 @@ use lib.Ieee.Scale.{finite}
 use Rattle.floats.specs.Answers.{plusZero, onAnswer, notFinite}
 use Rattle.floats.specs.laws.Order.{not-le-of-lt}
 use Rattle.floats.specs.laws.Whole.{round-answers}
-use Rattle.rounded.specs.Root.{rootOf, sqrtAt}
-use Rattle.rounded.specs.laws.RootBounds.{rootOf-bounds}
+use Rattle.rounded.specs.laws.RootBounds.{sqrtAt-is}
 use Rattle.terms.specs.Numbers.{float, epsilon, million}
 use Rattle.terms.specs.Outcomes.{given, onOutcome}
 use Rattle.lattice.specs.Transitions.{Step, tooFar, clamped, probabilities, transitionOf}
@@ -42,13 +41,12 @@ module _ (spacing decay variance : Float) (k : ℕ) (n : ℤ) (above : T (lt eps
   module _ (f : EveryResultFinite variance (stepOver spacing decay variance k) n) where
     -- 22 isn't met, and no result of the step is refused
     pub step-made : stepOf spacing decay variance k ≡ given (stepOver spacing decay variance k)
-    unfolding stepOf sqrtAt onAnswer
+    unfolding stepOf onAnswer
     step-made =
         rw (
           is-false (le variance epsilon) (not-T (le variance epsilon) (λ l. not-le-of-lt epsilon variance above l)),
           is-finite (mul binary64 variance (float 3)) (f .tripled),
-          not-lt (mul binary64 variance (float 3)) plusZero (x-above variance above (f .tripled) (f .denominator)),
-          is-finite (rootOf (mul binary64 variance (float 3))) (rootOf-bounds (mul binary64 variance (float 3)) (f .tripled) .is-finite),
+          sqrtAt-is (mul binary64 variance (float 3)) k (f .tripled) (not-lt (mul binary64 variance (float 3)) plusZero (x-above variance above (f .tripled) (f .denominator))),
           is-finite (s .denominator) (f .denominator),
           is-finite (s .scale) (f .scale),
         )

@@ -18,8 +18,9 @@ use Rattle.floats.specs.laws.Order as order
 use Rattle.floats.specs.laws.Order.{number-of-finite, not-le-of-lt, lt-of-not-le, T-of-not}
 use Rattle.floats.specs.laws.Finite.{finite-of-mul}
 use Rattle.floats.specs.laws.Whole.{round-answers}
-use Rattle.elementary.specs.laws.Values.{passed, finite-passed, value-of}
-use Rattle.rounded.specs.Root.{rootOf, sqrtAt}
+use Rattle.elementary.specs.laws.Values.{passed}
+use Rattle.rounded.specs.Root.{rootOf}
+use Rattle.rounded.specs.laws.RootBounds.{sqrtAt-root}
 use Rattle.terms.specs.Numbers.{float, epsilon, tolerance}
 use Rattle.terms.specs.Outcomes.{Outcome, given, refused, onOutcome, follow, refuse, valued}
 use Rattle.terms.specs.laws.Outcomes.{Gives, gives, nothing, given-of, gives-finite}
@@ -136,14 +137,10 @@ abbrev pub SpacedStep : Step → Type 0
 SpacedStep s = Spaced (s .newSpacing) (s .denominator) (s .scale)
 
 spacing-value : (v : Float) (place : ℕ) (new : Float) → spacingOf v place ≡ Value new → T (finite (mul binary64 v (float 3))) × (rootOf (mul binary64 v (float 3)) ≡ new)
-unfolding sqrtAt
 spacing-value v place new e =
     let x = mul binary64 v (float 3) in
-    let a = passed (notFinite x) 27 place _ new e in
-    let b = passed (notFinite x) 27 place _ new (a .1) in
-    let c = passed (lt x plusZero) 26 place _ new (b .1) in
-    let d = value-of (rootOf x) place new (c .1) in
-    (finite-passed x (a .0), d .1)
+    let r = sqrtAt-root x place new (passed (notFinite x) 27 place _ new e .1) in
+    (r .of-finite, r .is-root)
 
 module _ {A : Type 0} {P : A → Type 0} where
   gives-passed : (b : Bool) (r : Refusal) (o : Outcome A) → (b ≡ false → Gives P o) → Gives P (cond b (refused r) o)

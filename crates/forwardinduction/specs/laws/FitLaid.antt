@@ -16,13 +16,13 @@ use Rattle.terms.specs.declared.Check.{Check}
 use Rattle.terms.specs.declared.Check.the-variants.{Passed}
 use Rattle.terms.specs.Outcomes.{Outcome, given, refused, onOutcome, follow}
 use Rattle.terms.specs.laws.Outcomes.{same-given, given-or-refused, follow-given, follow-refused}
+use Rattle.terms.specs.Checks.{refusedBy}
 use Rattle.hullwhite.specs.laws.Filled.{checkOf}
 use Rattle.lattice.specs.Layers.{At}
 use Rattle.lattice.specs.Lattice.{rootLayer}
 use Rattle.forwardinduction.specs.Fit.{shiftsFrom}
 use Rattle.lattice.specs.laws.Stored.{numbersIn, rowOf}
 use Rattle.lattice.specs.laws.Rows.{Both}
-use Rattle.lattice.specs.laws.Rows as rows
 use Rattle.forwardinduction.specs.laws.Advances.{Moved, stepAt}
 use Rattle.lattice.specs.laws.Parts.{partFrom, part-from, withPart, with-rest}
 use Rattle.lattice.specs.laws.Laid.{frontNodes, layersIn, Laid, last-laid, more-laid}
@@ -66,7 +66,7 @@ module _ (curve : Float → ℕ → Answer) (dt : Float) where
 
     module _ {s : Answer} (e : movedOf s left ≡ one-step) where
       -- the step refused
-      pub found-refused : {q : Refusal} (r : Check) (shifts : List Float) → s ≡ answer.Refused q → r ≡ rows.checkOf s → Found whole r shifts
+      pub found-refused : {q : Refusal} (r : Check) (shifts : List Float) → s ≡ answer.Refused q → r ≡ refusedBy s → Found whole r shifts
       unfolding onAnswer checkOf
       found-refused {q} r shifts v f =
           let w : whole ≡ refused q = turn ∙ follow-refused one-step _ (sym e ∙ rw v) in

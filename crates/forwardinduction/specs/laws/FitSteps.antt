@@ -24,7 +24,7 @@ use Rattle.lattice.specs.laws.Binds.{binds}
 
 -- One more price in the sum: the new total. The node's number is a float already.
 unfoldable pub weighOne : Float → Float → ℕ → Float → Float → Float → Answer
-unfolding expAt add mul neg
+unfolding add mul neg
 weighOne spacing dt place node price total =
     whenFinite (mul binary64 (neg node) dt) place λ x.
     whenFinite (mul binary64 spacing x) place λ y.
@@ -41,7 +41,7 @@ weighted-more spacing dt place a row total = sym (search binds depth 10)
 
 -- From the sum and the curve's factor: 25, the quotient, ln, and the shift.
 unfoldable pub shiftFrom : Float → ℕ → Float → Float → Answer
-unfolding lnAt div le
+unfolding div le
 shiftFrom dt place sum factor =
     cond (le factor plusZero) (refusal 25 place)
     (whenFinite (div binary64 sum factor) place λ quotient.
@@ -51,7 +51,7 @@ shiftFrom dt place sum factor =
 
 -- exp((shift + spacing × node) × −time_step) × state price.
 unfoldable pub discountedOf : Float → Float → Float → ℕ → Float → Float → Answer
-unfolding expAt add mul neg
+unfolding add mul neg
 discountedOf spacing dt shift place node price =
     whenFinite (mul binary64 spacing node) place λ state.
     whenFinite (add binary64 shift state) place λ rate.

@@ -13,9 +13,10 @@ use Rattle.floats.specs.Answers.{onAnswer}
 use Rattle.terms.specs.declared.Check.{Check}
 use Rattle.terms.specs.declared.Check.the-variants.{Passed, Refused}
 use Rattle.terms.specs.Terms.{HullWhite}
+use Rattle.terms.specs.Checks.{refusedBy}
 use Rattle.terms.specs.Outcomes.{Outcome, given, refused, follow, valued}
 use Rattle.hullwhite.specs.Variance.{stepVariance, variancesFrom}
-use Rattle.hullwhite.specs.laws.Filled.{Filled, Filling, carriedOf, filling-none, filling-refused, filling-done, filling-more}
+use Rattle.hullwhite.specs.laws.Filled.{Filled, Filling, filling-none, filling-refused, filling-done, filling-more}
 
 module _ (model : HullWhite) (dt : Float) where
   -- step k's variance, and then those of the steps after it
@@ -42,7 +43,7 @@ module _ (model : HullWhite) (dt : Float) where
   reached-none steps row h = record { within = omega arith; room = h; filling = let e : steps - 0 ≡ steps = omega arith in rw e (filling-none (variancesFrom model dt steps 0) row) }
 
   module _ (steps : ℕ) (before after : List Float) (k : ℕ) (r : Reached steps before after k) where
-    pub reached-refused : {a : Answer} {q : Check} {p : Refusal} → k < steps → a ≡ stepVariance model dt k → a ≡ answer.Refused p → q ≡ carriedOf a → Filled (variancesFrom model dt steps 0) q before after
+    pub reached-refused : {a : Answer} {q : Check} {p : Refusal} → k < steps → a ≡ stepVariance model dt k → a ≡ answer.Refused p → q ≡ refusedBy a → Filled (variancesFrom model dt steps 0) q before after
     unfolding onAnswer
     reached-refused h e g c =
         let w = variances-more steps k h in

@@ -25,10 +25,6 @@ unfoldable pub checkOf : {A : Type 0} → Outcome A → Check
 checkOf (given x) = Passed
 checkOf (refused r) = Refused r
 
-abbrev pub carriedOf : Answer → Check
-carriedOf (answer.Value x) = Passed
-carriedOf (answer.Refused r) = Refused r
-
 -- The list stands in front of the row; the rest of it is as before.
 pub record Filled (o : Outcome (List Float)) (r : Check) (before after : List Float) : Type 0 where
   pub outcome : r ≡ checkOf o

@@ -6,6 +6,7 @@ use lib.Dec.{T}
 use lib.ListN.{length, drop}
 use lib.IntN.{ℤ}
 use lib.Ieee.{Float, le}
+use Rattle.floats.specs.declared.Refusal.{Refusal}
 use Rattle.floats.specs.Answers.{plusZero}
 use Rattle.terms.specs.Outcomes.{Outcome, given, refused, follow}
 use Rattle.lattice.specs.declared.Transition.{Transition}
@@ -45,6 +46,11 @@ sizeOf g = record { spacing = g .spacing; count = length (destinations (g .trans
 unfoldable pub nextOutcome : NextLayer → Outcome Size
 nextOutcome (next.Laid s n) = given (record { spacing = s; count = n })
 nextOutcome (next.Refused r) = refused r
+
+-- 01's number and place: 0 and 0 where a layer is laid.
+abbrev pub layerRefusal : NextLayer → Refusal
+layerRefusal (next.Laid s n) = record { number = 0; place = 0 }
+layerRefusal (next.Refused r) = r
 
 -- A layer in front that can grow: its parts are there, its numbers rise, and neither spacing nor decay is below 0.
 pub record Front (c : ℕ) (spacing decay : Float) (nodes : List ℤ) (probabilities : List Float) : Type 0 where

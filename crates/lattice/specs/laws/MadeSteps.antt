@@ -3,6 +3,7 @@ use Prim.Native.Nat.{ℕ}
 use mathlib.Core.Path.{_≡_, refl}
 use mathlib.Core.Bool.{cond}
 use lib.Ieee.{Float, binary64, mul, le, ofBits, ofInt}
+use Rattle.floats.specs.declared.Refusal.{Refusal}
 use Rattle.floats.specs.Answers.{two, whenFinite}
 use Rattle.rounded.specs.Root.{sqrtAt}
 use Rattle.terms.specs.Numbers.{float, epsilon}
@@ -29,6 +30,11 @@ spacing-is variance place = rw (← three-is)
 abbrev pub stepOutcome : Float → Float → ℕ → MadeStep → Outcome Step
 stepOutcome spacing decay place (Made new denominator scale) = given (stepFrom spacing decay new denominator scale place)
 stepOutcome spacing decay place (Refused r) = refused r
+
+-- 01's number and place: 0 and 0 where a step is made.
+abbrev pub stepRefusal : MadeStep → Refusal
+stepRefusal (Made new denominator scale) = record { number = 0; place = 0 }
+stepRefusal (Refused r) = r
 
 -- From the new spacing on.
 unfoldable pub stepWith : Float → Float → Float → Float → ℕ → Outcome Step

@@ -7,6 +7,7 @@ use lib.Dec.{T}
 use lib.IntN.{ℤ, predℤ, sucℤ}
 use lib.Ieee.{Float, binary64, add, sub, mul, div, toSigned, ofBits, ofInt, fits}
 use lib.Ieee.Scale.{finite}
+use Rattle.floats.specs.declared.Refusal.{Refusal}
 use Rattle.floats.specs.Answers.{plusZero, one, two, notFinite, onAnswer}
 use Rattle.floats.specs.Extremes.{maxOf}
 use Rattle.floats.specs.Whole.{roundAt, rounded}
@@ -31,6 +32,11 @@ madeOutcome (Refused r) = refused r
 abbrev pub middleOutcome : MadeMiddle → Outcome Middle
 middleOutcome (middle.Made m) = given m
 middleOutcome (middle.Refused r) = refused r
+
+-- 01's number and place: 0 and 0 where a middle is made.
+abbrev pub middleRefusal : MadeMiddle → Refusal
+middleRefusal (middle.Made m) = record { number = 0; place = 0 }
+middleRefusal (middle.Refused r) = r
 
 abbrev pub stepFrom : Float → Float → Float → Float → Float → ℕ → Step
 stepFrom spacing decay new denominator scale place =

@@ -16,6 +16,7 @@ use Rattle.elementary.specs.Exponential.{expAt}
 use Rattle.elementary.specs.laws.Values.{exp-value}
 use Rattle.terms.specs.declared.Check.{Check}
 use Rattle.terms.specs.declared.Check.the-variants as check
+use Rattle.terms.specs.Checks.{refusedBy}
 use Rattle.terms.specs.Outcomes.{Outcome, refused, valued, refuse}
 use Rattle.terms.specs.laws.Outcomes.{given-or-refused, valued-value, valued-refused}
 use Rattle.hullwhite.specs.laws.Filled.{checkOf}
@@ -27,7 +28,6 @@ use Rattle.lattice.specs.laws.Laid.{frontNodes}
 use Rattle.lattice.specs.laws.LaidTree.{LaysTree}
 use Rattle.lattice.specs.laws.Growing.{Front, roomLeft}
 use Rattle.lattice.specs.laws.RoomTest.{fitting}
-use Rattle.lattice.specs.laws.Rows.{checkOf as rowCheck}
 
 -- The tree once decay and spacing 0 are known.
 unfoldable pub fromRoot : Room → Float → Float → List Float → Outcome Lattice
@@ -116,6 +116,6 @@ module _ (room : Room) (alpha dt : Float) (variances : List Float) (some : 0 < l
   pub from-root : {found first : Answer} {decay spacing : Float} → found ≡ decayOf alpha dt → found ≡ Value decay → first ≡ spacingOf (getD variances 0 nan) 0 → first ≡ Value spacing → curved room alpha dt variances ≡ fromRoot room decay spacing variances
   from-root e f g h = after-decay e f ∙ valued-value (spacingOf (getD variances 0 nan) 0) _ (sym g ∙ h)
 
-pub refused-row : {found : Answer} {r : Check} {q : Refusal} → r ≡ rowCheck found → found ≡ Refused q → r ≡ check.Refused q
+pub refused-row : {found : Answer} {r : Check} {q : Refusal} → r ≡ refusedBy found → found ≡ Refused q → r ≡ check.Refused q
 unfolding onAnswer
 refused-row e f = e ∙ rw f

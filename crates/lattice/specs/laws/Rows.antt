@@ -5,8 +5,6 @@ use mathlib.Core.List.{List}
 use lib.ListN.{take}
 use lib.Dec.{eqb}
 use lib.Ieee.{Float}
-use Rattle.floats.specs.declared.Answer.{Answer}
-use Rattle.floats.specs.Answers.{onAnswer}
 use Rattle.terms.specs.declared.Check.{Check}
 use Rattle.terms.specs.declared.Check.the-variants.{Passed, Refused}
 use Rattle.terms.specs.Outcomes.{Outcome, given, refused}
@@ -27,10 +25,6 @@ outcomeOf (Refused r) x = refused r
 -- A refusal beside a row.
 abbrev pub refusedCheck : ℕ → ℕ → Check
 refusedCheck number place = Refused (record { number = number; place = place })
-
--- An answer's refusal, beside a row; a value refuses nothing.
-abbrev pub checkOf : Answer → Check
-checkOf a = onAnswer a Refused λ x. Passed
 
 -- The two lent rows.
 pub record Both : Type 0 where

@@ -21,7 +21,7 @@ use Rattle.brackets.specs.declared.Halved.the-variants as halved
 use Rattle.brackets.specs.declared.Root.{Root}
 use Rattle.brackets.specs.declared.Root.the-variants.{Found, Refused}
 use Rattle.brackets.specs.Brackets.{small, raised, widen, halve, onWidened, onHalved, halving, settled, widening, bracketedRoot}
-use Rattle.brackets.specs.laws.Cases.{Holds, cases}
+use Rattle.floats.specs.laws.Cases.{Holds, cases}
 use Rattle.brackets.specs.laws.Roots.{Ends}
 use Rattle.promises.specs.laws.Cells.{fine, cell, Cell, cell-of}
 use Rattle.promises.specs.laws.Narrowing.{midpoint-cell, narrow}

@@ -8,7 +8,7 @@ use Rattle.terms.specs.declared.Check.{Check}
 use Rattle.terms.specs.declared.Check.the-variants as check
 use Rattle.terms.specs.Terms.{Leg}
 use Rattle.terms.specs.Checks.{onCheck}
-use Rattle.terms.specs.Entries.{targetChecks, spreadChecks}
+use Rattle.terms.specs.Entries.{targetChecks}
 use Rattle.terms.specs.Outcomes.{Outcome, given, refused, onOutcome}
 use Rattle.interestrate.specs.declared.RateDefinition.{RateDefinition}
 use Rattle.interestrate.specs.Rates.{rateOf, rateCheck, lowestYield}
@@ -18,7 +18,7 @@ use Rattle.brackets.specs.declared.Root.the-variants as root
 use Rattle.brackets.specs.Brackets.{evaluationsOf}
 use Rattle.brackets.specs.laws.Evaluations.{at-most-386}
 use Rattle.bondanalytics.specs.Yields.{solveYield, yieldFromPrice}
-use Rattle.spreads.specs.Spreads.{spreadFromPrice}
+use Rattle.spreads.specs.Spreads.{quotedChecks, spreadFromPrice}
 use Rattle.promises.specs.Evaluations.{EveryYield, EverySpread}
 use Rattle.promises.specs.laws.SpreadPromise.{spreads-at-most-386}
 
@@ -49,4 +49,4 @@ every-yield settlement leg compounding frequency target =
 
 pub every-spread : EverySpread
 unfolding spreadFromPrice
-every-spread m calls room = record { at-most-386 = spreads-at-most-386 m calls room; none = λ r e. refused-none (spreadChecks m calls) _ r e }
+every-spread asked calls room = record { at-most-386 = spreads-at-most-386 asked calls room; none = λ r e. refused-none (quotedChecks asked calls) _ r e }

@@ -8,7 +8,7 @@ use Rattle.bondevents.specs.declared.CallStep.{CallStep}
 use Rattle.bondevents.specs.Steps.{Axis}
 use Rattle.bondevents.specs.Calls.{Entry, callPrice, overSteps, withEntry, overEntries}
 use Rattle.bondevents.specs.Grid.{eventGrid}
-use Rattle.brackets.specs.laws.Cases.{Holds}
+use Rattle.floats.specs.laws.Cases.{Holds}
 use Rattle.promises.specs.RefusalNumbers.{treeRefusals}
 use Rattle.promises.specs.laws.Numbers.{AnswerAmong, OutcomeAmong, CheckAmong, numbers}
 

@@ -4,7 +4,7 @@ use mathlib.Core.Logic.{_⊎_, inl, inr}
 use mathlib.Core.List.{map}
 use lib.Dec.{T}
 use lib.Ieee.{Float, le}
-use Rattle.terms.specs.Terms.{CallSchedule, Market, withSpread}
+use Rattle.terms.specs.Terms.{CallSchedule, Market}
 use Rattle.terms.specs.CallLists.{Reordered}
 use Rattle.bondevents.specs.declared.GridAnswer.{GridAnswer}
 use Rattle.bondevents.specs.Grid.{gridAnswer}
@@ -16,7 +16,7 @@ use Rattle.treebasedbondpricer.specs.Tree.{treeValue, lentAfter, numberOf, plac
 use Rattle.treebasedbondpricer.specs.CallLists.{NoLowerOr27, accepted, refused-27}
 use Rattle.treebasedbondpricer.specs.laws.CallLists.{call-list-rule, reordering-rule}
 use Rattle.brackets.specs.Brackets.{rootNumber, rootPlace, rootValue, evaluationsOf}
-use Rattle.spreads.specs.Spreads.{spreadFromPrice}
+use Rattle.spreads.specs.Spreads.{quoting, spreadFromPrice}
 use Rattle.spreads.specs.Spreads as spreads
 use Rattle.promises.specs.RefusalNumbers.{Among, treeRefusals}
 use Rattle.promises.specs.HostCallLists.{GridCall, TreeCall, SpreadCall, HostCallListRule, SameGrids, SameValues, SameSpreads, HostReorderingRule}
@@ -86,7 +86,7 @@ module _ (m : Market) (first second : CallSchedule) (r : Reordered first second)
   same-spreads target a b as-long =
       let p = a .handed .handed in
       let q = b .handed .handed in
-      let w = withSpread m target in
+      let w = quoting m target in
       let same = spread-reordering-rule w first second r z in
       let e : spreadFromPrice w second (roomOf (b .lent)) ≡ spreadFromPrice w first (roomOf (a .lent)) = ap (spreadFromPrice w second) as-long ∙ same .roots (roomOf (a .lent)) in
       record {

@@ -10,7 +10,7 @@ use Rattle.lattice.specs.Transitions.{Step, transitionOf}
 use Rattle.lattice.specs.Lattice.{transitionsOf, stepOf, grown, flat, curved, lattice}
 use Rattle.terms.specs.Outcomes.{Outcome}
 use Rattle.chances.specs.laws.NeverTooLow.{Only23Or27, was-given, too-far, not-finite, SpacedStep, transition-only, made-spaced}
-use Rattle.brackets.specs.laws.Cases.{Holds}
+use Rattle.floats.specs.laws.Cases.{Holds}
 use Rattle.promises.specs.RefusalNumbers.{treeRefusals}
 use Rattle.promises.specs.laws.Numbers.{AnswerAmong, OutcomeAmong, then-known, numbers}
 use Rattle.promises.specs.laws.ElementaryNumbers.{exp-number, expM1-number, sqrt-number}

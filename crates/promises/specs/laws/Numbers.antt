@@ -7,13 +7,12 @@ use lib.Dec.{T, eqb}
 use lib.Ieee.{Float}
 use Rattle.floats.specs.declared.Refusal.{Refusal}
 use Rattle.floats.specs.declared.Answer.{Answer}
-use Rattle.floats.specs.declared.Answer.the-variants as answer
 use Rattle.floats.specs.Answers.{onAnswer}
 use Rattle.terms.specs.declared.Check.{Check}
 use Rattle.terms.specs.declared.Check.the-variants as check
 use Rattle.terms.specs.Checks.{onCheck, lowest}
 use Rattle.terms.specs.Outcomes.{Outcome, given, refused, onOutcome}
-use Rattle.brackets.specs.laws.Cases.{Holds, of-cond, of-answer}
+use Rattle.floats.specs.laws.Cases.{Holds, of-cond, of-answer, RefusedOnly, value-only, refused-only, then-only}
 use Rattle.promises.specs.RefusalNumbers.{member, Among}
 
 -- ---- a number of a list; what is no refusal has none
@@ -31,8 +30,7 @@ pub one-more : {ns : List ℕ} (k n : ℕ) → Among ns n → Among (k ∷ ns) n
 one-more {ns} k n h = record { is-one = or-also (eqb n k) (member n ns) (h .is-one) }
 
 abbrev pub AnswerAmong : List ℕ → Answer → Type 0
-AnswerAmong ns (answer.Value x) = Unit
-AnswerAmong ns (answer.Refused r) = Among ns (r .number)
+AnswerAmong ns = RefusedOnly (Among ns)
 
 abbrev pub OutcomeAmong : {A : Type 0} → List ℕ → Outcome A → Type 0
 OutcomeAmong ns (given x) = Unit
@@ -43,12 +41,6 @@ CheckAmong ns check.Passed = Unit
 CheckAmong ns (check.Refused r) = Among ns (r .number)
 
 -- ---- values and refusals
-
-pub value-answer : {ns : List ℕ} (x : Float) → Holds (AnswerAmong ns) (answer.Value x)
-value-answer x = record { it = tt }
-
-pub refuse-answer : {ns : List ℕ} (r : Refusal) → Among ns (r .number) → Holds (AnswerAmong ns) (answer.Refused r)
-refuse-answer r h = record { it = h }
 
 pub give-outcome : {A : Type 0} {ns : List ℕ} (x : A) → Holds (OutcomeAmong ns) (given x)
 give-outcome x = record { it = tt }
@@ -79,10 +71,6 @@ on-check (check.Refused r) f x h p q = p r (h .it)
 
 -- ---- the same where the refusal is handed up, as `search` wants it; whenFinite, finiteThen, tested and single open to cond
 
--- andThen
-pub then-answer : {ns : List ℕ} (a : Answer) (k : Float → Answer) → Holds (AnswerAmong ns) a → ((x : Float) → Holds (AnswerAmong ns) (k x)) → Holds (AnswerAmong ns) (onAnswer a answer.Refused k)
-then-answer a k h = on-answer a answer.Refused k h refuse-answer
-
 -- valued
 pub then-valued : {A : Type 0} {ns : List ℕ} (a : Answer) (k : Float → Outcome A) → Holds (AnswerAmong ns) a → ((x : Float) → Holds (OutcomeAmong ns) (k x)) → Holds (OutcomeAmong ns) (onAnswer a refused k)
 then-valued a k h = on-answer a refused k h refuse-outcome
@@ -109,4 +97,4 @@ lowest-check number bad (suc count) i h =
     let later = lowest-check number bad count (suc i) h in
     search (of-cond, refuse-check)
 
-pub ruleset numbers = (one-of, of-cond, value-answer, refuse-answer, give-outcome, refuse-outcome, pass-check, refuse-check, then-answer, then-valued, then-outcome, then-check, lowest-check)
+pub ruleset numbers = (one-of, of-cond, value-only, refused-only, give-outcome, refuse-outcome, pass-check, refuse-check, then-only, then-valued, then-outcome, then-check, lowest-check)

@@ -11,7 +11,7 @@ use Rattle.floats.specs.Answers.{one, notFinite, tested}
 use Rattle.terms.specs.declared.Check.{Check}
 use Rattle.terms.specs.declared.Check.the-variants as check
 use Rattle.terms.specs.Numbers.{float, targetLimit}
-use Rattle.terms.specs.Terms.{CallSchedule, Market, withSpread}
+use Rattle.terms.specs.Terms.{CallSchedule}
 use Rattle.terms.specs.Checks.{onCheck}
 use Rattle.terms.specs.Entries.{treeChecks, spreadChecks}
 use Rattle.terms.specs.laws.Limits.{one-finite}
@@ -25,9 +25,9 @@ use Rattle.treebasedbondpricer.specs.Tree.{treeValue}
 use Rattle.brackets.specs.declared.Root.{Root}
 use Rattle.brackets.specs.declared.Root.the-variants.{Found, Refused}
 use Rattle.brackets.specs.Brackets.{rootNumber}
-use Rattle.brackets.specs.laws.Cases.{Holds, of-cond}
+use Rattle.floats.specs.laws.Cases.{Holds, of-cond}
 use Rattle.sought.specs.Objectives.{firstLower, firstUpper}
-use Rattle.spreads.specs.Spreads.{onTreeValue, spreadObjective, solveSpread, spreadFromPrice}
+use Rattle.spreads.specs.Spreads.{Quoted, atSpread, quotedChecks, onTreeValue, spreadObjective, solveSpread, spreadFromPrice}
 use Rattle.promises.specs.RefusalNumbers.{Among, treeRefusals, spreadRefusals, SpreadNumbers}
 use Rattle.promises.specs.laws.Converges.{Settles, converges}
 use Rattle.promises.specs.laws.Numbers.{one-of, one-more, on-check}
@@ -52,21 +52,21 @@ unfolding onCheck
 passed check.Passed v x n e = refl
 passed (check.Refused r) v x n e = cc
 
-module _ (m : Market) (calls : CallSchedule) (room : Room) where
+module _ (asked : Quoted) (calls : CallSchedule) (room : Room) where
   abbrev difference : Float → Answer
-  difference = spreadObjective m calls room (m .spread)
+  difference = spreadObjective asked calls room
 
-  valued : (s x : Float) (n : ℕ) → treeValue (withSpread m s) calls room ≡ tree.Value x n → PlusMinus (float 1) s
+  valued : (s x : Float) (n : ℕ) → treeValue (atSpread asked s) calls room ≡ tree.Value x n → PlusMinus (float 1) s
   unfolding treeValue
-  valued s x n e = within-passed (float 1) s one-finite (tree-market (withSpread m s) calls (passed (treeChecks (withSpread m s) calls) _ x n e) .spread)
+  valued s x n e = within-passed (float 1) s one-finite (tree-market (atSpread asked s) calls (passed (treeChecks (atSpread asked s) calls) _ x n e) .spread)
 
   tried : (s : Float) → Holds (Tried s) (difference s)
   unfolding spreadObjective onTreeValue
-  tried s = of-cond (lt one s) _ _ (λ t. record { it = one-of 36 refl }) (λ t. over (treeValue (withSpread m s) calls room) refl)
+  tried s = of-cond (lt one s) _ _ (λ t. record { it = one-of 36 refl }) (λ t. over (treeValue (atSpread asked s) calls room) refl)
     where
-      over : (v : TreeValue) → treeValue (withSpread m s) calls room ≡ v → Holds (Tried s) (onTreeValue v answer.Refused λ x. tested (sub binary64 x (m .spread)) 0)
-      over (tree.Value x n) e = of-cond (notFinite (sub binary64 x (m .spread))) _ _ (λ t. record { it = one-of 27 refl }) (λ t. record { it = valued s x n e })
-      over (tree.Refused q) e = record { it = of-tree (q .number) (tree-numbers (withSpread m s) calls room q e) }
+      over : (v : TreeValue) → treeValue (atSpread asked s) calls room ≡ v → Holds (Tried s) (onTreeValue v answer.Refused λ x. tested (sub binary64 x (asked .target)) 0)
+      over (tree.Value x n) e = of-cond (notFinite (sub binary64 x (asked .target))) _ _ (λ t. record { it = one-of 27 refl }) (λ t. record { it = valued s x n e })
+      over (tree.Refused q) e = record { it = of-tree (q .number) (tree-numbers (atSpread asked s) calls room q e) }
 
   tried-within : (s y : Float) → difference s ≡ answer.Value y → T (le (neg one) s) × T (le s one)
   unfolding ofBits ofInt
@@ -75,15 +75,15 @@ module _ (m : Market) (calls : CallSchedule) (room : Room) where
   tried-number : (s : Float) (r : Refusal) → difference s ≡ answer.Refused r → SpreadAmong (r .number)
   tried-number s r e = subst (Tried s) e (tried s .it)
 
-  solved : Settles SpreadAmong (solveSpread m calls room (m .spread))
+  solved : Settles SpreadAmong (solveSpread asked calls room)
   solved = converges SpreadAmong (one-of 27 refl) (one-of 29 refl) difference tried-within tried-number firstLower firstUpper (neg one)
 
-  spread-number : Settles SpreadAmong (spreadFromPrice m calls room)
+  spread-number : Settles SpreadAmong (spreadFromPrice asked calls room)
   unfolding spreadFromPrice spreadChecks
-  spread-number = on-check {P = Settles SpreadAmong} (spreadChecks m calls) _ _ (checks-number targetLimit m calls) (λ r l. record { it = of-tree (r .number) l }) (record { it = solved }) .it
+  spread-number = on-check {P = Settles SpreadAmong} (quotedChecks asked calls) _ _ (checks-number targetLimit (atSpread asked (asked .target)) calls) (λ r l. record { it = of-tree (r .number) l }) (record { it = solved }) .it
 
 pub spread-numbers : SpreadNumbers
-spread-numbers m calls room q n e = subst (Settles SpreadAmong) e (spread-number m calls room)
+spread-numbers asked calls room q n e = subst (Settles SpreadAmong) e (spread-number asked calls room)
 
 -- A spread that is found has number 0.
 or-0 : (r : Root) → Settles SpreadAmong r → Among (0 ∷ spreadRefusals) (rootNumber r)
@@ -91,9 +91,9 @@ or-0 (Found x n) h = one-of 0 refl
 or-0 (Refused q n) h = one-more 0 (q .number) h
 
 -- 24 is never given.
-pub spread-never-24 : (m : Market) (calls : CallSchedule) (room : Room) → rootNumber (spreadFromPrice m calls room) ≡ 24 → ⊥
-spread-never-24 m calls room e = subst (Among (0 ∷ spreadRefusals)) e (or-0 (spreadFromPrice m calls room) (spread-number m calls room)) .is-one
+pub spread-never-24 : (asked : Quoted) (calls : CallSchedule) (room : Room) → rootNumber (spreadFromPrice asked calls room) ≡ 24 → ⊥
+spread-never-24 asked calls room e = subst (Among (0 ∷ spreadRefusals)) e (or-0 (spreadFromPrice asked calls room) (spread-number asked calls room)) .is-one
 
 -- 30 is never given: every spread that has a value lies within ±1, where halving a bracket reaches 1e-14 in time.
-pub spread-never-30 : (m : Market) (calls : CallSchedule) (room : Room) → rootNumber (spreadFromPrice m calls room) ≡ 30 → ⊥
-spread-never-30 m calls room e = subst (Among (0 ∷ spreadRefusals)) e (or-0 (spreadFromPrice m calls room) (spread-number m calls room)) .is-one
+pub spread-never-30 : (asked : Quoted) (calls : CallSchedule) (room : Room) → rootNumber (spreadFromPrice asked calls room) ≡ 30 → ⊥
+spread-never-30 asked calls room e = subst (Among (0 ∷ spreadRefusals)) e (or-0 (spreadFromPrice asked calls room) (spread-number asked calls room)) .is-one

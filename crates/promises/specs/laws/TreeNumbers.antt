@@ -12,7 +12,7 @@ use Rattle.lattice.specs.Layers.{Room}
 use Rattle.treebasedbondpricer.specs.declared.TreeValue.{TreeValue}
 use Rattle.treebasedbondpricer.specs.declared.TreeValue.the-variants.{Value, Refused}
 use Rattle.treebasedbondpricer.specs.Tree.{fittedTreeOver, latticeValueOver, fittedTree, latticeValue, treeValue, numberOf}
-use Rattle.brackets.specs.laws.Cases.{Holds}
+use Rattle.floats.specs.laws.Cases.{Holds}
 use Rattle.promises.specs.RefusalNumbers.{Among, treeRefusals, TreeNumbers}
 use Rattle.promises.specs.laws.Numbers.{one-of, one-more, OutcomeAmong, on-outcome, on-check, numbers}
 use Rattle.promises.specs.laws.GridNumbers.{checks-number, grid-number}

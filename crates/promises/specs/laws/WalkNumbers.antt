@@ -10,7 +10,7 @@ use Rattle.lattice.specs.Layers.{At}
 use Rattle.lattice.specs.Lattice.{Layer}
 use Rattle.forwardinduction.specs.Fit.{weighted, shiftOf, contribute, contributeThree, onward, shiftsFrom}
 use Rattle.backwardinduction.specs.Walk.{Reads, expected, discountOf, nodeValue, rolled, walkFrom}
-use Rattle.brackets.specs.laws.Cases.{Holds}
+use Rattle.floats.specs.laws.Cases.{Holds}
 use Rattle.promises.specs.RefusalNumbers.{treeRefusals}
 use Rattle.promises.specs.laws.Numbers.{AnswerAmong, OutcomeAmong, numbers}
 use Rattle.promises.specs.laws.ElementaryNumbers.{exp-number, ln-number}

@@ -83,12 +83,31 @@ rootOf-bounds x f = elim (eq-zero-or-pos (num x)) [
 
 -- ---- where `sqrtAt` gives a value
 
-pub sqrtAt-bounds : (x : Float) (place : ℕ) (y : Float) → sqrtAt x place ≡ Value y → NotBelow y
+-- Of a finite number that isn't below 0 it is the root.
+pub sqrtAt-is : (x : Float) (place : ℕ) → T (finite x) → lt x plusZero ≡ false → sqrtAt x place ≡ Value (rootOf x)
 unfolding sqrtAt
-sqrtAt-bounds x place y = go (finite x) (lt x plusZero) (notFinite (rootOf x)) (rootOf-bounds x)
+sqrtAt-is x place f n = go (finite x) (lt x plusZero) (finite (rootOf x)) f n (rootOf-bounds x f .is-finite)
   where
-    go : (b c d : Bool) → (T b → NotBelow (rootOf x)) → cond (not b) (refusal 27 place) (cond c (refusal 26 place) (cond d (refusal 27 place) (Value (rootOf x)))) ≡ Value y → NotBelow y
+    go : (b c d : Bool) → T b → c ≡ false → T d → cond (not b) (refusal 27 place) (cond c (refusal 26 place) (cond (not d) (refusal 27 place) (Value (rootOf x)))) ≡ Value (rootOf x)
+    go false c d f n g = absurd f
+    go true true d f n g = cc
+    go true false false f n g = absurd g
+    go true false true f n g = refl
+
+-- Every value is the root of a finite number.
+pub record RootValue (x y : Float) : Type 0 where
+  pub of-finite : T (finite x)
+  pub is-root : rootOf x ≡ y
+
+pub sqrtAt-root : (x : Float) (place : ℕ) (y : Float) → sqrtAt x place ≡ Value y → RootValue x y
+unfolding sqrtAt
+sqrtAt-root x place y = go (finite x) (lt x plusZero) (notFinite (rootOf x)) refl
+  where
+    go : (b c d : Bool) → finite x ≡ b → cond (not b) (refusal 27 place) (cond c (refusal 26 place) (cond d (refusal 27 place) (Value (rootOf x)))) ≡ Value y → RootValue x y
     go false c d k h = absurd (let z : _≡_ {A = ℕ} 0 1 = cc in omega arith)
     go true true d k h = absurd (let z : _≡_ {A = ℕ} 0 1 = cc in omega arith)
     go true false true k h = absurd (let z : _≡_ {A = ℕ} 0 1 = cc in omega arith)
-    go true false false k h = let e : rootOf x ≡ y = cc in subst NotBelow e (k tt)
+    go true false false k h = record { of-finite = subst T (sym k) tt; is-root = cc }
+
+pub sqrtAt-bounds : (x : Float) (place : ℕ) (y : Float) → sqrtAt x place ≡ Value y → NotBelow y
+sqrtAt-bounds x place y h = let v = sqrtAt-root x place y h in subst NotBelow (v .is-root) (rootOf-bounds x (v .of-finite))

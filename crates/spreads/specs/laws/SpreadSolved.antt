@@ -15,7 +15,6 @@ use Rattle.terms.specs.Numbers.{float}
 use Rattle.terms.specs.Terms.{CallSchedule, Market}
 use Rattle.terms.specs.Checks.{onCheck, beyond}
 use Rattle.terms.specs.Curve.{curveOver, pillarTimes}
-use Rattle.terms.specs.Entries.{spreadChecks}
 use Rattle.terms.specs.Outcomes.{Outcome, given, refused, onOutcome, finiteThen}
 use Rattle.bondevents.specs.declared.CallStep.{CallStep}
 use Rattle.bondevents.specs.declared.EventGrid.{EventGrid}
@@ -26,7 +25,7 @@ use Rattle.backwardinduction.specs.laws.WalkMore.{callsOf}
 use Rattle.treebasedbondpricer.specs.declared.fitted.FittedTree.{FittedTree}
 use Rattle.treebasedbondpricer.specs.declared.fitted.FittedTree.the-variants as tree
 use Rattle.treebasedbondpricer.specs.Tree.{Fitted, Lent, roomOf, zeroed}
-use Rattle.treebasedbondpricer.specs.laws.FittedIn.{FitsTree, fittedOver}
+use Rattle.treebasedbondpricer.specs.laws.FittedIn.{FitsTree, fittedOver, treeRefusal}
 use Rattle.treebasedbondpricer.specs.laws.Valued.{Standing, not-standing, same-row, same-calls, rowOver}
 use Rattle.backwardinduction.specs.laws.WalkRoot.{rootOf}
 use Rattle.treebasedbondpricer.specs.laws.Entered.{grid-given, grid-refused, tree-is}
@@ -37,20 +36,10 @@ use Rattle.sought.specs.declared.Sought.{Sought}
 use Rattle.sought.specs.declared.Priced.the-variants.{Spread}
 use Rattle.brackets.specs.Brackets.{bracketedRoot}
 use Rattle.sought.specs.Objectives.{firstLower, firstUpper}
-use Rattle.spreads.specs.Spreads.{spreadFromPrice, lentAfter, solveSpread, Solved}
+use Rattle.spreads.specs.Spreads.{Quoted, atSpread, quotedChecks, spreadFromPrice, lentAfter, solveSpread, Solved}
 use Rattle.sought.specs.laws.Sought.{TreeParts, treeParts, spreadAt, soughtAt}
 use Rattle.brackets.specs.laws.SoughtRoots.{sought-spread}
 use Rattle.spreads.specs.laws.SpreadTree.{walkedAt, foundOver, foundOn, fitted-once}
-
--- What is refused before the walk is met at the first try. A fitted tree isn't asked.
-abbrev pub unfitRoot : FittedTree → Root
-unfitRoot (tree.Fitted dt flat) = root.Found plusZero 0
-unfitRoot (tree.Refused q) = root.Refused q 1
-
--- A check's refusal, with the tries. One that passed isn't asked.
-abbrev pub uncheckedRoot : Check → ℕ → Root
-uncheckedRoot check.Passed n = root.Found plusZero 0
-uncheckedRoot (check.Refused q) n = root.Refused q n
 
 -- The lowest spread, as the code writes it.
 abbrev pub lowestSpread : Float
@@ -61,14 +50,15 @@ unfolding neg ofBits
 lowest-is = refl
 
 -- The grid, then the root.
-unfoldable pub foundFor : Market → CallSchedule → Room → Root
+unfoldable pub foundFor : Quoted → CallSchedule → Room → Root
 unfolding foundOn eventGrid
-foundFor m calls room = foundOn m room (m .spread) (eventGrid (m .settlement) (m .bond) calls (m .controls))
+foundFor asked calls room = foundOn (atSpread asked (asked .target)) room (asked .target) (eventGrid (asked .settlement) (asked .bond) calls (asked .controls))
 
 module _ {o : Outcome Fitted} {long wide : ℕ} {counts : List ℕ} {spacings shifts : List Float} {nodes : List ℤ} {probabilities : List Float} where
-  pub root-refused : {r : FittedTree} {v : Root} {q : Refusal} (target : Float) (cashflows : List Float) (calls : List CallStep) → FitsTree o long wide counts spacings shifts nodes probabilities r → r ≡ tree.Refused q → v ≡ unfitRoot r → v ≡ foundOver target cashflows calls o
+  -- What is refused before the walk is met at the first try.
+  pub root-refused : {r : FittedTree} {p q : Refusal} (target : Float) (cashflows : List Float) (calls : List CallStep) → FitsTree o long wide counts spacings shifts nodes probabilities r → r ≡ tree.Refused q → p ≡ treeRefusal r → root.Refused p 1 ≡ foundOver target cashflows calls o
   unfolding foundOver onOutcome
-  root-refused target cashflows calls p e f = f ∙ ap unfitRoot e ∙ sym (ap (foundOver target cashflows calls) (not-standing p e))
+  root-refused target cashflows calls p e f = ap (λ (z : Refusal). root.Refused z 1) (f ∙ ap treeRefusal e) ∙ sym (ap (foundOver target cashflows calls) (not-standing p e))
 
   module _ {dt : Float} {flat : Bool} (s : Standing o dt flat long wide counts spacings shifts nodes probabilities) (target : Float) (cashflows : List Float) (marks : List ℕ) (prices : List Float) where
     abbrev parts : TreeParts
@@ -98,40 +88,40 @@ module _ {o : Outcome Fitted} {long wide : ℕ} {counts : List ℕ} {spacings sh
 pub root-with-calls : (o : Outcome Fitted) (target : Float) (cashflows : List Float) (calls : List CallStep) {marks : List ℕ} {prices : List Float} {v : Root} → v ≡ foundOver target cashflows (callsOf marks prices) o → marks ≡ map markOf calls → prices ≡ map priceOfStep calls → v ≡ foundOver target cashflows calls o
 root-with-calls o target cashflows calls e f g = e ∙ ap (λ (cs : List CallStep). foundOver target cashflows cs o) (same-calls calls f g)
 
-module _ (m : Market) (calls : CallSchedule) (room : Room) {r : EventGrid} (e : r ≡ gridOutcome (eventGrid (m .settlement) (m .bond) calls (m .controls))) where
-  pub root-unchecked : {q : Refusal} {v : Root} → r .check ≡ check.Refused q → v ≡ uncheckedRoot (r .check) 1 → v ≡ foundFor m calls room
+module _ (asked : Quoted) (calls : CallSchedule) (room : Room) {r : EventGrid} (e : r ≡ gridOutcome (eventGrid (asked .settlement) (asked .bond) calls (asked .controls))) where
+  abbrev m : Market
+  m = atSpread asked (asked .target)
+
+  pub root-unchecked : {q : Refusal} → r .check ≡ check.Refused q → root.Refused q 1 ≡ foundFor asked calls room
   unfolding foundFor foundOn onOutcome
-  root-unchecked p f =
-      f
-      ∙ ap (λ (c : Check). uncheckedRoot c 1) p
-      ∙ sym (ap (foundOn m room (m .spread)) (grid-refused (eventGrid (m .settlement) (m .bond) calls (m .controls)) e p))
+  root-unchecked p = sym (ap (foundOn m room (asked .target)) (grid-refused (eventGrid (m .settlement) (m .bond) calls (m .controls)) e p))
 
   pub root-checked : {times : List Float} {v : Root} → times ≡ pillarTimes (m .settlement) (m .pillars .days) → r .check ≡ check.Passed
-      → v ≡ foundOver (m .spread) (r .grid .cashflows) (r .grid .calls) (finiteThen (div binary64 (r .grid .«maturity_time») (float (r .grid .steps))) 0 λ dt. fittedOver (curveOver times (m .pillars .factors)) (m .model) room (r .grid .steps) dt)
-      → v ≡ foundFor m calls room
+      → v ≡ foundOver (asked .target) (r .grid .cashflows) (r .grid .calls) (finiteThen (div binary64 (r .grid .«maturity_time») (float (r .grid .steps))) 0 λ dt. fittedOver (curveOver times (m .pillars .factors)) (m .model) room (r .grid .steps) dt)
+      → v ≡ foundFor asked calls room
   unfolding foundFor foundOn onOutcome
   root-checked t p f =
       f
-      ∙ ap (λ (times : List Float). foundOver (m .spread) (r .grid .cashflows) (r .grid .calls) (finiteThen (div binary64 (r .grid .«maturity_time») (float (r .grid .steps))) 0 λ dt. fittedOver (curveOver times (m .pillars .factors)) (m .model) room (r .grid .steps) dt)) t
-      ∙ ap (foundOver (m .spread) (r .grid .cashflows) (r .grid .calls)) (sym (tree-is m room (r .grid .«maturity_time») (r .grid .steps)))
-      ∙ sym (ap (foundOn m room (m .spread)) (grid-given (eventGrid (m .settlement) (m .bond) calls (m .controls)) e p))
+      ∙ ap (λ (times : List Float). foundOver (asked .target) (r .grid .cashflows) (r .grid .calls) (finiteThen (div binary64 (r .grid .«maturity_time») (float (r .grid .steps))) 0 λ dt. fittedOver (curveOver times (m .pillars .factors)) (m .model) room (r .grid .steps) dt)) t
+      ∙ ap (foundOver (asked .target) (r .grid .cashflows) (r .grid .calls)) (sym (tree-is m room (r .grid .«maturity_time») (r .grid .steps)))
+      ∙ sym (ap (foundOn m room (asked .target)) (grid-given (eventGrid (m .settlement) (m .bond) calls (m .controls)) e p))
 
-module _ (m : Market) (calls : CallSchedule) {k : Check} (e : k ≡ spreadChecks m calls) (before : Lent) where
-  pub solved-refused : {q : Refusal} {v : Root} → k ≡ check.Refused q → v ≡ uncheckedRoot k 0 → Solved m calls v before before
+module _ (asked : Quoted) (calls : CallSchedule) {k : Check} (e : k ≡ quotedChecks asked calls) (before : Lent) where
+  pub solved-refused : {q : Refusal} → k ≡ check.Refused q → Solved asked calls (root.Refused q 0) before before
   unfolding spreadFromPrice lentAfter onCheck
-  solved-refused {q} {v} p f =
+  solved-refused p =
       record {
-        root = f ∙ ap (λ (c : Check). uncheckedRoot c 0) p ∙ ap (λ (c : Check). onCheck c (λ r. root.Refused r 0) (solveSpread m calls (roomOf before) (m .spread))) (sym p ∙ e);
+        root = ap (λ (c : Check). onCheck c (λ r. root.Refused r 0) (solveSpread asked calls (roomOf before))) (sym p ∙ e);
         slices = ap (λ (c : Check). onCheck c (λ r. before) (zeroed before)) (sym p ∙ e);
       }
 
-  pub solved-zeroed : {v : Root} {nodes : List ℤ} {probabilities first second : List Float} {a b c d : ℕ} → k ≡ check.Passed → v ≡ foundFor m calls (roomOf before)
+  pub solved-zeroed : {v : Root} {nodes : List ℤ} {probabilities first second : List Float} {a b c d : ℕ} → k ≡ check.Passed → v ≡ foundFor asked calls (roomOf before)
       → nodes ≡ replicate a (pos 0) → probabilities ≡ replicate b plusZero → first ≡ replicate c plusZero → second ≡ replicate d plusZero
       → a ≡ length (before .nodes) → b ≡ length (before .probabilities) → c ≡ length (before .first) → d ≡ length (before .second)
-      → Solved m calls v before (record { nodes = nodes; probabilities = probabilities; first = first; second = second })
+      → Solved asked calls v before (record { nodes = nodes; probabilities = probabilities; first = first; second = second })
   unfolding spreadFromPrice lentAfter onCheck foundFor
-  solved-zeroed {v} p f n o q s g h i j =
+  solved-zeroed p f n o q s g h i j =
       record {
-        root = f ∙ sym (fitted-once m calls (roomOf before) (m .spread) (sym e ∙ p)) ∙ ap (λ (c : Check). onCheck c (λ r. root.Refused r 0) (solveSpread m calls (roomOf before) (m .spread))) (sym p ∙ e);
+        root = f ∙ sym (fitted-once asked calls (roomOf before) (sym e ∙ p)) ∙ ap (λ (c : Check). onCheck c (λ r. root.Refused r 0) (solveSpread asked calls (roomOf before))) (sym p ∙ e);
         slices = rw (n, o, q, s, g, h, i, j) (ap (λ (c : Check). onCheck c (λ r. before) (zeroed before)) (sym p ∙ e));
       }

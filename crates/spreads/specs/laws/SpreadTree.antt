@@ -4,7 +4,7 @@ use mathlib.Core.Path.{_≡_, refl, sym, ap, _∙_}
 use mathlib.Core.Bool.{Bool, true, false, cond}
 use mathlib.Core.List.{List}
 use lib.IntN.{pos}
-use lib.Ieee.{Float, binary64, ofBits, sub, neg, lt}
+use lib.Ieee.{Float, binary64, ofBits, ofInt, sub, neg, lt}
 use Rattle.floats.specs.declared.Refusal.{Refusal}
 use Rattle.floats.specs.declared.Answer.{Answer}
 use Rattle.floats.specs.declared.Answer.the-variants as answer
@@ -13,9 +13,8 @@ use Rattle.floats.specs.Extremes.{maxOf}
 use Rattle.terms.specs.declared.Check.{Check}
 use Rattle.terms.specs.declared.Check.the-variants as check
 use Rattle.terms.specs.Numbers.{float}
-use Rattle.terms.specs.Terms.{CallSchedule, Market, withSpread}
+use Rattle.terms.specs.Terms.{CallSchedule, Market}
 use Rattle.terms.specs.Checks.{onCheck, single, beyond, within}
-use Rattle.terms.specs.Entries.{spreadChecks, treeChecks}
 use Rattle.terms.specs.Outcomes.{Outcome, given, refused, onOutcome, follow}
 use Rattle.terms.specs.laws.Outcomes.{follow-given, follow-refused}
 use Rattle.terms.specs.laws.EntryChecks.{spread-tried}
@@ -34,7 +33,7 @@ use Rattle.brackets.specs.declared.Root.{Root}
 use Rattle.brackets.specs.declared.Root.the-variants as root
 use Rattle.brackets.specs.Brackets.{bracketedRoot}
 use Rattle.sought.specs.Objectives.{firstLower, firstUpper}
-use Rattle.spreads.specs.Spreads.{onTreeValue, spreadObjective, solveSpread}
+use Rattle.spreads.specs.Spreads.{Quoted, atSpread, quotedChecks, onTreeValue, spreadObjective, solveSpread}
 
 -- The value less the target at a spread, over a tree that is fitted.
 unfoldable pub walkedAt : Float → List Float → List CallStep → Fitted → Float → Answer
@@ -69,36 +68,42 @@ lower-first : maxOf firstLower (neg one) ≡ firstLower
 unfolding maxOf lt neg ofBits
 lower-first = refl
 
-module _ (m : Market) (calls : CallSchedule) (room : Room) (target : Float) (passed : spreadChecks m calls ≡ check.Passed) where
+module _ (asked : Quoted) (calls : CallSchedule) (room : Room) (passed : quotedChecks asked calls ≡ check.Passed) where
+  abbrev target : Float
+  target = asked .target
+
+  abbrev m : Market
+  m = atSpread asked target
+
   abbrev grid : Outcome BondEventGrid
   grid = eventGrid (m .settlement) (m .bond) calls (m .controls)
 
   -- The value at a tried spread that is an input of the tree.
-  tried : (s : Float) → within (float 1) s ≡ check.Passed → treeValue (withSpread m s) calls room ≡ onOutcome (follow grid λ g. latticeValue (withSpread m s) room g) tree.Refused λ v. v
+  tried : (s : Float) → within (float 1) s ≡ check.Passed → treeValue (atSpread asked s) calls room ≡ onOutcome (follow grid λ g. latticeValue (atSpread asked s) room g) tree.Refused λ v. v
   unfolding treeValue onCheck
-  tried s h = ap (λ (c : Check). onCheck c tree.Refused (onOutcome (follow grid λ g. latticeValue (withSpread m s) room g) tree.Refused λ v. v)) (spread-tried m calls s passed ∙ h)
+  tried s h = ap (λ (c : Check). onCheck c tree.Refused (onOutcome (follow grid λ g. latticeValue (atSpread asked s) room g) tree.Refused λ v. v)) (spread-tried m calls s passed ∙ h)
 
   -- One that is no input refuses as the tree value does.
-  no-input : (s : Float) {q : Refusal} → within (float 1) s ≡ check.Refused q → treeValue (withSpread m s) calls room ≡ tree.Refused q
+  no-input : (s : Float) {q : Refusal} → within (float 1) s ≡ check.Refused q → treeValue (atSpread asked s) calls room ≡ tree.Refused q
   unfolding treeValue onCheck
-  no-input s h = ap (λ (c : Check). onCheck c tree.Refused (onOutcome (follow grid λ g. latticeValue (withSpread m s) room g) tree.Refused λ v. v)) (spread-tried m calls s passed ∙ h)
+  no-input s h = ap (λ (c : Check). onCheck c tree.Refused (onOutcome (follow grid λ g. latticeValue (atSpread asked s) room g) tree.Refused λ v. v)) (spread-tried m calls s passed ∙ h)
 
   -- ---- refused before the walk
 
-  first-try : {q : Refusal} → spreadObjective m calls room target firstLower ≡ answer.Refused q → solveSpread m calls room target ≡ root.Refused q 1
-  first-try {q} e = refused-first (spreadObjective m calls room target) firstLower firstUpper (neg one) (ap (spreadObjective m calls room target) lower-first ∙ e)
+  first-try : {q : Refusal} → spreadObjective asked calls room firstLower ≡ answer.Refused q → solveSpread asked calls room ≡ root.Refused q 1
+  first-try {q} e = refused-first (spreadObjective asked calls room) firstLower firstUpper (neg one) (ap (spreadObjective asked calls room) lower-first ∙ e)
 
-  refused-at-first : {q : Refusal} → (follow grid λ g. latticeValue (withSpread m firstLower) room g) ≡ refused q → solveSpread m calls room target ≡ root.Refused q 1
-  unfolding spreadObjective onTreeValue onOutcome ofBits
+  refused-at-first : {q : Refusal} → (follow grid λ g. latticeValue (atSpread asked firstLower) room g) ≡ refused q → solveSpread asked calls room ≡ root.Refused q 1
+  unfolding spreadObjective onTreeValue onOutcome ofBits ofInt
   refused-at-first {q} e =
       first-try (ap (λ (v : TreeValue). onTreeValue v answer.Refused λ x. tested (sub binary64 x target) 0)
       (tried firstLower refl ∙ ap (λ (o : Outcome TreeValue). onOutcome o tree.Refused λ v. v) e))
 
-  pub grid-refused-at-first : {q : Refusal} → grid ≡ refused q → solveSpread m calls room target ≡ root.Refused q 1
+  pub grid-refused-at-first : {q : Refusal} → grid ≡ refused q → solveSpread asked calls room ≡ root.Refused q 1
   grid-refused-at-first e = refused-at-first (follow-refused grid _ e)
 
   module _ {g : BondEventGrid} (has-grid : grid ≡ given g) where
-    pub tree-refused-at-first : {q : Refusal} → fittedTree m room (g .«maturity_time») (g .steps) ≡ refused q → solveSpread m calls room target ≡ root.Refused q 1
+    pub tree-refused-at-first : {q : Refusal} → fittedTree m room (g .«maturity_time») (g .steps) ≡ refused q → solveSpread asked calls room ≡ root.Refused q 1
     unfolding latticeValueOver
     tree-refused-at-first e = refused-at-first (follow-given grid _ has-grid ∙ follow-refused (fittedTree m room (g .«maturity_time») (g .steps)) _ e)
 
@@ -110,36 +115,36 @@ module _ (m : Market) (calls : CallSchedule) (room : Room) (target : Float) (pas
       with-count (given row) n = refl
       with-count (refused q) n = refl
 
-      tried-value : (s : Float) → within (float 1) s ≡ check.Passed → onTreeValue (treeValue (withSpread m s) calls room) answer.Refused (λ x. tested (sub binary64 x target) 0) ≡ andThen (rootOf (rowOver s (g .cashflows) (g .calls) f)) λ x. tested (sub binary64 x target) 0
+      tried-value : (s : Float) → within (float 1) s ≡ check.Passed → onTreeValue (treeValue (atSpread asked s) calls room) answer.Refused (λ x. tested (sub binary64 x target) 0) ≡ andThen (rootOf (rowOver s (g .cashflows) (g .calls) f)) λ x. tested (sub binary64 x target) 0
       unfolding latticeValueOver
       tried-value s h =
           ap (λ (v : TreeValue). onTreeValue v answer.Refused λ x. tested (sub binary64 x target) 0)
           (tried s h ∙ ap (λ (o : Outcome TreeValue). onOutcome o tree.Refused λ v. v) (follow-given grid _ has-grid ∙ follow-given (fittedTree m room (g .«maturity_time») (g .steps)) _ has-tree))
           ∙ with-count (rowOver s (g .cashflows) (g .calls) f) (nodeCount (f .tree))
 
-      pub tried-as : (s : Float) → spreadObjective m calls room target s ≡ walkedAt target (g .cashflows) (g .calls) f s
+      pub tried-as : (s : Float) → spreadObjective asked calls room s ≡ walkedAt target (g .cashflows) (g .calls) f s
       unfolding spreadObjective walkedAt onTreeValue
       tried-as s = go (lt one s) (beyond (float 1) s) refl
         where
           go : (b d : Bool) → beyond (float 1) s ≡ d
-              → cond b (refusal 36 0) (onTreeValue (treeValue (withSpread m s) calls room) answer.Refused λ x. tested (sub binary64 x target) 0)
+              → cond b (refusal 36 0) (onTreeValue (treeValue (atSpread asked s) calls room) answer.Refused λ x. tested (sub binary64 x target) 0)
               ≡ cond b (refusal 36 0) (cond d (refusal 4 0) (andThen (rootOf (rowOver s (g .cashflows) (g .calls) f)) λ x. tested (sub binary64 x target) 0))
           go true d e = refl
           go false true e = ap (λ (v : TreeValue). onTreeValue v answer.Refused λ x. tested (sub binary64 x target) 0) (no-input s (ap (single 4 0) e))
           go false false e = tried-value s (ap (single 4 0) e)
 
-      pub solved-as : solveSpread m calls room target ≡ bracketedRoot (walkedAt target (g .cashflows) (g .calls) f) firstLower firstUpper (neg one)
+      pub solved-as : solveSpread asked calls room ≡ bracketedRoot (walkedAt target (g .cashflows) (g .calls) f) firstLower firstUpper (neg one)
       solved-as = ap (λ (objective : Float → Answer). bracketedRoot objective firstLower firstUpper (neg one)) (λ i s. tried-as s i)
 
   -- The definition, with the tree fitted once.
-  pub fitted-once : solveSpread m calls room target ≡ foundOn m room target grid
+  pub fitted-once : solveSpread asked calls room ≡ foundOn m room target grid
   unfolding foundOn foundOver onOutcome
   fitted-once = go grid refl
     where
-      over : {g : BondEventGrid} → grid ≡ given g → (o : Outcome Fitted) → fittedTree m room (g .«maturity_time») (g .steps) ≡ o → solveSpread m calls room target ≡ foundOver target (g .cashflows) (g .calls) o
+      over : {g : BondEventGrid} → grid ≡ given g → (o : Outcome Fitted) → fittedTree m room (g .«maturity_time») (g .steps) ≡ o → solveSpread asked calls room ≡ foundOver target (g .cashflows) (g .calls) o
       over e (given f) h = solved-as e h
       over e (refused q) h = tree-refused-at-first e h
 
-      go : (o : Outcome BondEventGrid) → grid ≡ o → solveSpread m calls room target ≡ foundOn m room target o
+      go : (o : Outcome BondEventGrid) → grid ≡ o → solveSpread asked calls room ≡ foundOn m room target o
       go (given g) e = over e (fittedTree m room (g .«maturity_time») (g .steps)) refl
       go (refused q) e = grid-refused-at-first e

@@ -32,11 +32,6 @@ use Rattle.treebasedbondpricer.specs.Entry.{Entered}
 use Rattle.treebasedbondpricer.specs.laws.FittedIn.{fittedWith, fittedOver}
 use Rattle.treebasedbondpricer.specs.laws.Valued.{treeOf, walked}
 
--- A check's refusal. One that passed has none, and isn't asked.
-abbrev pub uncheckedOf : Check → TreeValue
-uncheckedOf check.Passed = Value plusZero 0
-uncheckedOf (check.Refused q) = Refused q
-
 -- What terms that passed their checks are worth: the grid, then the tree.
 unfoldable pub valueOn : Market → CallSchedule → Room → TreeValue
 unfolding eventGrid latticeValueOver
@@ -70,10 +65,10 @@ unfolding fittedTreeOver fittedWith
 tree-is m room maturity steps = refl
 
 module _ (m : Market) (calls : CallSchedule) (room : Room) {r : EventGrid} (e : r ≡ gridOutcome (eventGrid (m .settlement) (m .bond) calls (m .controls))) where
-  pub value-unchecked : {q : Refusal} {v : TreeValue} → r .check ≡ check.Refused q → v ≡ uncheckedOf (r .check) → v ≡ valueOn m calls room
+  pub value-unchecked : {q : Refusal} → r .check ≡ check.Refused q → Refused q ≡ valueOn m calls room
   unfolding valueOn treeOf
-  value-unchecked p f =
-      f ∙ ap uncheckedOf p ∙ sym (ap treeOf (follow-refused (eventGrid (m .settlement) (m .bond) calls (m .controls)) (λ grid. latticeValue m room grid) (grid-refused (eventGrid (m .settlement) (m .bond) calls (m .controls)) e p)))
+  value-unchecked p =
+      sym (ap treeOf (follow-refused (eventGrid (m .settlement) (m .bond) calls (m .controls)) (λ grid. latticeValue m room grid) (grid-refused (eventGrid (m .settlement) (m .bond) calls (m .controls)) e p)))
 
   pub value-checked : {times : List Float} {v : TreeValue} → times ≡ pillarTimes (m .settlement) (m .pillars .days) → r .check ≡ check.Passed
       → v ≡ treeOf (follow (finiteThen (div binary64 (r .grid .«maturity_time») (float (r .grid .steps))) 0 λ dt. fittedOver (curveOver times (m .pillars .factors)) (m .model) room (r .grid .steps) dt) λ f. walked (m .spread) (r .grid .cashflows) (r .grid .calls) f)
@@ -101,11 +96,11 @@ module _ (m : Market) (calls : CallSchedule) {k : Check} (e : k ≡ treeChecks m
   abbrev checked : TreeValue
   checked = onOutcome (follow (eventGrid (m .settlement) (m .bond) calls (m .controls)) λ grid. latticeValue m (roomOf before) grid) Refused λ v. v
 
-  pub entered-refused : {q : Refusal} {v : TreeValue} → k ≡ check.Refused q → v ≡ uncheckedOf k → Entered m calls v before before
+  pub entered-refused : {q : Refusal} → k ≡ check.Refused q → Entered m calls (Refused q) before before
   unfolding treeValue lentAfter onCheck
-  entered-refused {q} {v} p f =
+  entered-refused p =
       record {
-        value = f ∙ ap uncheckedOf p ∙ ap (λ (c : Check). onCheck c Refused checked) (sym p ∙ e);
+        value = ap (λ (c : Check). onCheck c Refused checked) (sym p ∙ e);
         slices = ap (λ (c : Check). onCheck c (λ r. before) (zeroed before)) (sym p ∙ e);
       }
 

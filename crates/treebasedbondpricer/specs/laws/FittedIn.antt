@@ -2,14 +2,13 @@
 use Prim.Native.Nat.{ℕ, zero, suc, _+_}
 use native.Mathlib.Omega.{arith}
 use mathlib.Core.Path.{_≡_, refl, sym, ap, subst, _∙_}
-use mathlib.Core.Bool.{Bool, false}
+use mathlib.Core.Bool.{Bool}
 use mathlib.Core.List.{List, [], _∷_, _++_, append-nil}
 use lib.ListN.{length, getD, drop, drop-of-length-le}
 use lib.IntN.{ℤ}
 use lib.Ieee.{Float}
 use Rattle.floats.specs.declared.Refusal.{Refusal}
 use Rattle.floats.specs.declared.Answer.{Answer}
-use Rattle.floats.specs.Answers.{plusZero}
 use Rattle.terms.specs.declared.Check.{Check}
 use Rattle.terms.specs.declared.Check.the-variants as check
 use Rattle.terms.specs.Terms.{HullWhite}
@@ -39,10 +38,10 @@ abbrev pub fittedOver : (Float → ℕ → Answer) → HullWhite → Room → �
 fittedOver curve model room steps dt =
     follow (transitionVariances model steps dt) λ variances. fittedWith curve room (model .alpha) dt variances
 
--- A check's refusal. One that passed has none, and isn't asked.
-abbrev pub unfittedOf : Check → FittedTree
-unfittedOf check.Passed = tree.Fitted plusZero false
-unfittedOf (check.Refused q) = tree.Refused q
+-- 01's number and place: 0 and 0 where a tree is fitted.
+abbrev pub treeRefusal : FittedTree → Refusal
+treeRefusal (tree.Fitted dt flat) = record { number = 0; place = 0 }
+treeRefusal (tree.Refused q) = q
 
 -- The fitted tree stands in the slices.
 pub record FittedIn (f : Fitted) (dt : Float) (flat : Bool) (one two : ℕ) (counts : List ℕ) (spacings shifts : List Float) (nodes : List ℤ) (probabilities : List Float) : Type 0 where
@@ -113,9 +112,6 @@ pub root-count : {flat : Bool} {one two : ℕ} {numbers : List ℤ} {t : Lattice
 root-count l = ap (λ (z : List ℕ). getD z 0 0) (l .counted)
 
 module _ {o : Outcome Fitted} {one two : ℕ} {counts : List ℕ} {spacings shifts : List Float} {nodes : List ℤ} {probabilities : List Float} where
-  pub refuses-at : {k : Check} {r : FittedTree} {q : Refusal} → r ≡ unfittedOf k → k ≡ check.Refused q → o ≡ refused q → FitsTree o one two counts spacings shifts nodes probabilities r
-  refuses-at e f g = subst (FitsTree o one two counts spacings shifts nodes probabilities) (sym (e ∙ ap unfittedOf f)) (refuses g)
-
   -- The same promise of an equal outcome.
   pub fits-as : {u : Outcome Fitted} {r : FittedTree} → u ≡ o → FitsTree o one two counts spacings shifts nodes probabilities r → FitsTree u one two counts spacings shifts nodes probabilities r
   fits-as e (fits f g h) = fits f (e ∙ g) h

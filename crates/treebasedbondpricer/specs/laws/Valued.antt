@@ -9,7 +9,7 @@ use lib.Ieee.{Float}
 use Rattle.floats.specs.declared.Refusal.{Refusal}
 use Rattle.floats.specs.declared.Answer.{Answer}
 use Rattle.floats.specs.declared.Answer.the-variants as answer
-use Rattle.floats.specs.Answers.{plusZero, onAnswer}
+use Rattle.floats.specs.Answers.{onAnswer}
 use Rattle.terms.specs.Outcomes.{Outcome, given, refused, onOutcome, follow}
 use Rattle.terms.specs.laws.Outcomes.{follow-given, follow-refused}
 use Rattle.bondevents.specs.declared.CallStep.{CallStep}
@@ -28,16 +28,12 @@ use Rattle.lattice.specs.laws.Laid.{layersIn, finalIn, Laid}
 use Rattle.lattice.specs.laws.Totals.{totalOf, laid-nodes}
 use Rattle.backwardinduction.specs.laws.WalkMore.{callsOf}
 use Rattle.treebasedbondpricer.specs.laws.Marks.{calls-back}
-use Rattle.treebasedbondpricer.specs.laws.FittedIn.{FittedIn, FitsTree, fits, refuses}
+use Rattle.treebasedbondpricer.specs.laws.FittedIn.{FittedIn, FitsTree, fits, refuses, treeRefusal}
 
 -- A refusal as the tree value.
 unfoldable pub treeOf : Outcome TreeValue → TreeValue
 treeOf (given v) = v
 treeOf (refused q) = Refused q
-
-abbrev pub unfitValue : FittedTree → TreeValue
-unfitValue (tree.Fitted dt flat) = Value plusZero 0
-unfitValue (tree.Refused q) = Refused q
 
 abbrev pub countedValue : Answer → ℕ → TreeValue
 countedValue (answer.Value x) n = Value x n
@@ -72,9 +68,9 @@ module _ {o : Outcome Fitted} {one two : ℕ} {counts : List ℕ} {spacings shif
       go (refuses g) = g
 
   -- a refused tree has no value
-  pub value-refused : {r : FittedTree} {v : TreeValue} {q : Refusal} (k : Fitted → Outcome TreeValue) → FitsTree o one two counts spacings shifts nodes probabilities r → r ≡ tree.Refused q → v ≡ unfitValue r → v ≡ treeOf (follow o k)
+  pub value-refused : {r : FittedTree} {p q : Refusal} (k : Fitted → Outcome TreeValue) → FitsTree o one two counts spacings shifts nodes probabilities r → r ≡ tree.Refused q → p ≡ treeRefusal r → Refused p ≡ treeOf (follow o k)
   unfolding treeOf
-  value-refused k p e f = f ∙ ap unfitValue e ∙ sym (ap treeOf (follow-refused o k (not-standing p e)))
+  value-refused k p e f = ap Refused (f ∙ ap treeRefusal e) ∙ sym (ap treeOf (follow-refused o k (not-standing p e)))
 
   module _ {dt : Float} {flat : Bool} (s : Standing o dt flat one two counts spacings shifts nodes probabilities) where
     pub laid : Laid flat one two counts spacings nodes probabilities

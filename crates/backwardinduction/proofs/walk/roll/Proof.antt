@@ -24,7 +24,8 @@ use Rattle.lattice.specs.laws.StoredAt.{drop-two, drop-three, middles-from}
 use Rattle.lattice.specs.laws.Bounds.{Within}
 use Rattle.lattice.specs.laws.Reaching.{reach, nothingBelow}
 use Rattle.lattice.specs.laws.Positions.{startOf, Layered, Roomy, Held, roomy-next}
-use Rattle.lattice.specs.laws.Rows.{outcomeOf, checkOf}
+use Rattle.terms.specs.Checks.{refusedBy}
+use Rattle.lattice.specs.laws.Rows.{outcomeOf}
 use Rattle.lattice.specs.laws.Binds.{went-on, stopped-at}
 use Rattle.backwardinduction.specs.laws.WalkSteps.{valueWith, rolledAt}
 use Rattle.forwardinduction.proofs.Outcomes.{passes}
@@ -76,7 +77,7 @@ module _ (nodes : List ℤ) (probabilities next row₀ : List Float) (flat : Boo
           rw (drop-two nodes (pos 0) i b, drop-three probabilities nan i d)
 
       module _ {s : Answer} {z m : ℤ} {after : Reach} (n : z ≡ number) (g : m ≡ middle) (k : after ≡ reach r m) (w : s ≡ value (after .count) z) where
-        stopped : {q : Refusal} (x : List Float) {t : Check} → s ≡ Refused q → t ≡ checkOf s → outcomeOf t x ≡ whole
+        stopped : {q : Refusal} (x : List Float) {t : Check} → s ≡ Refused q → t ≡ refusedBy s → outcomeOf t x ≡ whole
         unfolding onAnswer outcomeOf
         stopped x v e = rw (e, v) (sym (turn ∙ stopped-at _ _ (rw (k, g, n) at w) v) ∙ a .left)
 
@@ -180,14 +181,14 @@ enum-known-v c = c .match .keys1
 enum-told : tie.Need-enum-told Inv-loop μ-loop
 enum-told c = c .match .keys2
 
-row-refused-requires : tie.Need-row-refused-requires Inv-loop μ-loop
-row-refused-requires c κs = tt
+refused-by-requires : tie.Need-refused-by-requires Inv-loop μ-loop
+refused-by-requires c κs = tt
 
 same-length : tie.Need-same-length Inv-loop μ-loop
 same-length c = c .before .before .before .before .before .before .before .before .before .before .before .before .loop .inv .same
 
 returns : tie.Need-returns Inv-loop μ-loop
-returns c = stopped (c .before .before .before .before .before .before .before .before .before .before .before .before .before .before .before .before .before .before .args .nodes .now) (c .before .before .before .before .before .before .before .before .before .before .before .before .before .before .before .before .before .before .args .probabilities .now) (c .before .before .before .before .before .before .before .before .before .before .before .before .before .before .before .before .before .before .args .next .now) (c .before .before .before .before .before .before .before .before .before .before .before .before .before .before .before .before .before .before .args .row .now) (c .before .before .before .before .before .before .before .before .before .before .before .before .before .before .before .before .before .before .args .flat) (c .before .before .before .before .before .before .before .before .before .before .before .before .before .before .before .before .before .before .args .rates) (c .before .before .before .before .before .before .before .before .before .before .before .before .before .before .before .before .before .before .args .call) (c .before .before .before .before .before .before .before .before .before .before .before .before .before .before .before .before .before .before .args .cashflow) (c .before .before .before .before .before .before .before .before .before .before .before .before .before .before .before .before .before .before .args .place) (c .before .before .before .before .before .before .before .before .before .before .before .before .before .before .before .before .before .before .pre) (c .before .before .before .before .before .before .before .before .before .before .before .before .loop .row) (c .before .before .before .before .before .before .before .before .before .before .before .before .loop .r) (c .before .before .before .before .before .before .before .before .before .before .before .before .loop .i) (c .before .before .before .before .before .before .before .before .before .before .before .before .loop .inv) (c .before .before .before .before .before .before .before .before .before .before .before .loop-test .taken) (toZ-ofZ (record { sfits = c .before .before .before .before .before .before .before .before .before .before .node .given })) (toZ-ofZ (record { sfits = c .before .before .before .before .before .before .before .before .before .middle .given })) (c .before .before .before .before .before .before .before .before .reached .ensures) (c .before .before .before .node-value .ensures) _ (c .before .enum-told .given .1) (c .row-refused .ensures)
+returns c = stopped (c .before .before .before .before .before .before .before .before .before .before .before .before .before .before .before .before .before .before .args .nodes .now) (c .before .before .before .before .before .before .before .before .before .before .before .before .before .before .before .before .before .before .args .probabilities .now) (c .before .before .before .before .before .before .before .before .before .before .before .before .before .before .before .before .before .before .args .next .now) (c .before .before .before .before .before .before .before .before .before .before .before .before .before .before .before .before .before .before .args .row .now) (c .before .before .before .before .before .before .before .before .before .before .before .before .before .before .before .before .before .before .args .flat) (c .before .before .before .before .before .before .before .before .before .before .before .before .before .before .before .before .before .before .args .rates) (c .before .before .before .before .before .before .before .before .before .before .before .before .before .before .before .before .before .before .args .call) (c .before .before .before .before .before .before .before .before .before .before .before .before .before .before .before .before .before .before .args .cashflow) (c .before .before .before .before .before .before .before .before .before .before .before .before .before .before .before .before .before .before .args .place) (c .before .before .before .before .before .before .before .before .before .before .before .before .before .before .before .before .before .before .pre) (c .before .before .before .before .before .before .before .before .before .before .before .before .loop .row) (c .before .before .before .before .before .before .before .before .before .before .before .before .loop .r) (c .before .before .before .before .before .before .before .before .before .before .before .before .loop .i) (c .before .before .before .before .before .before .before .before .before .before .before .before .loop .inv) (c .before .before .before .before .before .before .before .before .before .before .before .loop-test .taken) (toZ-ofZ (record { sfits = c .before .before .before .before .before .before .before .before .before .before .node .given })) (toZ-ofZ (record { sfits = c .before .before .before .before .before .before .before .before .before .middle .given })) (c .before .before .before .before .before .before .before .before .reached .ensures) (c .before .before .before .node-value .ensures) _ (c .before .enum-told .given .1) (c .refused-by .ensures)
 
 mul-row : tie.Need-mul-row Inv-loop μ-loop
 mul-row c = omega (arith, c .before .before .before .before .before .before .before .before .before .before .before .before .before .before .before .before .before .before .pre .pairs, c .before .before .before .before .before .before .before .before .before .before .before .before .before .before .before .before .before .before .pre .threes, c .before .before .before .before .before .before .before .before .before .before .before .before .loop .inv .same, c .before .before .before .before .before .before .before .before .before .before .before .loop-test .taken, c .before .before .before .before .before .before .before .before .before .before .before .before .before .before .before .before .before .before .good)
@@ -242,7 +243,7 @@ roll-spec =
     node-value-requires
     enum-known-v
     enum-told
-    row-refused-requires
+    refused-by-requires
     same-length
     returns
     mul-row

@@ -17,8 +17,8 @@ enum-known-answer c = search answers
 enum-told : tie.Need-enum-told
 enum-told c = search answers
 
-refusal-of-requires : tie.Need-refusal-of-requires
-refusal-of-requires c κs = search answers
+refused-by-requires : tie.Need-refused-by-requires
+refused-by-requires c κs = search answers
 
 no-calls-requires : tie.Need-no-calls-requires
 no-calls-requires c κs = search answers
@@ -54,7 +54,7 @@ at-step-spec =
     call-price-requires
     enum-known-answer
     enum-told
-    refusal-of-requires
+    refused-by-requires
     no-calls-requires
     returns
     mul-call

@@ -38,8 +38,8 @@ enum-known-answer c = search scanning
 enum-told : tie.Need-enum-told Inv-loop μ-loop
 enum-told c = search scanning
 
-refusal-of-requires : tie.Need-refusal-of-requires Inv-loop μ-loop
-refusal-of-requires c κs = search scanning
+refused-by-requires : tie.Need-refused-by-requires Inv-loop μ-loop
+refused-by-requires c κs = search scanning
 
 no-calls-requires : tie.Need-no-calls-requires Inv-loop μ-loop
 no-calls-requires c κs = search scanning
@@ -93,7 +93,7 @@ over-window-spec =
     call-price-requires
     enum-known-answer
     enum-told
-    refusal-of-requires
+    refused-by-requires
     no-calls-requires
     returns
     mul-call

@@ -64,6 +64,9 @@ returns-3 c = search prices
 not-finite-requires : tie.Need-not-finite-requires
 not-finite-requires c κs = search prices
 
+overflow-refusal-requires : tie.Need-overflow-refusal-requires
+overflow-refusal-requires c κs = search prices
+
 same-length-5 : tie.Need-same-length-5
 same-length-5 c = search prices
 
@@ -72,7 +75,7 @@ same-length-6 c = search prices
 
 returns-4 : tie.Need-returns-4
 unfolding halve
-returns-4 c = search prices
+returns-4 c = rw (c .overflow-refusal .ensures) (valued _ _ _ (c .before .before .before .before .before .before .before .before .before .before .before .before .before .before .before .before .before .before .before .before .midpoint-at .ensures) (c .before .before .before .before .before .before .before .before .before .before .before .before .before .before .before .before .before .before .a .given .1) (valued _ _ _ (c .before .before .before .before .before .before .before .before .before .before .before .before .before .objective .ensures) (c .before .before .before .before .before .before .before .y .given .1) (left-call _ _ _ (c .before .before .before .before .before .is-small .ensures) (c .before .before .before .before .if1 .left) (taken-call _ _ _ (c .before .before .not-finite .ensures) (c .before .if2 .taken) refl))))
 
 is-small-requires-2 : tie.Need-is-small-requires-2
 is-small-requires-2 c κs = search prices
@@ -135,6 +138,7 @@ halve-spec =
     same-length-4
     returns-3
     not-finite-requires
+    overflow-refusal-requires
     same-length-5
     same-length-6
     returns-4

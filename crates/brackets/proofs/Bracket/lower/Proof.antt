@@ -31,6 +31,9 @@ greater-requires c κs = search prices
 not-finite-requires : tie.Need-not-finite-requires
 not-finite-requires c κs = search prices
 
+overflow-refusal-requires : tie.Need-overflow-refusal-requires
+overflow-refusal-requires c κs = search prices
+
 returns-2 : tie.Need-returns-2
 returns-2 c = search (prices, lowering) depth 12 fits 4000
 
@@ -87,6 +90,7 @@ lower-spec =
     returns
     greater-requires
     not-finite-requires
+    overflow-refusal-requires
     returns-2
     is-small-requires
     returns-3

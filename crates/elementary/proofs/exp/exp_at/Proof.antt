@@ -1,4 +1,5 @@
 -- `exp::exp_at` meets its contract: one test of the end result stands for the tests of every operation. Assumes nothing.
+use mathlib.Core.Path.{_∙_}
 use Rattle.elementary.specs.Exponential.{expAt}
 use Rattle.elementary.specs.laws.Exponential.{exp-is}
 use Rattle.floats.specs.laws.Propagation.{tested-bad, tested-good}
@@ -9,6 +10,9 @@ use Rattle.elementary.proofs.exp.exp_at.Tie as tie
 
 not-finite-requires : tie.Need-not-finite-requires
 not-finite-requires c κs = search answers
+
+overflow-requires : tie.Need-overflow-requires
+overflow-requires c κs = tt
 
 returns : tie.Need-returns
 unfolding expAt
@@ -28,9 +32,12 @@ reduced-requires c κs = reducible _ (finite-by-call (c .before .before .before 
 not-finite-requires-2 : tie.Need-not-finite-requires-2
 not-finite-requires-2 c κs = search answers
 
+overflow-requires-2 : tie.Need-overflow-requires-2
+overflow-requires-2 c κs = tt
+
 returns-4 : tie.Need-returns-4
 unfolding expAt
-returns-4 c = search (exp-is, tested-bad, answers) depth 20 fits 4000
+returns-4 c = c .overflow2 .ensures ∙ search (exp-is, tested-bad, answers) depth 20 fits 4000
 
 returns-5 : tie.Need-returns-5
 unfolding expAt
@@ -41,10 +48,12 @@ exp-at-spec =
     tie.close
     (tie.spec
     not-finite-requires
+    overflow-requires
     returns
     returns-2
     returns-3
     reduced-requires
     not-finite-requires-2
+    overflow-requires-2
     returns-4
     returns-5)

@@ -8,6 +8,9 @@ use Rattle.elementary.proofs.exp_m1.exp_m1_at.Tie as tie
 not-finite-requires : tie.Need-not-finite-requires
 not-finite-requires c κs = search answers
 
+overflow-requires : tie.Need-overflow-requires
+overflow-requires c κs = tt
+
 returns : tie.Need-returns
 unfolding expM1At
 returns c = search (answers, flags) depth 20 fits 4000
@@ -38,6 +41,7 @@ exp-m1-at-spec =
     tie.close
     (tie.spec
     not-finite-requires
+    overflow-requires
     returns
     near-zero-requires
     returns-2

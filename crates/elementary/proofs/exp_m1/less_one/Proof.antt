@@ -18,6 +18,9 @@ returns c = search answers
 not-finite-requires : tie.Need-not-finite-requires
 not-finite-requires c κs = search answers
 
+overflow-requires : tie.Need-overflow-requires
+overflow-requires c κs = tt
+
 returns-2 : tie.Need-returns-2
 returns-2 c = search answers
 
@@ -33,5 +36,6 @@ less-one-spec =
     enum-told
     returns
     not-finite-requires
+    overflow-requires
     returns-2
     returns-3)

@@ -1,4 +1,5 @@
 -- `ln::ln_at` meets its contract: one test of the end result stands for the tests of every operation. Assumes nothing.
+use mathlib.Core.Path.{_∙_}
 use Rattle.elementary.specs.Logarithm.{lnAt}
 use Rattle.elementary.specs.laws.Logarithm.{ln-is}
 use Rattle.elementary.specs.laws.Normal.{loggable}
@@ -9,6 +10,9 @@ use Rattle.elementary.proofs.ln.ln_at.Tie as tie
 
 not-finite-requires : tie.Need-not-finite-requires
 not-finite-requires c κs = search answers
+
+overflow-requires : tie.Need-overflow-requires
+overflow-requires c κs = tt
 
 returns : tie.Need-returns
 unfolding lnAt
@@ -24,9 +28,12 @@ straight-requires c κs = loggable _ (finite-by-call (c .before .before .before 
 not-finite-requires-2 : tie.Need-not-finite-requires-2
 not-finite-requires-2 c κs = search answers
 
+overflow-requires-2 : tie.Need-overflow-requires-2
+overflow-requires-2 c κs = tt
+
 returns-3 : tie.Need-returns-3
 unfolding lnAt
-returns-3 c = search (ln-is, loggable, tested-bad, answers) depth 20 fits 4000
+returns-3 c = c .overflow2 .ensures ∙ search (ln-is, loggable, tested-bad, answers) depth 20 fits 4000
 
 returns-4 : tie.Need-returns-4
 unfolding lnAt
@@ -37,9 +44,11 @@ ln-at-spec =
     tie.close
     (tie.spec
     not-finite-requires
+    overflow-requires
     returns
     returns-2
     straight-requires
     not-finite-requires-2
+    overflow-requires-2
     returns-3
     returns-4)

@@ -20,6 +20,9 @@ returns c = search answers
 not-finite-requires : tie.Need-not-finite-requires
 not-finite-requires c κs = search answers
 
+overflow-requires : tie.Need-overflow-requires
+overflow-requires c κs = tt
+
 returns-2 : tie.Need-returns-2
 unfolding powfAt
 returns-2 c = search answers
@@ -40,6 +43,7 @@ powf-at-spec =
     enum-told
     returns
     not-finite-requires
+    overflow-requires
     returns-2
     exp-at-requires
     returns-3)

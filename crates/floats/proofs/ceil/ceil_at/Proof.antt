@@ -9,6 +9,9 @@ use Rattle.floats.proofs.ceil.ceil_at.Tie as tie
 not-finite-requires : tie.Need-not-finite-requires
 not-finite-requires c κs = search answers
 
+overflow-requires : tie.Need-overflow-requires
+overflow-requires c κs = tt
+
 returns : tie.Need-returns
 returns c = search answers
 
@@ -19,4 +22,4 @@ returns-2 : tie.Need-returns-2
 returns-2 c = ap Value (c .upwards .ensures) ∙ sym (ceil-answers (c .before .before .before .args .x) (c .before .before .before .args .place) (search answers) (search answers))
 
 pub ceil-at-spec : {M : Type 1} → statement M
-ceil-at-spec = tie.close (tie.spec not-finite-requires returns upwards-requires returns-2)
+ceil-at-spec = tie.close (tie.spec not-finite-requires overflow-requires returns upwards-requires returns-2)

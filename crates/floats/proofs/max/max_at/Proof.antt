@@ -6,11 +6,17 @@ use Rattle.floats.proofs.max.max_at.Tie as tie
 not-finite-requires : tie.Need-not-finite-requires
 not-finite-requires c κs = search answers
 
+overflow-requires : tie.Need-overflow-requires
+overflow-requires c κs = tt
+
 returns : tie.Need-returns
 returns c = search answers
 
 not-finite-requires-2 : tie.Need-not-finite-requires-2
 not-finite-requires-2 c κs = search answers
+
+overflow-requires-2 : tie.Need-overflow-requires-2
+overflow-requires-2 c κs = tt
 
 returns-2 : tie.Need-returns-2
 returns-2 c = search answers
@@ -26,8 +32,10 @@ max-at-spec =
     tie.close
     (tie.spec
     not-finite-requires
+    overflow-requires
     returns
     not-finite-requires-2
+    overflow-requires-2
     returns-2
     greater-requires
     returns-3)

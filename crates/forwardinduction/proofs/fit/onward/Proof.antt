@@ -22,7 +22,8 @@ use Rattle.lattice.specs.laws.StoredAt.{drop-one, drop-two, drop-three, middles
 use Rattle.lattice.specs.laws.Bounds.{Within}
 use Rattle.lattice.specs.laws.Reaching.{reach, nothingBelow}
 use Rattle.lattice.specs.laws.Positions.{startOf, Layered, Roomy, Held, roomy-next}
-use Rattle.lattice.specs.laws.Rows.{outcomeOf, checkOf}
+use Rattle.terms.specs.Checks.{refusedBy}
+use Rattle.lattice.specs.laws.Rows.{outcomeOf}
 use Rattle.lattice.specs.laws.Binds.{went-on, stopped-at}
 use Rattle.forwardinduction.specs.laws.FitSteps.{discountedOf, addThree, onwardAt}
 use Rattle.forwardinduction.proofs.Outcomes.{passes, refuses-call, followed, halted}
@@ -71,7 +72,7 @@ module _ (nodes : List ℤ) (probabilities row next₀ : List Float) (flat : Boo
           rw (drop-two nodes (pos 0) i b, drop-three probabilities nan i d, drop-one row nan i h)
 
       module _ {s : Answer} {z : ℤ} (n : z ≡ number) (w : s ≡ discountedOf spacing dt shift place (nodeFloat z) (getD row i nan)) where
-        price-stopped : {q : Refusal} (x : List Float) {t : Check} → s ≡ Refused q → t ≡ checkOf s → outcomeOf t x ≡ whole
+        price-stopped : {q : Refusal} (x : List Float) {t : Check} → s ≡ Refused q → t ≡ refusedBy s → outcomeOf t x ≡ whole
         unfolding onAnswer outcomeOf
         price-stopped x v e = rw (e, v) (sym (turn ∙ stopped-at _ _ (rw n at w) v) ∙ a .left)
 
@@ -157,14 +158,14 @@ enum-known-d c = c .match .keys1
 enum-told : tie.Need-enum-told Inv-loop μ-loop
 enum-told c = c .match .keys2
 
-row-refused-requires : tie.Need-row-refused-requires Inv-loop μ-loop
-row-refused-requires c κs = tt
+refused-by-requires : tie.Need-refused-by-requires Inv-loop μ-loop
+refused-by-requires c κs = tt
 
 same-length : tie.Need-same-length Inv-loop μ-loop
 same-length c = search answers
 
 returns : tie.Need-returns Inv-loop μ-loop
-returns c = price-stopped (c .before .before .before .before .before .before .before .before .before .before .before .before .before .before .before .args .nodes .now) (c .before .before .before .before .before .before .before .before .before .before .before .before .before .before .before .args .probabilities .now) (c .before .before .before .before .before .before .before .before .before .before .before .before .before .before .before .args .row .now) (c .before .before .before .before .before .before .before .before .before .before .before .before .before .before .before .args .next .now) (c .before .before .before .before .before .before .before .before .before .before .before .before .before .before .before .args .flat) (c .before .before .before .before .before .before .before .before .before .before .before .before .before .before .before .args .spacing) (c .before .before .before .before .before .before .before .before .before .before .before .before .before .before .before .args .dt) (c .before .before .before .before .before .before .before .before .before .before .before .before .before .before .before .args .shift) (c .before .before .before .before .before .before .before .before .before .before .before .before .before .before .before .args .place) (c .before .before .before .before .before .before .before .before .before .before .before .before .before .before .before .pre) (c .before .before .before .before .before .before .before .before .before .loop .next) (c .before .before .before .before .before .before .before .before .before .loop .r) (c .before .before .before .before .before .before .before .before .before .loop .i) (c .before .before .before .before .before .before .before .before .before .loop .inv) (c .before .before .before .before .before .before .before .before .loop-test .taken) (toZ-ofZ (record { sfits = c .before .before .before .before .before .before .before .node .given })) (c .before .before .before .discounted .ensures) _ (c .before .enum-told .given .1) (c .row-refused .ensures)
+returns c = price-stopped (c .before .before .before .before .before .before .before .before .before .before .before .before .before .before .before .args .nodes .now) (c .before .before .before .before .before .before .before .before .before .before .before .before .before .before .before .args .probabilities .now) (c .before .before .before .before .before .before .before .before .before .before .before .before .before .before .before .args .row .now) (c .before .before .before .before .before .before .before .before .before .before .before .before .before .before .before .args .next .now) (c .before .before .before .before .before .before .before .before .before .before .before .before .before .before .before .args .flat) (c .before .before .before .before .before .before .before .before .before .before .before .before .before .before .before .args .spacing) (c .before .before .before .before .before .before .before .before .before .before .before .before .before .before .before .args .dt) (c .before .before .before .before .before .before .before .before .before .before .before .before .before .before .before .args .shift) (c .before .before .before .before .before .before .before .before .before .before .before .before .before .before .before .args .place) (c .before .before .before .before .before .before .before .before .before .before .before .before .before .before .before .pre) (c .before .before .before .before .before .before .before .before .before .loop .next) (c .before .before .before .before .before .before .before .before .before .loop .r) (c .before .before .before .before .before .before .before .before .before .loop .i) (c .before .before .before .before .before .before .before .before .before .loop .inv) (c .before .before .before .before .before .before .before .before .loop-test .taken) (toZ-ofZ (record { sfits = c .before .before .before .before .before .before .before .node .given })) (c .before .before .before .discounted .ensures) _ (c .before .enum-told .given .1) (c .refused-by .ensures)
 
 reached-requires : tie.Need-reached-requires Inv-loop μ-loop
 reached-requires c κs = let h = held (c .before .before .before .before .before .before .before .before .before .before .before .before .before .before .before .args .nodes .now) (c .before .before .before .before .before .before .before .before .before .before .before .before .before .before .before .args .probabilities .now) (c .before .before .before .before .before .before .before .before .before .before .before .before .before .before .before .args .row .now) (c .before .before .before .before .before .before .before .before .before .before .before .before .before .before .before .args .next .now) (c .before .before .before .before .before .before .before .before .before .before .before .before .before .before .before .args .flat) (c .before .before .before .before .before .before .before .before .before .before .before .before .before .before .before .args .spacing) (c .before .before .before .before .before .before .before .before .before .before .before .before .before .before .before .args .dt) (c .before .before .before .before .before .before .before .before .before .before .before .before .before .before .before .args .shift) (c .before .before .before .before .before .before .before .before .before .before .before .before .before .before .before .args .place) (c .before .before .before .before .before .before .before .before .before .before .before .before .before .before .before .pre) (c .before .before .before .before .before .before .before .before .before .loop .next) (c .before .before .before .before .before .before .before .before .before .loop .r) (c .before .before .before .before .before .before .before .before .before .loop .i) (c .before .before .before .before .before .before .before .before .before .loop .inv) (c .before .before .before .before .before .before .before .before .loop-test .taken) (toZ-ofZ (record { sfits = c .before .before .before .before .before .before .middle .given })) in (omega (arith, h .counted, c .before .before .before .before .before .before .before .before .before .before .before .before .before .before .before .good), h .within)
@@ -254,7 +255,7 @@ onward-spec =
     discounted-requires
     enum-known-d
     enum-told
-    row-refused-requires
+    refused-by-requires
     same-length
     returns
     reached-requires

@@ -15,7 +15,7 @@ use Rattle.forwardinduction.proofs.fitting.fit.Reads as fit
 use Rattle.forwardinduction.proofs.fitting.fit.Kinds as fit-kinds
 use Rattle.forwardinduction.proofs.fitting.+fit.Lts-fit as fit-lts
 use Rattle.forwardinduction.proofs.fitting.fit_step.Reads as fit-step-reads
-use Rattle.lattice.proofs.refusals.row_refused.Reads as row-refused-reads
+use Rattle.terms.proofs.refusing.refused_by.Reads as refused-by-reads
 use Rattle.forwardinduction.proofs.fitting.+fit.{statement}
 use Rattle.forwardinduction.proofs.fitting.+fit.Tie.{close}
 
@@ -29,7 +29,7 @@ abbrev fit-below : ℕ → In 9 fit-kinds.ps
 fit-below t = and 9 fit-kinds.ps (falls 9 fit-kinds.ps _<_ μ-fit t) fit.Pre
 
 abbrev claims : ℕ → fit-lts.Claims
-claims t = (fit-step-reads.Asked, fit-step-reads.Learnt, row-refused-reads.Asked, row-refused-reads.Learnt, fit-below t, fit.Post)
+claims t = (fit-step-reads.Asked, fit-step-reads.Learnt, refused-by-reads.Asked, refused-by-reads.Learnt, fit-below t, fit.Post)
 
 -- past the test there is a layer in front
 front : (t : ℕ) (c : fit-lts.Else1 (claims t) (fit-at t) fit.Post)
@@ -66,8 +66,8 @@ fit-enum-known-s t c = c .match .keys1
 fit-enum-told : (t : ℕ) → fit-lts.Need-enum-told (claims t) (fit-at t) fit.Post
 fit-enum-told t c = c .match .keys2
 
-fit-row-refused-requires : (t : ℕ) → fit-lts.Need-row-refused-requires (claims t) (fit-at t) fit.Post
-fit-row-refused-requires t c κs = tt
+fit-refused-by-requires : (t : ℕ) → fit-lts.Need-refused-by-requires (claims t) (fit-at t) fit.Post
+fit-refused-by-requires t c κs = tt
 
 fit-same-length : (t : ℕ) → fit-lts.Need-same-length (claims t) (fit-at t) fit.Post
 fit-same-length t c = c .before .before .before .before .before .before .before .fit-step .kept .1 .1 .1 .1 .1 .1 .1 .1 .1 .0
@@ -76,7 +76,7 @@ fit-same-length-2 : (t : ℕ) → fit-lts.Need-same-length-2 (claims t) (fit-at 
 fit-same-length-2 t c = c .before .before .before .before .before .before .before .fit-step .kept .1 .1 .1 .1 .1 .1 .1 .1 .1 .1 .0
 
 fit-returns-2 : (t : ℕ) → fit-lts.Need-returns-2 (claims t) (fit-at t) fit.Post
-fit-returns-2 t c = found-refused _ _ _ _ _ _ _ _ _ _ (front t (c .before .before .before .before .before .before .before .before .before .before .before .before .before .before)) (c .before .before .before .before .before .before .before .fit-step .ensures) _ _ (c .before .enum-told .given .1) (c .row-refused .ensures)
+fit-returns-2 t c = found-refused _ _ _ _ _ _ _ _ _ _ (front t (c .before .before .before .before .before .before .before .before .before .before .before .before .before .before)) (c .before .before .before .before .before .before .before .fit-step .ensures) _ _ (c .before .enum-told .given .1) (c .refused-by .ensures)
 
 fit-slice-write-shifts : (t : ℕ) → fit-lts.Need-slice-write-shifts (claims t) (fit-at t) fit.Post
 fit-slice-write-shifts t c = omega (arith, c .before .before .before .before .before .before .before .before .before .before .before .before .before .before .before .before .before .before .before .before .before .before .before .pre .1 .1 .0, c .before .before .before .before .before .before .before .before .before .before .before .before .before .before .if1)
@@ -174,7 +174,7 @@ pub +fit-spec : {M : Type 1} → statement M
     (fit-fit-step-requires t)
     (fit-enum-known-s t)
     (fit-enum-told t)
-    (fit-row-refused-requires t)
+    (fit-refused-by-requires t)
     (fit-same-length t)
     (fit-same-length-2 t)
     (fit-returns-2 t)

@@ -10,12 +10,18 @@ int-to-float-start c = search answers
 not-finite-requires : tie.Need-not-finite-requires
 not-finite-requires c κs = search answers
 
+overflow-requires : tie.Need-overflow-requires
+overflow-requires c κs = tt
+
 returns : tie.Need-returns
 unfolding stepVariance
 returns c = search answers
 
 not-finite-requires-2 : tie.Need-not-finite-requires-2
 not-finite-requires-2 c κs = search answers
+
+overflow-requires-2 : tie.Need-overflow-requires-2
+overflow-requires-2 c κs = tt
 
 returns-2 : tie.Need-returns-2
 unfolding stepVariance
@@ -34,8 +40,10 @@ step-variance-spec =
     (tie.spec
     int-to-float-start
     not-finite-requires
+    overflow-requires
     returns
     not-finite-requires-2
+    overflow-requires-2
     returns-2
     hull-white-piecewise-variance-requires
     returns-3)

@@ -24,14 +24,14 @@ enum-known-found c = search answers
 enum-told : tie.Need-enum-told Inv-loop μ-loop
 enum-told c = search answers
 
-carried-requires : tie.Need-carried-requires Inv-loop μ-loop
-carried-requires c κs = search answers
+refused-by-requires : tie.Need-refused-by-requires Inv-loop μ-loop
+refused-by-requires c κs = search answers
 
 same-length : tie.Need-same-length Inv-loop μ-loop
 same-length c = c .before .before .before .before .before .loop .inv .filling .kept
 
 returns : tie.Need-returns Inv-loop μ-loop
-returns c = reached-refused (modelOf (c .before .before .before .before .before .before .before .before .before .args .alpha) (c .before .before .before .before .before .before .before .before .before .args .sigma-times .now) (c .before .before .before .before .before .before .before .before .before .args .sigmas .now)) (c .before .before .before .before .before .before .before .before .before .args .time-step) (c .before .before .before .before .before .before .before .before .before .args .steps) (c .before .before .before .before .before .before .before .before .before .args .variances .now) (c .before .before .before .before .before .loop .variances) (c .before .before .before .before .before .loop .k) (c .before .before .before .before .before .loop .inv) (c .before .before .before .before .loop-test .taken) (c .before .before .before .step-variance .ensures) (c .before .enum-told .given .1) (c .carried .ensures)
+returns c = reached-refused (modelOf (c .before .before .before .before .before .before .before .before .before .args .alpha) (c .before .before .before .before .before .before .before .before .before .args .sigma-times .now) (c .before .before .before .before .before .before .before .before .before .args .sigmas .now)) (c .before .before .before .before .before .before .before .before .before .args .time-step) (c .before .before .before .before .before .before .before .before .before .args .steps) (c .before .before .before .before .before .before .before .before .before .args .variances .now) (c .before .before .before .before .before .loop .variances) (c .before .before .before .before .before .loop .k) (c .before .before .before .before .before .loop .inv) (c .before .before .before .before .loop-test .taken) (c .before .before .before .step-variance .ensures) (c .before .enum-told .given .1) (c .refused-by .ensures)
 
 cast-variances : tie.Need-cast-variances Inv-loop μ-loop
 cast-variances c = search answers
@@ -67,7 +67,7 @@ transition-variances-spec =
     step-variance-requires
     enum-known-found
     enum-told
-    carried-requires
+    refused-by-requires
     same-length
     returns
     cast-variances

@@ -24,6 +24,9 @@ returns-2 c = search answers
 not-finite-requires : tie.Need-not-finite-requires
 not-finite-requires c κs = search answers
 
+overflow-requires : tie.Need-overflow-requires
+overflow-requires c κs = tt
+
 returns-3 : tie.Need-returns-3
 unfolding withPiece
 returns-3 c = search answers
@@ -31,12 +34,18 @@ returns-3 c = search answers
 not-finite-requires-2 : tie.Need-not-finite-requires-2
 not-finite-requires-2 c κs = search answers
 
+overflow-requires-2 : tie.Need-overflow-requires-2
+overflow-requires-2 c κs = tt
+
 returns-4 : tie.Need-returns-4
 unfolding withPiece
 returns-4 c = search answers
 
 not-finite-requires-3 : tie.Need-not-finite-requires-3
 not-finite-requires-3 c κs = search answers
+
+overflow-requires-3 : tie.Need-overflow-requires-3
+overflow-requires-3 c κs = tt
 
 returns-5 : tie.Need-returns-5
 unfolding withPiece
@@ -56,9 +65,12 @@ with-piece-spec =
     enum-told
     returns-2
     not-finite-requires
+    overflow-requires
     returns-3
     not-finite-requires-2
+    overflow-requires-2
     returns-4
     not-finite-requires-3
+    overflow-requires-3
     returns-5
     returns-6)

@@ -9,6 +9,9 @@ no-decay-requires c κs = search answers
 not-finite-requires : tie.Need-not-finite-requires
 not-finite-requires c κs = search answers
 
+overflow-requires : tie.Need-overflow-requires
+overflow-requires c κs = tt
+
 returns : tie.Need-returns
 returns c = search answers
 
@@ -27,6 +30,7 @@ weight-spec =
     (tie.spec
     no-decay-requires
     not-finite-requires
+    overflow-requires
     returns
     returns-2
     decaying-weight-requires

@@ -13,6 +13,7 @@ use Rattle.latticetransitions.proofs.curved.layers.Reads as layers
 use Rattle.latticetransitions.proofs.curved.layers.Kinds as layers-kinds
 use Rattle.latticetransitions.proofs.curved.+layers.Lts-layers as layers-lts
 use Rattle.layers.proofs.grow.grow.Reads as grow-reads
+use Rattle.lattice.proofs.NextLayer.refusal.Reads as refusal-reads
 use Rattle.latticetransitions.proofs.curved.+layers.{statement}
 use Rattle.latticetransitions.proofs.curved.+layers.Tie.{close}
 
@@ -26,7 +27,7 @@ abbrev layers-below : ℕ → In 5 layers-kinds.ps
 layers-below t = and 5 layers-kinds.ps (falls 5 layers-kinds.ps _<_ μ-layers t) layers.Pre
 
 abbrev claims : ℕ → layers-lts.Claims
-claims t = (grow-reads.Asked, grow-reads.Learnt, layers-below t, layers.Post)
+claims t = (grow-reads.Asked, grow-reads.Learnt, refusal-reads.Asked, refusal-reads.Learnt, layers-below t, layers.Post)
 
 layers-slice-write-counts : (t : ℕ) → layers-lts.Need-slice-write-counts (claims t) (layers-at t) layers.Post
 layers-slice-write-counts t c = omega (arith, c .before .before .before .before .pre .1 .1 .0 .0)
@@ -48,6 +49,27 @@ layers-grow-requires t c κs = (c .before .before .before .before .before .befor
 
 layers-enum-known-next : (t : ℕ) → layers-lts.Need-enum-known-next (claims t) (layers-at t) layers.Post
 layers-enum-known-next t c = c .match .keys1
+
+layers-enum-told : (t : ℕ) → layers-lts.Need-enum-told (claims t) (layers-at t) layers.Post
+layers-enum-told t c = c .match .keys2
+
+layers-refusal-requires : (t : ℕ) → layers-lts.Need-refusal-requires (claims t) (layers-at t) layers.Post
+layers-refusal-requires t c κs = tt
+
+layers-same-length-2 : (t : ℕ) → layers-lts.Need-same-length-2 (claims t) (layers-at t) layers.Post
+layers-same-length-2 t c = length-set (c .before .before .before .before .before .before .before .before .before .before .before .before .before .before .before .args .counts .now) 0 (c .before .before .before .before .before .before .before .before .before .before .before .before .before .before .before .args .count)
+
+layers-same-length-3 : (t : ℕ) → layers-lts.Need-same-length-3 (claims t) (layers-at t) layers.Post
+layers-same-length-3 t c = length-set (c .before .before .before .before .before .before .before .before .before .before .before .before .before .before .before .args .spacings .now) 0 (c .before .before .before .before .before .before .before .before .before .before .before .before .before .before .before .args .spacing)
+
+layers-same-length-4 : (t : ℕ) → layers-lts.Need-same-length-4 (claims t) (layers-at t) layers.Post
+layers-same-length-4 t c = c .before .before .before .before .before .before .grow .kept .1 .1 .1 .1 .1 .0
+
+layers-same-length-5 : (t : ℕ) → layers-lts.Need-same-length-5 (claims t) (layers-at t) layers.Post
+layers-same-length-5 t c = c .before .before .before .before .before .before .grow .kept .1 .1 .1 .1 .1 .1 .0
+
+layers-returns-2 : (t : ℕ) → layers-lts.Need-returns-2 (claims t) (layers-at t) layers.Post
+layers-returns-2 t c = rw (c .refusal .ensures, c .before .enum-told .given .1) (refused-here (c .before .before .before .before .before .before .before .before .before .before .before .before .before .before .before .args .one) (c .before .before .before .before .before .before .before .before .before .before .before .before .before .before .before .args .two) (c .before .before .before .before .before .before .before .before .before .before .before .before .before .before .before .args .count) (c .before .before .before .before .before .before .before .before .before .before .before .before .before .before .before .args .step) (c .before .before .before .before .before .before .before .before .before .before .before .before .before .before .before .args .decay) (c .before .before .before .before .before .before .before .before .before .before .before .before .before .before .before .args .spacing) (c .before .before .before .before .before .before .before .before .before .before .before .before .before .before .before .args .variances .now) (c .before .before .before .before .before .before .before .before .before .before .before .before .before .before .before .args .nodes .now) (c .before .before .before .before .before .before .grow .last .1 .1 .1 .1 .1 .0) (c .before .before .before .before .before .before .before .before .before .before .before .before .before .before .before .args .probabilities .now) (c .before .before .before .before .before .before .grow .last .1 .1 .1 .1 .1 .1 .0) (c .before .before .before .before .before .before .grow .result) (c .before .before .before .before .before .before .before .before .before .before .before .before .before .before .before .pre .1 .0) (c .before .before .before .before .before .before .before .before .before .before .if1 .left) (c .before .before .before .before .before .before .grow .ensures) _ (set (c .before .before .before .before .before .before .before .before .before .before .before .before .before .before .before .args .counts .now) 0 (c .before .before .before .before .before .before .before .before .before .before .before .before .before .before .before .args .count)) (set (c .before .before .before .before .before .before .before .before .before .before .before .before .before .before .before .args .spacings .now) 0 (c .before .before .before .before .before .before .before .before .before .before .before .before .before .before .before .args .spacing)) (c .before .enum-told .given .1))
 
 layers-mul-pairs : (t : ℕ) → layers-lts.Need-mul-pairs (claims t) (layers-at t) layers.Post
 layers-mul-pairs t c = record { fits = omega (arith, c .before .before .before .before .before .before .before .before .before .before .before .before .before .before .before .pre .1 .0 .pairs, c .before .before .before .before .before .before .before .before .before .before .before .before .before .before .before .good) }
@@ -125,38 +147,20 @@ layers-layers-requires t c κs =
       ),
     )
 
-layers-enum-known-next-2 : (t : ℕ) → layers-lts.Need-enum-known-next-2 (claims t) (layers-at t) layers.Post
-layers-enum-known-next-2 t c = c .match .keys2
-
-layers-same-length-2 : (t : ℕ) → layers-lts.Need-same-length-2 (claims t) (layers-at t) layers.Post
-layers-same-length-2 t c = c .before .before .before .before .before .before .counts .given .1 ∙ length-set (c .before .before .before .before .before .before .before .before .before .before .before .before .before .before .before .before .before .before .before .before .before .before .before .before .before .before .before .before .args .counts .now) 0 (c .before .before .before .before .before .before .before .before .before .before .before .before .before .before .before .before .before .before .before .before .before .before .before .before .before .before .before .before .args .count)
-
-layers-same-length-3 : (t : ℕ) → layers-lts.Need-same-length-3 (claims t) (layers-at t) layers.Post
-layers-same-length-3 t c = c .before .before .before .before .spacings .given .1 ∙ length-set (c .before .before .before .before .before .before .before .before .before .before .before .before .before .before .before .before .before .before .before .before .before .before .before .before .before .before .before .before .args .spacings .now) 0 (c .before .before .before .before .before .before .before .before .before .before .before .before .before .before .before .before .before .before .before .before .before .before .before .before .before .before .before .before .args .spacing)
-
-layers-same-length-4 : (t : ℕ) → layers-lts.Need-same-length-4 (claims t) (layers-at t) layers.Post
-layers-same-length-4 t c = c .before .before .nodes2 .given .1 ∙ c .before .before .before .before .before .before .before .before .before .before .before .before .before .before .before .before .before .before .before .grow .ensures .kept
-
-layers-same-length-5 : (t : ℕ) → layers-lts.Need-same-length-5 (claims t) (layers-at t) layers.Post
-layers-same-length-5 t c = c .before .probabilities2 .given .1 ∙ c .before .before .before .before .before .before .before .before .before .before .before .before .before .before .before .before .before .before .before .grow .ensures .kept-too
-
-layers-returns-2 : (t : ℕ) → layers-lts.Need-returns-2 (claims t) (layers-at t) layers.Post
-layers-returns-2 t c = laid-behind (c .before .before .before .before .before .before .before .before .before .before .before .before .before .before .before .before .before .before .before .before .before .before .before .before .before .before .before .before .args .one) (c .before .before .before .before .before .before .before .before .before .before .before .before .before .before .before .before .before .before .before .before .before .before .before .before .before .before .before .before .args .two) (c .before .before .before .before .before .before .before .before .before .before .before .before .before .before .before .before .before .before .before .before .before .before .before .before .before .before .before .before .args .count) (c .before .before .before .before .before .before .before .before .before .before .before .before .before .before .before .before .before .before .before .before .before .before .before .before .before .before .before .before .args .step) (c .before .before .before .before .before .before .before .before .before .before .before .before .before .before .before .before .before .before .before .before .before .before .before .before .before .before .before .before .args .decay) (c .before .before .before .before .before .before .before .before .before .before .before .before .before .before .before .before .before .before .before .before .before .before .before .before .before .before .before .before .args .spacing) (c .before .before .before .before .before .before .before .before .before .before .before .before .before .before .before .before .before .before .before .before .before .before .before .before .before .before .before .before .args .variances .now) (c .before .before .before .before .before .before .before .before .before .before .before .before .before .before .before .before .before .before .before .before .before .before .before .before .before .before .before .before .args .nodes .now) (c .before .before .before .before .before .before .before .before .before .before .before .before .before .before .before .before .before .before .before .grow .last .1 .1 .1 .1 .1 .0) (c .before .before .before .before .before .before .before .before .before .before .before .before .before .before .before .before .before .before .before .before .before .before .before .before .before .before .before .before .args .probabilities .now) (c .before .before .before .before .before .before .before .before .before .before .before .before .before .before .before .before .before .before .before .grow .last .1 .1 .1 .1 .1 .1 .0) (c .before .before .before .before .before .before .before .before .before .before .before .before .before .before .before .before .before .before .before .grow .result) (c .before .before .before .before .before .before .before .before .before .before .before .before .before .before .before .before .before .before .before .before .before .before .before .before .before .before .before .before .pre .1 .0) (c .before .before .before .before .before .before .before .before .before .before .before .before .before .before .before .before .before .before .before .before .before .before .before .if1 .left) (c .before .before .before .before .before .before .before .before .before .before .before .before .before .before .before .before .before .before .before .grow .ensures) (c .before .before .before .before .before .before .before .before .before .before .before .before .before .before .next .given .0 .0) (c .before .before .before .before .before .before .before .before .before .before .before .before .before .before .next .given .0 .1 .0) (c .before .before .before .before .before .before .before .before .before .before .before .before .before .before .next .given .1) (c .before .before .before .before .before .before .before .before .before .before .before .before .before .before .before .before .before .before .before .before .before .before .before .before .before .before .before .before .args .counts .now) (c .before .before .before .before .before .before .before .layers .last .1 .1 .1 .1 .1 .0) (c .before .before .before .before .before .before .before .before .before .before .before .before .before .before .before .before .before .before .before .before .before .before .before .before .before .before .before .before .args .spacings .now) (c .before .before .before .before .before .before .before .layers .last .1 .1 .1 .1 .1 .1 .0) (c .before .before .before .before .before .before .before .layers .last .1 .1 .1 .1 .1 .1 .1 .0) (c .before .before .before .before .before .before .before .layers .last .1 .1 .1 .1 .1 .1 .1 .1 .0) (c .before .before .before .before .before .before .before .layers .result) (omega (arith, c .before .before .before .before .before .before .before .before .before .before .before .before .before .before .before .before .before .before .before .before .before .before .before .before .before .before .before .before .pre .1 .1 .0 .0)) (omega (arith, c .before .before .before .before .before .before .before .before .before .before .before .before .before .before .before .before .before .before .before .before .before .before .before .before .before .before .before .before .pre .1 .1 .0 .1, c .before .before .before .before .before .before .before .before .before .before .before .before .before .before .before .before .before .before .before .before .before .before .before .if1 .left)) (c .before .before .before .before .before .before .before .before .before .before .before .before .before .before .before .before .before .before .before .before .before .before .before .before .before .before .before .before .pre .1 .1 .1 .1) (c .before .before .before .before .before .before .before .before .before .before .before .before .before .before .before .before .before .before .before .before .before .before .before .before .before .before .before .before .pre .1 .1 .1 .2) (c .before .before .before .before .before .before .before .layers .ensures)
-
 layers-same-length-6 : (t : ℕ) → layers-lts.Need-same-length-6 (claims t) (layers-at t) layers.Post
-layers-same-length-6 t c = length-set (c .before .before .before .before .before .before .before .before .before .before .before .before .before .before .before .args .counts .now) 0 (c .before .before .before .before .before .before .before .before .before .before .before .before .before .before .before .args .count)
+layers-same-length-6 t c = c .before .before .before .before .before .before .counts .given .1 ∙ length-set (c .before .before .before .before .before .before .before .before .before .before .before .before .before .before .before .before .before .before .before .before .before .before .before .before .before .before .before .before .args .counts .now) 0 (c .before .before .before .before .before .before .before .before .before .before .before .before .before .before .before .before .before .before .before .before .before .before .before .before .before .before .before .before .args .count)
 
 layers-same-length-7 : (t : ℕ) → layers-lts.Need-same-length-7 (claims t) (layers-at t) layers.Post
-layers-same-length-7 t c = length-set (c .before .before .before .before .before .before .before .before .before .before .before .before .before .before .before .args .spacings .now) 0 (c .before .before .before .before .before .before .before .before .before .before .before .before .before .before .before .args .spacing)
+layers-same-length-7 t c = c .before .before .before .before .spacings .given .1 ∙ length-set (c .before .before .before .before .before .before .before .before .before .before .before .before .before .before .before .before .before .before .before .before .before .before .before .before .before .before .before .before .args .spacings .now) 0 (c .before .before .before .before .before .before .before .before .before .before .before .before .before .before .before .before .before .before .before .before .before .before .before .before .before .before .before .before .args .spacing)
 
 layers-same-length-8 : (t : ℕ) → layers-lts.Need-same-length-8 (claims t) (layers-at t) layers.Post
-layers-same-length-8 t c = c .before .before .before .before .before .before .grow .kept .1 .1 .1 .1 .1 .0
+layers-same-length-8 t c = c .before .before .nodes2 .given .1 ∙ c .before .before .before .before .before .before .before .before .before .before .before .before .before .before .before .before .before .before .before .grow .ensures .kept
 
 layers-same-length-9 : (t : ℕ) → layers-lts.Need-same-length-9 (claims t) (layers-at t) layers.Post
-layers-same-length-9 t c = c .before .before .before .before .before .before .grow .kept .1 .1 .1 .1 .1 .1 .0
+layers-same-length-9 t c = c .before .probabilities2 .given .1 ∙ c .before .before .before .before .before .before .before .before .before .before .before .before .before .before .before .before .before .before .before .grow .ensures .kept-too
 
 layers-returns-3 : (t : ℕ) → layers-lts.Need-returns-3 (claims t) (layers-at t) layers.Post
-layers-returns-3 t c = refused-here (c .before .before .before .before .before .before .before .before .before .before .before .before .before .before .before .args .one) (c .before .before .before .before .before .before .before .before .before .before .before .before .before .before .before .args .two) (c .before .before .before .before .before .before .before .before .before .before .before .before .before .before .before .args .count) (c .before .before .before .before .before .before .before .before .before .before .before .before .before .before .before .args .step) (c .before .before .before .before .before .before .before .before .before .before .before .before .before .before .before .args .decay) (c .before .before .before .before .before .before .before .before .before .before .before .before .before .before .before .args .spacing) (c .before .before .before .before .before .before .before .before .before .before .before .before .before .before .before .args .variances .now) (c .before .before .before .before .before .before .before .before .before .before .before .before .before .before .before .args .nodes .now) (c .before .before .before .before .before .before .grow .last .1 .1 .1 .1 .1 .0) (c .before .before .before .before .before .before .before .before .before .before .before .before .before .before .before .args .probabilities .now) (c .before .before .before .before .before .before .grow .last .1 .1 .1 .1 .1 .1 .0) (c .before .before .before .before .before .before .grow .result) (c .before .before .before .before .before .before .before .before .before .before .before .before .before .before .before .pre .1 .0) (c .before .before .before .before .before .before .before .before .before .before .if1 .left) (c .before .before .before .before .before .before .grow .ensures) (c .before .next2 .given .0 .0) (set (c .before .before .before .before .before .before .before .before .before .before .before .before .before .before .before .args .counts .now) 0 (c .before .before .before .before .before .before .before .before .before .before .before .before .before .before .before .args .count)) (set (c .before .before .before .before .before .before .before .before .before .before .before .before .before .before .before .args .spacings .now) 0 (c .before .before .before .before .before .before .before .before .before .before .before .before .before .before .before .args .spacing)) (c .before .next2 .given .1)
+layers-returns-3 t c = laid-behind (c .before .before .before .before .before .before .before .before .before .before .before .before .before .before .before .before .before .before .before .before .before .before .before .before .before .before .before .before .args .one) (c .before .before .before .before .before .before .before .before .before .before .before .before .before .before .before .before .before .before .before .before .before .before .before .before .before .before .before .before .args .two) (c .before .before .before .before .before .before .before .before .before .before .before .before .before .before .before .before .before .before .before .before .before .before .before .before .before .before .before .before .args .count) (c .before .before .before .before .before .before .before .before .before .before .before .before .before .before .before .before .before .before .before .before .before .before .before .before .before .before .before .before .args .step) (c .before .before .before .before .before .before .before .before .before .before .before .before .before .before .before .before .before .before .before .before .before .before .before .before .before .before .before .before .args .decay) (c .before .before .before .before .before .before .before .before .before .before .before .before .before .before .before .before .before .before .before .before .before .before .before .before .before .before .before .before .args .spacing) (c .before .before .before .before .before .before .before .before .before .before .before .before .before .before .before .before .before .before .before .before .before .before .before .before .before .before .before .before .args .variances .now) (c .before .before .before .before .before .before .before .before .before .before .before .before .before .before .before .before .before .before .before .before .before .before .before .before .before .before .before .before .args .nodes .now) (c .before .before .before .before .before .before .before .before .before .before .before .before .before .before .before .before .before .before .before .grow .last .1 .1 .1 .1 .1 .0) (c .before .before .before .before .before .before .before .before .before .before .before .before .before .before .before .before .before .before .before .before .before .before .before .before .before .before .before .before .args .probabilities .now) (c .before .before .before .before .before .before .before .before .before .before .before .before .before .before .before .before .before .before .before .grow .last .1 .1 .1 .1 .1 .1 .0) (c .before .before .before .before .before .before .before .before .before .before .before .before .before .before .before .before .before .before .before .grow .result) (c .before .before .before .before .before .before .before .before .before .before .before .before .before .before .before .before .before .before .before .before .before .before .before .before .before .before .before .before .pre .1 .0) (c .before .before .before .before .before .before .before .before .before .before .before .before .before .before .before .before .before .before .before .before .before .before .before .if1 .left) (c .before .before .before .before .before .before .before .before .before .before .before .before .before .before .before .before .before .before .before .grow .ensures) (c .before .before .before .before .before .before .before .before .before .before .before .before .before .before .next .given .0 .0) (c .before .before .before .before .before .before .before .before .before .before .before .before .before .before .next .given .0 .1 .0) (c .before .before .before .before .before .before .before .before .before .before .before .before .before .before .next .given .1) (c .before .before .before .before .before .before .before .before .before .before .before .before .before .before .before .before .before .before .before .before .before .before .before .before .before .before .before .before .args .counts .now) (c .before .before .before .before .before .before .before .layers .last .1 .1 .1 .1 .1 .0) (c .before .before .before .before .before .before .before .before .before .before .before .before .before .before .before .before .before .before .before .before .before .before .before .before .before .before .before .before .args .spacings .now) (c .before .before .before .before .before .before .before .layers .last .1 .1 .1 .1 .1 .1 .0) (c .before .before .before .before .before .before .before .layers .last .1 .1 .1 .1 .1 .1 .1 .0) (c .before .before .before .before .before .before .before .layers .last .1 .1 .1 .1 .1 .1 .1 .1 .0) (c .before .before .before .before .before .before .before .layers .result) (omega (arith, c .before .before .before .before .before .before .before .before .before .before .before .before .before .before .before .before .before .before .before .before .before .before .before .before .before .before .before .before .pre .1 .1 .0 .0)) (omega (arith, c .before .before .before .before .before .before .before .before .before .before .before .before .before .before .before .before .before .before .before .before .before .before .before .before .before .before .before .before .pre .1 .1 .0 .1, c .before .before .before .before .before .before .before .before .before .before .before .before .before .before .before .before .before .before .before .before .before .before .before .if1 .left)) (c .before .before .before .before .before .before .before .before .before .before .before .before .before .before .before .before .before .before .before .before .before .before .before .before .before .before .before .before .pre .1 .1 .1 .1) (c .before .before .before .before .before .before .before .before .before .before .before .before .before .before .before .before .before .before .before .before .before .before .before .before .before .before .before .before .pre .1 .1 .1 .2) (c .before .before .before .before .before .before .before .layers .ensures)
 
 pub +layers-spec : {M : Type 1} → statement M
 +layers-spec = close μ-layers λ t. layers-lts.spec (claims t)
@@ -169,6 +173,13 @@ pub +layers-spec : {M : Type 1} → statement M
     (layers-shared-slice-read-grow t)
     (layers-grow-requires t)
     (layers-enum-known-next t)
+    (layers-enum-told t)
+    (layers-refusal-requires t)
+    (layers-same-length-2 t)
+    (layers-same-length-3 t)
+    (layers-same-length-4 t)
+    (layers-same-length-5 t)
+    (layers-returns-2 t)
     (layers-mul-pairs t)
     (layers-mul-threes t)
     (layers-add-layers t)
@@ -190,12 +201,6 @@ pub +layers-spec : {M : Type 1} → statement M
     (layers-part-layers-start-5 t)
     (layers-part-layers-end-5 t)
     (layers-layers-requires t)
-    (layers-enum-known-next-2 t)
-    (layers-same-length-2 t)
-    (layers-same-length-3 t)
-    (layers-same-length-4 t)
-    (layers-same-length-5 t)
-    (layers-returns-2 t)
     (layers-same-length-6 t)
     (layers-same-length-7 t)
     (layers-same-length-8 t)

@@ -18,11 +18,11 @@ enum-known-found c = c .match .keys1
 enum-told : tie.Need-enum-told
 enum-told c = c .match .keys2
 
-row-refused-requires : tie.Need-row-refused-requires
-row-refused-requires c κs = tt
+refused-by-requires : tie.Need-refused-by-requires
+refused-by-requires c κs = tt
 
 returns : tie.Need-returns
-returns c = lays-nothing (no-decay (roomLeft (c .before .before .before .before .before .before .before .before .args .nodes .now) (c .before .before .before .before .before .before .before .before .args .probabilities .now) (c .before .before .before .before .before .before .before .before .args .one) (c .before .before .before .before .before .before .before .before .args .two)) (c .before .before .before .before .before .before .before .before .args .alpha) (c .before .before .before .before .before .before .before .before .args .dt) (c .before .before .before .before .before .before .before .before .args .variances .now) (c .before .before .before .before .before .before .before .before .pre .0 .0) (c .before .before .before .decay-of .ensures) (c .before .enum-told .given .1)) (refused-row (c .row-refused .ensures) (c .before .enum-told .given .1))
+returns c = lays-nothing (no-decay (roomLeft (c .before .before .before .before .before .before .before .before .args .nodes .now) (c .before .before .before .before .before .before .before .before .args .probabilities .now) (c .before .before .before .before .before .before .before .before .args .one) (c .before .before .before .before .before .before .before .before .args .two)) (c .before .before .before .before .before .before .before .before .args .alpha) (c .before .before .before .before .before .before .before .before .args .dt) (c .before .before .before .before .before .before .before .before .args .variances .now) (c .before .before .before .before .before .before .before .before .pre .0 .0) (c .before .before .before .decay-of .ensures) (c .before .enum-told .given .1)) (refused-row (c .refused-by .ensures) (c .before .enum-told .given .1))
 
 shared-slice-read-spacing-of : tie.Need-shared-slice-read-spacing-of
 shared-slice-read-spacing-of c = search needs
@@ -36,11 +36,11 @@ enum-known-first c = c .match2 .keys1
 enum-told-2 : tie.Need-enum-told-2
 enum-told-2 c = c .match2 .keys2
 
-row-refused-requires-2 : tie.Need-row-refused-requires-2
-row-refused-requires-2 c κs = tt
+refused-by-requires-2 : tie.Need-refused-by-requires-2
+refused-by-requires-2 c κs = tt
 
 returns-2 : tie.Need-returns-2
-returns-2 c = lays-nothing (no-spacing (roomLeft (c .before .before .before .before .before .before .before .before .before .before .before .before .before .args .nodes .now) (c .before .before .before .before .before .before .before .before .before .before .before .before .before .args .probabilities .now) (c .before .before .before .before .before .before .before .before .before .before .before .before .before .args .one) (c .before .before .before .before .before .before .before .before .before .before .before .before .before .args .two)) (c .before .before .before .before .before .before .before .before .before .before .before .before .before .args .alpha) (c .before .before .before .before .before .before .before .before .before .before .before .before .before .args .dt) (c .before .before .before .before .before .before .before .before .before .before .before .before .before .args .variances .now) (c .before .before .before .before .before .before .before .before .before .before .before .before .before .pre .0 .0) (c .before .before .before .before .before .before .before .before .decay-of .ensures) (c .before .before .before .before .before .before .found .given .1) (c .before .before .before .spacing-of .ensures) (c .before .enum-told2 .given .1)) (refused-row (c .row-refused2 .ensures) (c .before .enum-told2 .given .1))
+returns-2 c = lays-nothing (no-spacing (roomLeft (c .before .before .before .before .before .before .before .before .before .before .before .before .before .args .nodes .now) (c .before .before .before .before .before .before .before .before .before .before .before .before .before .args .probabilities .now) (c .before .before .before .before .before .before .before .before .before .before .before .before .before .args .one) (c .before .before .before .before .before .before .before .before .before .before .before .before .before .args .two)) (c .before .before .before .before .before .before .before .before .before .before .before .before .before .args .alpha) (c .before .before .before .before .before .before .before .before .before .before .before .before .before .args .dt) (c .before .before .before .before .before .before .before .before .before .before .before .before .before .args .variances .now) (c .before .before .before .before .before .before .before .before .before .before .before .before .before .pre .0 .0) (c .before .before .before .before .before .before .before .before .decay-of .ensures) (c .before .before .before .before .before .before .found .given .1) (c .before .before .before .spacing-of .ensures) (c .before .enum-told2 .given .1)) (refused-row (c .refused-by2 .ensures) (c .before .enum-told2 .given .1))
 
 rooted-requires : tie.Need-rooted-requires
 rooted-requires c κs = (
@@ -74,13 +74,13 @@ curved-tree-spec =
     decay-of-requires
     enum-known-found
     enum-told
-    row-refused-requires
+    refused-by-requires
     returns
     shared-slice-read-spacing-of
     spacing-of-requires
     enum-known-first
     enum-told-2
-    row-refused-requires-2
+    refused-by-requires-2
     returns-2
     rooted-requires
     same-length

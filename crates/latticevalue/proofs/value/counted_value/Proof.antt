@@ -5,14 +5,17 @@ use Rattle.latticevalue.proofs.value.counted_value.Tie as tie
 enum-known-answer : tie.Need-enum-known-answer
 enum-known-answer c = c .match .keys1
 
-enum-known-answer-2 : tie.Need-enum-known-answer-2
-enum-known-answer-2 c = c .match .keys2
+enum-told : tie.Need-enum-told
+enum-told c = c .match .keys2
+
+refusal-of-requires : tie.Need-refusal-of-requires
+refusal-of-requires c κs = tt
 
 returns : tie.Need-returns
-returns c = rw (c .before .answer .given .1)
+returns c = rw (c .refusal-of .ensures, c .before .enum-told .given .1)
 
 returns-2 : tie.Need-returns-2
-returns-2 c = rw (c .before .answer2 .given .1)
+returns-2 c = rw (c .before .answer .given .1)
 
 pub counted-value-spec : {M : Type 1} → statement M
-counted-value-spec = tie.close (tie.spec enum-known-answer enum-known-answer-2 returns returns-2)
+counted-value-spec = tie.close (tie.spec enum-known-answer enum-told refusal-of-requires returns returns-2)

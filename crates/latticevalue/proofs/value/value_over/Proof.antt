@@ -17,8 +17,8 @@ enum-known-f c = c .match .keys1
 enum-told : tie.Need-enum-told
 enum-told c = c .match .keys2
 
-unfit-value-requires : tie.Need-unfit-value-requires
-unfit-value-requires c κs = tt
+refusal-requires : tie.Need-refusal-requires
+refusal-requires c κs = tt
 
 same-length : tie.Need-same-length
 same-length c = c .before .before .before .before .before .before .before .before .before .before .before .before .before .before .before .before .fitted-tree .kept .1 .1 .1 .1 .1 .1 .1 .0
@@ -42,7 +42,7 @@ same-length-7 : tie.Need-same-length-7
 same-length-7 c = c .before .before .before .before .before .before .before .before .before .before .before .before .before .before .before .before .fitted-tree .kept .1 .1 .1 .1 .1 .1 .1 .1 .1 .1 .1 .1 .1 .0
 
 returns : tie.Need-returns
-returns c = value-refused _ (c .before .before .before .before .before .before .before .before .before .before .before .before .before .before .before .before .fitted-tree .ensures) (c .before .enum-told .given .1) (c .unfit-value .ensures)
+returns c = value-refused _ (c .before .before .before .before .before .before .before .before .before .before .before .before .before .before .before .before .fitted-tree .ensures) (c .before .enum-told .given .1) (c .refusal .ensures)
 
 root-value-requires : tie.Need-root-value-requires
 root-value-requires c κs =
@@ -92,7 +92,7 @@ value-over-spec =
     fitted-tree-requires
     enum-known-f
     enum-told
-    unfit-value-requires
+    refusal-requires
     same-length
     same-length-2
     same-length-3

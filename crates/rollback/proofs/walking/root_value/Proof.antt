@@ -1,10 +1,19 @@
 -- `walking::root_value` meets its contract. Assumes nothing.
 use native.Mathlib.Omega.{arith}
-use lib.ListN.{getD}
+use mathlib.Core.Path.{_≡_, refl}
+use mathlib.Core.List.{List, [], _∷_}
+use lib.ListN.{getD, take}
+use lib.Ieee.{Float, nan}
+use Rattle.forwardinduction.specs.laws.Fitting.{current-length}
 use Rattle.forwardinduction.specs.laws.LaidFront.{fronted}
 use Rattle.backwardinduction.specs.laws.WalkRoot.{root-passed, root-refused}
 use Rattle.rollback.proofs.walking.root_value.Statement.{statement}
 use Rattle.rollback.proofs.walking.root_value.Tie as tie
+
+-- The current row of step 0 begins as the first row does.
+first-of : (row : List Float) → getD (take 1 row) 0 nan ≡ getD row 0 nan
+first-of [] = refl
+first-of (x ∷ row) = refl
 
 walk-requires : tie.Need-walk-requires
 walk-requires c κs = (c .before .before .before .before .before .before .before .before .before .before .before .pre .0, ((c .before .before .before .before .before .before .before .before .before .before .before .pre .1 .1 .0 .0, omega (arith, c .before .before .before .before .before .before .before .before .before .before .before .pre .1 .1 .0 .1), c .before .before .before .before .before .before .before .before .before .before .before .pre .1 .1 .0 .2), c .before .before .before .before .before .before .before .before .before .before .before .pre .1 .1 .1))
@@ -15,17 +24,24 @@ enum-known-behind c = c .match .keys1
 enum-told : tie.Need-enum-told
 enum-told c = c .match .keys2
 
-slice-read-t21 : tie.Need-slice-read-t21
-slice-read-t21 c = omega (arith, fronted (c .before .before .before .before .before .before .before .before .before .before .before .before .before .before .before .before .before .before .before .pre .0) .first-room, c .before .before .before .before .before .before .before .before .before .before .before .before .before .before .before .before .before .before .before .pre .1 .0 .0, c .before .before .before .before .before .before .before .walk .kept .1 .1 .1 .1 .1 .1 .1 .1 .1 .1 .1 .1 .0)
+current-requires : tie.Need-current-requires
+current-requires c κs =
+    let front = fronted (c .before .before .before .before .before .before .before .before .before .before .before .before .before .before .before .before .before .before .before .before .pre .0) in
+    (omega (arith, front .first-room, c .before .before .before .before .before .before .before .before .before .before .before .before .before .before .before .before .before .before .before .before .pre .1 .0 .0, c .before .before .before .before .before .before .before .before .walk .kept .1 .1 .1 .1 .1 .1 .1 .1 .1 .1 .1 .1 .0), omega (arith, front .second-room, c .before .before .before .before .before .before .before .before .before .before .before .before .before .before .before .before .before .before .before .before .pre .1 .0 .0, c .before .before .before .before .before .before .before .before .walk .kept .1 .1 .1 .1 .1 .1 .1 .1 .1 .1 .1 .1 .1 .0))
+
+shared-slice-read-t26 : tie.Need-shared-slice-read-t26
+shared-slice-read-t26 c =
+    let front = fronted (c .before .before .before .before .before .before .before .before .before .before .before .before .before .before .before .before .before .before .before .before .before .before .pre .0) in
+    rw (c .before .current .ensures, current-length 0 1 (c .before .before .before .before .before .before .before .before .before .before .walk .last .1 .1 .1 .1 .1 .1 .1 .1 .1 .1 .1 .1 .0) (c .before .before .before .before .before .before .before .before .before .before .walk .last .1 .1 .1 .1 .1 .1 .1 .1 .1 .1 .1 .1 .1 .0) (omega (arith, front .first-room, c .before .before .before .before .before .before .before .before .before .before .before .before .before .before .before .before .before .before .before .before .before .before .pre .1 .0 .0, c .before .before .before .before .before .before .before .before .before .before .walk .kept .1 .1 .1 .1 .1 .1 .1 .1 .1 .1 .1 .1 .0)) (omega (arith, front .second-room, c .before .before .before .before .before .before .before .before .before .before .before .before .before .before .before .before .before .before .before .before .before .before .pre .1 .0 .0, c .before .before .before .before .before .before .before .before .before .before .walk .kept .1 .1 .1 .1 .1 .1 .1 .1 .1 .1 .1 .1 .1 .0))) (omega arith)
 
 same-length : tie.Need-same-length
-same-length c = c .before .before .before .before .before .before .before .walk .kept .1 .1 .1 .1 .1 .1 .1 .1 .1 .1 .1 .1 .0
+same-length c = c .before .before .before .before .before .before .before .before .before .before .walk .kept .1 .1 .1 .1 .1 .1 .1 .1 .1 .1 .1 .1 .0
 
 same-length-2 : tie.Need-same-length-2
-same-length-2 c = c .before .before .before .before .before .before .before .walk .kept .1 .1 .1 .1 .1 .1 .1 .1 .1 .1 .1 .1 .1 .0
+same-length-2 c = c .before .before .before .before .before .before .before .before .before .before .walk .kept .1 .1 .1 .1 .1 .1 .1 .1 .1 .1 .1 .1 .1 .0
 
 returns : tie.Need-returns
-returns c = root-passed (getD (c .before .before .before .before .before .before .before .before .before .before .before .before .before .before .before .before .before .before .before .args .counts .now) 0 0) (c .before .before .before .before .before .before .before .before .before .before .before .before .before .before .before .before .before .before .before .args .nodes .now) (record { first = c .before .before .before .before .before .before .before .walk .last .1 .1 .1 .1 .1 .1 .1 .1 .1 .1 .1 .1 .0; second = c .before .before .before .before .before .before .before .walk .last .1 .1 .1 .1 .1 .1 .1 .1 .1 .1 .1 .1 .1 .0 }) (c .before .before .before .before .before .before .before .walk .ensures) (c .before .enum-told .given .1) (c .before .before .before .before .before .before .before .before .before .before .before .before .before .before .before .before .before .before .before .pre .1 .0 .0) (c .before .before .before .before .before .before .before .before .before .before .before .before .before .before .before .before .before .before .before .pre .1 .0 .1) (omega (arith, fronted (c .before .before .before .before .before .before .before .before .before .before .before .before .before .before .before .before .before .before .before .pre .0) .first-room, c .before .before .before .before .before .before .before .before .before .before .before .before .before .before .before .before .before .before .before .pre .1 .0 .0, c .before .before .before .before .before .before .before .walk .kept .1 .1 .1 .1 .1 .1 .1 .1 .1 .1 .1 .1 .0))
+returns c = rw (c .before .current .ensures, first-of (c .before .before .before .before .before .before .before .before .before .before .walk .last .1 .1 .1 .1 .1 .1 .1 .1 .1 .1 .1 .1 .0)) (root-passed (getD (c .before .before .before .before .before .before .before .before .before .before .before .before .before .before .before .before .before .before .before .before .before .before .args .counts .now) 0 0) (c .before .before .before .before .before .before .before .before .before .before .before .before .before .before .before .before .before .before .before .before .before .before .args .nodes .now) (record { first = c .before .before .before .before .before .before .before .before .before .before .walk .last .1 .1 .1 .1 .1 .1 .1 .1 .1 .1 .1 .1 .0; second = c .before .before .before .before .before .before .before .before .before .before .walk .last .1 .1 .1 .1 .1 .1 .1 .1 .1 .1 .1 .1 .1 .0 }) (c .before .before .before .before .before .before .before .before .before .before .walk .ensures) (c .before .before .before .before .enum-told .given .1) (c .before .before .before .before .before .before .before .before .before .before .before .before .before .before .before .before .before .before .before .before .before .before .pre .1 .0 .0) (c .before .before .before .before .before .before .before .before .before .before .before .before .before .before .before .before .before .before .before .before .before .before .pre .1 .0 .1) (omega (arith, fronted (c .before .before .before .before .before .before .before .before .before .before .before .before .before .before .before .before .before .before .before .before .before .before .pre .0) .first-room, c .before .before .before .before .before .before .before .before .before .before .before .before .before .before .before .before .before .before .before .before .before .before .pre .1 .0 .0, c .before .before .before .before .before .before .before .before .before .before .walk .kept .1 .1 .1 .1 .1 .1 .1 .1 .1 .1 .1 .1 .0)))
 
 same-length-3 : tie.Need-same-length-3
 same-length-3 c = c .before .before .before .before .before .before .before .walk .kept .1 .1 .1 .1 .1 .1 .1 .1 .1 .1 .1 .1 .0
@@ -43,7 +59,8 @@ root-value-spec =
     walk-requires
     enum-known-behind
     enum-told
-    slice-read-t21
+    current-requires
+    shared-slice-read-t26
     same-length
     same-length-2
     returns

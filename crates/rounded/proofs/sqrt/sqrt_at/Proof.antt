@@ -15,6 +15,9 @@ number c = sym (c .before .not-finite .ensures) ∙ c .if1 .left
 not-finite-requires : tie.Need-not-finite-requires
 not-finite-requires c κs = search answers
 
+overflow-requires : tie.Need-overflow-requires
+overflow-requires c κs = tt
+
 returns : tie.Need-returns
 unfolding sqrtAt
 returns c = search answers
@@ -36,4 +39,4 @@ returns-4 c =
 
 pub sqrt-at-spec : {M : Type 1} → statement M
 sqrt-at-spec =
-    tie.close (tie.spec not-finite-requires returns returns-2 returns-3 root-of-requires returns-4)
+    tie.close (tie.spec not-finite-requires overflow-requires returns returns-2 returns-3 root-of-requires returns-4)

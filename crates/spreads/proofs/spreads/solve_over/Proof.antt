@@ -19,8 +19,8 @@ enum-known-f c = c .match .keys1
 enum-told : tie.Need-enum-told
 enum-told c = c .match .keys2
 
-unfit-root-requires : tie.Need-unfit-root-requires
-unfit-root-requires c κs = tt
+refusal-requires : tie.Need-refusal-requires
+refusal-requires c κs = tt
 
 same-length : tie.Need-same-length
 same-length c = c .before .before .before .before .before .before .before .before .before .before .before .before .before .before .before .before .fitted-tree .kept .1 .1 .1 .1 .1 .1 .1 .0
@@ -44,7 +44,7 @@ same-length-7 : tie.Need-same-length-7
 same-length-7 c = c .before .before .before .before .before .before .before .before .before .before .before .before .before .before .before .before .fitted-tree .kept .1 .1 .1 .1 .1 .1 .1 .1 .1 .1 .1 .1 .1 .0
 
 returns : tie.Need-returns
-returns c = root-refused _ _ _ (c .before .before .before .before .before .before .before .before .before .before .before .before .before .before .before .before .fitted-tree .ensures) (c .before .enum-told .given .1) (c .unfit-root .ensures)
+returns c = root-refused _ _ _ (c .before .before .before .before .before .before .before .before .before .before .before .before .before .before .before .before .fitted-tree .ensures) (c .before .enum-told .given .1) (c .refusal .ensures)
 
 slice-aggregate-bracketed-root : tie.Need-slice-aggregate-bracketed-root
 slice-aggregate-bracketed-root c = search needs
@@ -98,7 +98,7 @@ solve-over-spec =
     fitted-tree-requires
     enum-known-f
     enum-told
-    unfit-root-requires
+    refusal-requires
     same-length
     same-length-2
     same-length-3

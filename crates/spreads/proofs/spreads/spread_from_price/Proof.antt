@@ -9,17 +9,14 @@ use Rattle.spreads.proofs.spreads.spread_from_price.Tie as tie
 spread-checks-requires : tie.Need-spread-checks-requires
 spread-checks-requires c κs = tt
 
-enum-told : tie.Need-enum-told
-enum-told c = c .match .keys1
-
-enum-told-2 : tie.Need-enum-told-2
-enum-told-2 c = c .match .keys2
-
-unchecked-root-requires : tie.Need-unchecked-root-requires
-unchecked-root-requires c κs = tt
+enum-known-check : tie.Need-enum-known-check
+enum-known-check c = c .match .keys1
 
 returns : tie.Need-returns
-returns c = solved-refused _ _ (c .before .before .before .spread-checks .ensures) _ (c .before .enum-told2 .given .1) (c .unchecked-root .ensures)
+returns c = solved-refused _ _ (c .before .before .before .spread-checks .ensures) _ (c .before .check .given .1)
+
+enum-told : tie.Need-enum-told
+enum-told c = c .match .keys2
 
 checked-spread-requires : tie.Need-checked-spread-requires
 checked-spread-requires c κs =
@@ -65,10 +62,9 @@ spread-from-price-spec =
     tie.close
     (tie.spec
     spread-checks-requires
-    enum-told
-    enum-told-2
-    unchecked-root-requires
+    enum-known-check
     returns
+    enum-told
     checked-spread-requires
     zero-numbers-requires
     zero-floats-requires

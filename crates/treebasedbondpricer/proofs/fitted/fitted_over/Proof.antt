@@ -1,6 +1,6 @@
 -- `fitted_over` meets its contract: the variances, then the tree (`FittedIn`). Assumes nothing.
 use Rattle.terms.specs.laws.Outcomes.{follow-refused}
-use Rattle.treebasedbondpricer.specs.laws.FittedIn.{refuses-at, refused-is, over-variances}
+use Rattle.treebasedbondpricer.specs.laws.FittedIn.{refuses, refused-is, over-variances}
 use borrow.Author.Needs.{needs}
 use Rattle.treebasedbondpricer.proofs.fitted.fitted_over.Statement.{statement}
 use Rattle.treebasedbondpricer.proofs.fitted.fitted_over.Tie as tie
@@ -8,20 +8,17 @@ use Rattle.treebasedbondpricer.proofs.fitted.fitted_over.Tie as tie
 transition-variances-requires : tie.Need-transition-variances-requires
 transition-variances-requires c κs = search needs
 
-enum-told : tie.Need-enum-told
-enum-told c = c .match .keys1
-
-enum-told-2 : tie.Need-enum-told-2
-enum-told-2 c = c .match .keys2
-
-unfitted-requires : tie.Need-unfitted-requires
-unfitted-requires c κs = tt
+enum-known-v : tie.Need-enum-known-v
+enum-known-v c = c .match .keys1
 
 same-length : tie.Need-same-length
 same-length c = c .before .before .before .before .before .transition-variances .kept .1 .1 .1 .1 .1 .0
 
 returns : tie.Need-returns
-returns c = refuses-at (c .unfitted .ensures) (c .before .enum-told2 .given .1) (follow-refused _ _ (refused-is _ (c .before .before .before .before .before .transition-variances .ensures .outcome) (c .before .enum-told2 .given .1)))
+returns c = refuses (follow-refused _ _ (refused-is _ (c .before .before .before .before .before .transition-variances .ensures .outcome) (c .before .v .given .1)))
+
+enum-told : tie.Need-enum-told
+enum-told c = c .match .keys2
 
 fitted-with-requires : tie.Need-fitted-with-requires
 fitted-with-requires c κs = search needs
@@ -58,11 +55,10 @@ fitted-over-spec =
     tie.close
     (tie.spec
     transition-variances-requires
-    enum-told
-    enum-told-2
-    unfitted-requires
+    enum-known-v
     same-length
     returns
+    enum-told
     fitted-with-requires
     same-length-2
     same-length-3

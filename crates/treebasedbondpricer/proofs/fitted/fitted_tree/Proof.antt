@@ -12,8 +12,11 @@ int-to-float-dt c = tt
 not-finite-requires : tie.Need-not-finite-requires
 not-finite-requires c κs = tt
 
+overflow-refusal-requires : tie.Need-overflow-refusal-requires
+overflow-refusal-requires c κs = tt
+
 returns : tie.Need-returns
-returns c = refuses {q = record { number = 27; place = 0 }} (rw (sym (c .before .not-finite .ensures) ∙ c .if1 .taken))
+returns c = rw (c .overflow-refusal .ensures) (refuses {q = record { number = 27; place = 0 }} (rw (sym (c .before .before .not-finite .ensures) ∙ c .before .if1 .taken)))
 
 array-borrow-prefix-variances : tie.Need-array-borrow-prefix-variances
 array-borrow-prefix-variances c = omega (arith, c .before .before .before .before .before .before .before .before .before .before .before .before .before .pre)
@@ -54,6 +57,7 @@ fitted-tree-spec =
     (tie.spec
     int-to-float-dt
     not-finite-requires
+    overflow-refusal-requires
     returns
     array-borrow-prefix-variances
     slice-aggregate-fitted-over

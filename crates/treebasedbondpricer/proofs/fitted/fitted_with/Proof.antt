@@ -1,7 +1,7 @@
 -- `fitted_with` meets its contract: transitions, then the fit (`FittedIn`). Assumes nothing.
 use Rattle.floats.specs.declared.Answer.the-variants.{Value}
 use native.Mathlib.Omega.{arith}
-use Rattle.treebasedbondpricer.specs.laws.FittedIn.{refuses-at, tree-refused, laid-tree, root-count, fit-refused, fit-fits}
+use Rattle.treebasedbondpricer.specs.laws.FittedIn.{refuses, tree-refused, laid-tree, root-count, fit-refused, fit-fits}
 use borrow.Author.Needs.{needs}
 use Rattle.treebasedbondpricer.proofs.fitted.fitted_with.Statement.{statement}
 use Rattle.treebasedbondpricer.proofs.fitted.fitted_with.Tie as tie
@@ -9,14 +9,8 @@ use Rattle.treebasedbondpricer.proofs.fitted.fitted_with.Tie as tie
 lattice-transitions-requires : tie.Need-lattice-transitions-requires
 lattice-transitions-requires c κs = search needs
 
-enum-told : tie.Need-enum-told
-enum-told c = c .match .keys1
-
-enum-told-2 : tie.Need-enum-told-2
-enum-told-2 c = c .match .keys2
-
-unfitted-requires : tie.Need-unfitted-requires
-unfitted-requires c κs = tt
+enum-known-l : tie.Need-enum-known-l
+enum-known-l c = c .match .keys1
 
 same-length : tie.Need-same-length
 same-length c = c .before .before .before .before .before .before .before .before .before .before .lattice-transitions .kept .1 .1 .1 .0
@@ -31,7 +25,10 @@ same-length-4 : tie.Need-same-length-4
 same-length-4 c = c .before .before .before .before .before .before .before .before .before .before .lattice-transitions .kept .1 .1 .1 .1 .1 .1 .0
 
 returns : tie.Need-returns
-returns c = refuses-at (c .unfitted .ensures) (c .before .enum-told2 .given .1) (tree-refused _ _ _ _ _ (c .before .before .before .before .before .before .before .before .before .before .lattice-transitions .ensures) (c .before .enum-told2 .given .1))
+returns c = refuses (tree-refused _ _ _ _ _ (c .before .before .before .before .before .before .before .before .before .before .lattice-transitions .ensures) (c .before .l .given .1))
+
+enum-told : tie.Need-enum-told
+enum-told c = c .match .keys2
 
 all-flat-requires : tie.Need-all-flat-requires
 all-flat-requires c κs = tt
@@ -41,14 +38,8 @@ fit-tree-requires c κs =
     let l = laid-tree (λ t place. Value t) _ _ _ _ (c .before .before .before .before .before .before .before .before .before .before .before .before .before .before .before .before .before .lattice-transitions .ensures) (c .before .before .before .before .before .before .before .before .enum-told .given .1) (c .before .before .before .before .before .before .before .all-flat .ensures) in
     (l .laid, ((omega arith, omega arith), (root-count l, l .first-layer)))
 
-enum-told-3 : tie.Need-enum-told-3
-enum-told-3 c = c .match2 .keys1
-
-enum-told-4 : tie.Need-enum-told-4
-enum-told-4 c = c .match2 .keys2
-
-unfitted-requires-2 : tie.Need-unfitted-requires-2
-unfitted-requires-2 c κs = tt
+enum-known-s : tie.Need-enum-known-s
+enum-known-s c = c .match2 .keys1
 
 same-length-5 : tie.Need-same-length-5
 same-length-5 c = c .before .before .before .before .before .before .before .before .before .before .before .before .before .before .before .before .before .before .before .before .before .before .before .before .before .before .before .lattice-transitions .kept .1 .1 .1 .0
@@ -72,7 +63,10 @@ same-length-11 : tie.Need-same-length-11
 same-length-11 c = c .before .before .before .before .before .before .before .before .before .fit-tree .kept .1 .1 .1 .1 .1 .1 .1 .1 .1 .0
 
 returns-2 : tie.Need-returns-2
-returns-2 c = refuses-at (c .unfitted2 .ensures) (c .before .enum-told4 .given .1) (fit-refused _ _ _ _ _ (c .before .before .before .before .before .before .before .before .before .before .before .before .before .before .before .before .before .before .before .before .before .before .before .before .before .before .before .lattice-transitions .ensures) (c .before .before .before .before .before .before .before .before .before .before .before .before .before .before .before .before .before .before .enum-told .given .1) (c .before .before .before .before .before .before .before .before .before .before .before .before .before .before .before .before .before .all-flat .ensures) (c .before .before .before .before .before .before .before .before .before .fit-tree .ensures) (c .before .enum-told4 .given .1))
+returns-2 c = refuses (fit-refused _ _ _ _ _ (c .before .before .before .before .before .before .before .before .before .before .before .before .before .before .before .before .before .before .before .before .before .before .before .before .before .before .before .lattice-transitions .ensures) (c .before .before .before .before .before .before .before .before .before .before .before .before .before .before .before .before .before .before .enum-told .given .1) (c .before .before .before .before .before .before .before .before .before .before .before .before .before .before .before .before .before .all-flat .ensures) (c .before .before .before .before .before .before .before .before .before .fit-tree .ensures) (c .before .s .given .1))
+
+enum-told-2 : tie.Need-enum-told-2
+enum-told-2 c = c .match2 .keys2
 
 same-length-12 : tie.Need-same-length-12
 same-length-12 c = c .before .before .before .before .before .before .before .before .before .before .before .before .before .before .before .before .before .before .before .before .before .before .before .before .before .before .lattice-transitions .kept .1 .1 .1 .0
@@ -96,26 +90,23 @@ same-length-18 : tie.Need-same-length-18
 same-length-18 c = c .before .before .before .before .before .before .before .before .fit-tree .kept .1 .1 .1 .1 .1 .1 .1 .1 .1 .0
 
 returns-3 : tie.Need-returns-3
-returns-3 c = fit-fits _ _ _ _ _ (c .before .before .before .before .before .before .before .before .before .before .before .before .before .before .before .before .before .before .before .before .before .before .before .before .before .before .lattice-transitions .ensures) (c .before .before .before .before .before .before .before .before .before .before .before .before .before .before .before .before .before .enum-told .given .1) (c .before .before .before .before .before .before .before .before .before .before .before .before .before .before .before .before .all-flat .ensures) (c .before .before .before .before .before .before .before .before .fit-tree .ensures) (c .enum-told3 .given .1)
+returns-3 c = fit-fits _ _ _ _ _ (c .before .before .before .before .before .before .before .before .before .before .before .before .before .before .before .before .before .before .before .before .before .before .before .before .before .before .lattice-transitions .ensures) (c .before .before .before .before .before .before .before .before .before .before .before .before .before .before .before .before .before .enum-told .given .1) (c .before .before .before .before .before .before .before .before .before .before .before .before .before .before .before .before .all-flat .ensures) (c .before .before .before .before .before .before .before .before .fit-tree .ensures) (c .enum-told2 .given .1)
 
 pub fitted-with-spec : {M : Type 1} → statement M
 fitted-with-spec =
     tie.close
     (tie.spec
     lattice-transitions-requires
-    enum-told
-    enum-told-2
-    unfitted-requires
+    enum-known-l
     same-length
     same-length-2
     same-length-3
     same-length-4
     returns
+    enum-told
     all-flat-requires
     fit-tree-requires
-    enum-told-3
-    enum-told-4
-    unfitted-requires-2
+    enum-known-s
     same-length-5
     same-length-6
     same-length-7
@@ -124,6 +115,7 @@ fitted-with-spec =
     same-length-10
     same-length-11
     returns-2
+    enum-told-2
     same-length-12
     same-length-13
     same-length-14

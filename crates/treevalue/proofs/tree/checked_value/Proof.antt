@@ -10,17 +10,14 @@ use Rattle.treevalue.proofs.tree.checked_value.Tie as tie
 event-grid-requires : tie.Need-event-grid-requires
 event-grid-requires c κs = search needs
 
-enum-told : tie.Need-enum-told
-enum-told c = c .match .keys1
-
-enum-told-2 : tie.Need-enum-told-2
-enum-told-2 c = c .match .keys2
-
-unchecked-requires : tie.Need-unchecked-requires
-unchecked-requires c κs = tt
+enum-known-check : tie.Need-enum-known-check
+enum-known-check c = c .match .keys1
 
 returns : tie.Need-returns
-returns c = value-unchecked _ _ _ (c .before .before .before .event-grid .ensures) (c .before .enum-told2 .given .1) (c .unchecked .ensures)
+returns c = value-unchecked _ _ _ (c .before .before .before .event-grid .ensures) (c .before .check .given .1)
+
+enum-told : tie.Need-enum-told
+enum-told c = c .match .keys2
 
 pillar-times-requires : tie.Need-pillar-times-requires
 pillar-times-requires c κs = c .before .before .before .before .before .before .before .before .before .before .before .before .before .before .before .before .before .pre .1 .1 .1
@@ -54,10 +51,9 @@ checked-value-spec =
     tie.close
     (tie.spec
     event-grid-requires
-    enum-told
-    enum-told-2
-    unchecked-requires
+    enum-known-check
     returns
+    enum-told
     pillar-times-requires
     array-share-prefix-curve-times
     slice-aggregate-lattice-value

@@ -9,17 +9,14 @@ use Rattle.treevalue.proofs.tree.tree_value.Tie as tie
 tree-checks-requires : tie.Need-tree-checks-requires
 tree-checks-requires c κs = tt
 
-enum-told : tie.Need-enum-told
-enum-told c = c .match .keys1
-
-enum-told-2 : tie.Need-enum-told-2
-enum-told-2 c = c .match .keys2
-
-unchecked-requires : tie.Need-unchecked-requires
-unchecked-requires c κs = tt
+enum-known-check : tie.Need-enum-known-check
+enum-known-check c = c .match .keys1
 
 returns : tie.Need-returns
-returns c = entered-refused _ _ (c .before .before .before .tree-checks .ensures) _ (c .before .enum-told2 .given .1) (c .unchecked .ensures)
+returns c = entered-refused _ _ (c .before .before .before .tree-checks .ensures) _ (c .before .check .given .1)
+
+enum-told : tie.Need-enum-told
+enum-told c = c .match .keys2
 
 checked-value-requires : tie.Need-checked-value-requires
 checked-value-requires c κs =
@@ -65,10 +62,9 @@ tree-value-spec =
     tie.close
     (tie.spec
     tree-checks-requires
-    enum-told
-    enum-told-2
-    unchecked-requires
+    enum-known-check
     returns
+    enum-told
     checked-value-requires
     zero-numbers-requires
     zero-floats-requires

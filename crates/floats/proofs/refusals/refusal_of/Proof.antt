@@ -1,7 +1,7 @@
 -- `refusals::refusal_of` meets its contract, case by case. Assumes nothing.
 use Rattle.floats.proofs.Laws.{answers}
-use Rattle.interestrate.proofs.refusals.refusal_of.Statement.{statement}
-use Rattle.interestrate.proofs.refusals.refusal_of.Tie as tie
+use Rattle.floats.proofs.refusals.refusal_of.Statement.{statement}
+use Rattle.floats.proofs.refusals.refusal_of.Tie as tie
 
 enum-told : tie.Need-enum-told
 enum-told c = search answers
