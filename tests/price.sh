@@ -214,6 +214,13 @@ ends 1; says "Run: dos2unix FILE"
 try "clean or dirty" './price a.txt'
 ends 0; says "prices include accrued interest"; says "Name             Norrvik Energy 5.25% 2036"
 
+try "a spread to six decimals" 'sed "s/^spread .*/spread 0.0085124/" a.txt | ./price'
+ends 0; says "Spread                               0.008512    "; times 0 "basis points"
+try "a strike as it was typed" 'sed "s/^\(call 2029-11-15  *2029-11-15  *\)102/\1102.123450/" a.txt | ./price'
+ends 0; says "2029-11-15  2029-11-15     102.123450    "
+try "a strike too long for its column" 'sed "s/^\(call 2029-11-15  *2029-11-15  *\)102/\1102.00000000000001/" a.txt | ./price'
+ends 0; says "2029-11-15  2029-11-15      next line    "; says "  strike         102.00000000000001"
+
 # ---- options
 try "an option behind the file" './price a.txt --check'
 ends 0; calm

@@ -1,8 +1,9 @@
 -- Definitions only. The lines of the report.
-use Prim.Native.Nat.{ℕ, _+_}
-use mathlib.Core.Bool.{cond}
+use Prim.Native.Nat.{ℕ, _+_, _-_}
+use mathlib.Core.Bool.{Bool, false, cond}
 use mathlib.Core.List.{List}
-use lib.Dec.{eqb}
+use lib.ListN.{length}
+use lib.Dec.{eqb, leb, ltb}
 use lib.Ieee.{Float}
 use Rattle.decimal.specs.Examples.{bytes}
 use Rattle.bondreport.specs.Columns.{blankLine, putAt}
@@ -26,9 +27,20 @@ callHeading = saidLine (bytes "Call list") (bytes "from        to               
 abbrev pub noCalls : List ℕ
 noCalls = saidLine (bytes "Call list") (bytes "no calls")
 
--- A call: its first day at columns 17 to 26, its last at 29 to 38, the strike to some decimals ending at 53, and its bits from 58 on.
-abbrev pub callLine : ℕ → ℕ → Float → ℕ → List ℕ
-callLine start end strike places = putBits (putDecimals (putDate (putDate blankLine 27 start) 39 end) 54 strike places) 58 strike
+-- A strike stands as it was typed, and ends at column 53. More than 13 letters would come too near to the days: they stand on the next line, which has room for 63.
+abbrev pub putStrike : List ℕ → List ℕ → List ℕ
+putStrike line typed =
+    cond (ltb 63 (length typed)) (putAt line 48 (bytes "beyond")) (cond (ltb 13 (length typed)) (putAt line 45 (bytes "next line")) (putAt line (54 - length typed) typed))
+
+abbrev pub standsApart : List ℕ → Bool
+standsApart typed = cond (ltb 13 (length typed)) (leb (length typed) 63) false
+
+abbrev pub strikeLine : List ℕ → List ℕ
+strikeLine typed = saidLine (bytes "  strike") typed
+
+-- A call: its first day at columns 17 to 26, its last at 29 to 38, its strike as it was typed, and the strike's bits from 58 on.
+abbrev pub callLine : ℕ → ℕ → List ℕ → Float → List ℕ
+callLine start end typed strike = putBits (putStrike (putDate (putDate blankLine 27 start) 39 end) typed) 58 strike
 
 -- A day stands at columns 17 to 26.
 abbrev pub dayLine : List ℕ → ℕ → List ℕ

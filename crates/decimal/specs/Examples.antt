@@ -68,11 +68,21 @@ pub record Starred : Type 0 where
   pub spread-shown : shows 4 0x3f60_cb29_5e9e_1b09 ≡ parts false 0 21
   pub whole-shown : shows 0 0x4004_0000_0000_0000 ≡ parts false 2 0
   pub nothing-shown : shows 2 0xbf70_624d_d2f1_a9fc ≡ parts true 0 0
-  -- -0, the last number that is shown, and those that are not.
+  -- A spread of 0.008512 to six decimals; 2^-7 = 0.0078125 and 3 * 2^-7 = 0.0234375, which lie halfway; -0.0000004, and 1.
+  pub basis-points : shows 6 0x3f81_6ebd_4cfd_08d5 ≡ parts false 0 8512
+  pub sixth-down : shows 6 0x3f80_0000_0000_0000 ≡ parts false 0 7812
+  pub sixth-up : shows 6 0x3f98_0000_0000_0000 ≡ parts false 0 23438
+  -- Just above the first half, by the last of its binary digits.
+  pub past-half : shows 6 0x3f80_0000_0000_0001 ≡ parts false 0 7813
+  pub tiny : shows 6 0xbe9a_d7f2_9abc_af48 ≡ parts true 0 0
+  pub one : shows 6 0x3ff0_0000_0000_0000 ≡ parts false 1 0
+  -- -0, the last numbers that are shown, and those that are not.
   pub shown-zero : shows 2 0x8000_0000_0000_0000 ≡ parts true 0 0
   pub last-shown : shows 4 0x42ff_ffff_ffff_ffff ≡ parts false 562949953421311 9375
+  pub last-of-six : shows 6 0x427f_ffff_ffff_ffff ≡ parts false 2199023255551 999756
   pub too-large : shows 2 0xc300_0000_0000_0000 ≡ Beyond
-  pub too-many : shows 5 0x4059_6000_0000_0000 ≡ Beyond
+  pub too-large-for-five : shows 5 0x4280_0000_0000_0000 ≡ Beyond
+  pub too-many : shows 7 0x4059_6000_0000_0000 ≡ Beyond
   pub no-infinity : decimalsOf 2 (inf true) ≡ Beyond
   pub no-nan : decimalsOf 2 nan ≡ Beyond
   pub digits : hexDigits 0x3fb9_9999_9999_999a ≡ bytes "3fb999999999999a"
@@ -110,9 +120,17 @@ starred =
       spread-shown = refl;
       whole-shown = refl;
       nothing-shown = refl;
+      basis-points = refl;
+      sixth-down = refl;
+      sixth-up = refl;
+      past-half = refl;
+      tiny = refl;
+      one = refl;
       shown-zero = refl;
       last-shown = refl;
+      last-of-six = refl;
       too-large = refl;
+      too-large-for-five = refl;
       too-many = refl;
       no-infinity = refl;
       no-nan = refl;

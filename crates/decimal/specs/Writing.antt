@@ -1,4 +1,4 @@
--- Definitions only. A number to at most four decimals, and the hexadecimal digits of its bits.
+-- Definitions only. A number to at most six decimals, and the hexadecimal digits of its bits.
 use Prim.Native.Nat.{ℕ, zero, suc, _+_, _*_, _/_, _%_, _^_}
 use mathlib.Core.Bool.{Bool, cond, _||_}
 use mathlib.Core.List.{List, [], _∷_}
@@ -13,13 +13,17 @@ use Rattle.decimal.specs.declared.Decimals.the-variants.{Shown, Beyond}
 abbrev pub inUnits : Bool → ℕ → ℕ → Rounded
 inUnits negative places units = record { negative = negative; whole = units / 10 ^ places; part = units % 10 ^ places }
 
--- A number below 2^49 in size is shown as the nearest units of the last decimal to its exact value, a tie going to the even one.
+-- The whole part of a number that is shown has at most 49 binary digits, and 41 where it is shown to more than four decimals.
+abbrev pub wholeDigits : ℕ → ℕ
+wholeDigits places = cond (ltb 4 places) 41 49
+
+-- It is shown as the nearest units of the last decimal to its exact value, a tie going to the even one; to six decimals at most.
 unfoldable pub decimalsOf : ℕ → Float → Decimals
 decimalsOf places nan = Beyond
 decimalsOf places (inf s) = Beyond
 decimalsOf places (fin s m e) =
     cond
-    (ltb 4 places || leb (2 ^ 49 * down e) (m * up e))
+    (ltb 6 places || leb (2 ^ wholeDigits places * down e) (m * up e))
     Beyond
     (Shown (inUnits s places (closest (10 ^ places * (m * up e)) (down e))))
 

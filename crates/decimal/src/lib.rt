@@ -19,7 +19,7 @@ pub struct Rounded {
     pub part: u64,
 }
 
-// Beyond: of 2^49 in size or more, not finite, or to more than four decimals.
+// Beyond: not finite, of 2^49 in size or more, of 2^41 or more to five or six decimals, or to more than six.
 pub enum Decimals {
     Shown(Rounded),
     Beyond,

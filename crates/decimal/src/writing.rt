@@ -1,12 +1,13 @@
 // A double to a few decimals, and the hexadecimal digits of its bits.
 ghost use mathlib.Core.Path.{_≡_};
-ghost use Prim.Native.Nat.{_^_, _≤_, _<_};
+ghost use Prim.Native.Nat.{_*_, _^_, _≤_, _<_};
 ghost use lib.Ieee.Nearest.{closest};
-ghost use Rattle.decimal.specs.Writing.{inUnits, decimalsOf, hexDigit, hexDigits};
+ghost use Rattle.decimal.specs.Writing.{wholeDigits, inUnits, decimalsOf, hexDigit, hexDigits};
 use crate::Decimals;
 use crate::Rounded;
 use crate::division::power_of_five;
 use floats::finite::not_finite;
+use rounded::pack::sticky;
 
 // v / 2^places to the nearest whole number, a tie to the even one.
 fn closest_to(v: u64, places: u64) -> u64
@@ -25,9 +26,34 @@ fn closest_to(v: u64, places: u64) -> u64
     whole + whole % 2
 }
 
+// digits * 5^places / 2^shift to the nearest whole number. A long product is cut to its sixteenth first, and made odd where
+// something was cut off: two binary digits more than are kept tell a tie from what lies beside it.
+fn times_fives(digits: u64, places: u32, shift: u64) -> u64
+    requires { ⌜ (digits ≤ 2 ^ 53) × (places ≤ 6) × (shift ≤ 67) × (shift < 6 → places ≤ 4) ⌝ }
+    ensures { λ r. ⌜ r ≡ closest (5 ^ places * digits) (2 ^ shift) ⌝ }
+{
+    let five = power_of_five(places);
+    if shift < 6 {
+        return closest_to(five * digits, shift);
+    }
+    let low = five * (digits % 16);
+    let high = five * (digits / 16) + low / 16;
+    closest_to(sticky(high, low % 16), shift - 4)
+}
+
+// How many binary digits the whole part of a number may have that is shown to some decimals.
+fn whole_digits(places: u32) -> u64
+    ensures { λ r. ⌜ r ≡ wholeDigits places ⌝ }
+{
+    if places > 4 {
+        return 41;
+    }
+    49
+}
+
 // A power of ten.
 fn power_of_ten(places: u32) -> u64
-    requires { ⌜ places ≤ 4 ⌝ }
+    requires { ⌜ places ≤ 6 ⌝ }
     ensures { λ r. ⌜ r ≡ 10 ^ places ⌝ }
 {
     (1u64 << places) * power_of_five(places)
@@ -35,7 +61,7 @@ fn power_of_ten(places: u32) -> u64
 
 // Units of the last decimal by their sign, their whole part and what is left.
 fn in_units(negative: bool, places: u32, units: u64) -> Rounded
-    requires { ⌜ places ≤ 4 ⌝ }
+    requires { ⌜ places ≤ 6 ⌝ }
     ensures { λ r. ⌜ r ≡ inUnits negative places units ⌝ }
 {
     let unit = power_of_ten(places);
@@ -46,11 +72,11 @@ fn in_units(negative: bool, places: u32, units: u64) -> Rounded
     }
 }
 
-// A number to at most four decimals, by the exponent's field of its bits.
+// A number to at most six decimals, by the exponent's field of its bits.
 pub fn decimals(x: f64, places: u32) -> Decimals
     ensures { λ r. ⌜ r ≡ decimalsOf places x ⌝ }
 {
-    if places > 4 {
+    if places > 6 {
         return Decimals::Beyond;
     }
     if not_finite(x) {
@@ -59,15 +85,14 @@ pub fn decimals(x: f64, places: u32) -> Decimals
     let bits = f64::to_bits(x);
     let negative = bits >= 0x8000_0000_0000_0000;
     let field = bits % 0x8000_0000_0000_0000 / 0x10_0000_0000_0000;
-    if field > 1071 {
+    if field > 1022 + whole_digits(places) {
         return Decimals::Beyond;
     }
-    if field < 1012 - places as u64 {
+    if field < 1008 - places as u64 {
         return Decimals::Shown(in_units(negative, places, 0));
     }
     let digits = bits % 0x10_0000_0000_0000 + 0x10_0000_0000_0000;
-    let five = power_of_five(places);
-    let units = closest_to(five * digits, 1075 - field - places as u64);
+    let units = times_fives(digits, places, 1075 - field - places as u64);
     Decimals::Shown(in_units(negative, places, units))
 }
 

@@ -9,12 +9,12 @@ use crate::ranges::refuse_input;
 use crate::ranges::refuse_price;
 use crate::tree::asked;
 use crate::typed::print_name;
-use crate::typed::strike_decimals;
 use crate::warnings::warnings;
 use bondfile::singles::fields_of;
 use bondfile::singles::first_of;
 use bondfile::stored::calls_of;
 use bondline::Entry;
+use bondreport::order::Call;
 use bondreport::order::at_rank;
 use bondreport::order::call_at;
 use brackets::Root;
@@ -39,6 +39,17 @@ use reportlines::lines::no_calls;
 use reportlines::lines::no_pillar;
 use reportlines::lines::number_line;
 use reportlines::lines::said_line;
+use reportlines::lines::stands_apart;
+use reportlines::lines::strike_line;
+use reportlines::typed::typed_word;
+
+// A call with its strike as it was typed.
+fn print_call(call: Call, strike: &[u8]) {
+    print(call_line(call.start, call.end, strike, call.strike));
+    if stands_apart(strike) {
+        print(strike_line(strike));
+    }
+}
 
 // The calls as they are read out, in whatever order they were typed.
 fn calls(text: &[u8], starts: &[u32], ends: &[u32], strikes: &[f64]) {
@@ -46,8 +57,7 @@ fn calls(text: &[u8], starts: &[u32], ends: &[u32], strikes: &[f64]) {
     while k < starts.len() {
         let i = at_rank(starts, ends, strikes, k);
         let call = call_at(starts, ends, strikes, i);
-        let places = strike_decimals(text, line_of(text, CALL, i));
-        print(call_line(call.start, call.end, call.strike, places));
+        print_call(call, typed_word(text, line_of(text, CALL, i), 3));
         k += 1;
     }
 }
@@ -80,12 +90,6 @@ fn curve_date(text: &[u8]) {
     print(day_line(b"Curve date", day));
 }
 
-// A spread, and how many basis points that is, to two decimals.
-fn print_spread(label: &[u8], spread: f64) {
-    print(number_line(label, spread, 4));
-    print(number_line(b"  basis points", 10000.0 * spread, 2));
-}
-
 fn head(text: &[u8]) {
     let f = fields_of(text);
     print_name(text);
@@ -93,7 +97,7 @@ fn head(text: &[u8]) {
     print(day_line(b"Settlement", f.settlement));
     call_list(text);
     curve_date(text);
-    print_spread(b"Spread", f.spread);
+    print(number_line(b"Spread", f.spread, 6));
     inputs(text);
     say(b"\n");
 }
@@ -155,7 +159,7 @@ fn quote_part(text: &[u8], quiet: bool) -> bool {
             if quiet {
                 return true;
             }
-            print_spread(b"Quoted spread", x);
+            print(number_line(b"Quoted spread", x, 6));
             print(count_line(b"Spreads tried", n));
             true
         }

@@ -9,17 +9,7 @@ use bondline::words::span_of;
 use bondline::words::word_at;
 use filebond::parts::bytes_of;
 use reportlines::lines::said_line;
-
-// Where a line begins.
-fn line_start(text: &[u8], line: usize) -> usize {
-    let mut at = 0;
-    let mut i = 1;
-    while i < line {
-        at = next_line(text, at);
-        i += 1;
-    }
-    at
-}
+use reportlines::typed::typed_word;
 
 // The line from an index on, up to its comment.
 fn line_from(text: &[u8], at: usize) -> &[u8] {
@@ -61,26 +51,9 @@ pub(crate) fn print_name(text: &[u8]) {
 
 // The kind of a line by its name, from 0; 11 where it has none of the names.
 pub(crate) fn kind_typed(text: &[u8], line: usize) -> usize {
-    let typed = line_from(text, line_start(text, line));
-    let name = word_at(typed, 0);
     place_in(
-        name,
+        typed_word(text, line, 0),
         b"settlement units steps alpha spread cashflow call sigma pillar yield quote",
         11,
     )
-}
-
-// How many decimals a call's strike was typed with, of at most four.
-pub(crate) fn strike_decimals(text: &[u8], line: usize) -> u32 {
-    let typed = line_from(text, line_start(text, line));
-    let strike = word_at(typed, 3);
-    let point = until(strike, 0, 46);
-    if point >= strike.len() {
-        return 0;
-    }
-    let behind = strike.len() - point - 1;
-    if behind > 4 {
-        return 4;
-    }
-    behind as u32
 }

@@ -1,6 +1,6 @@
 // The lines of the report.
 ghost use mathlib.Core.Path.{_≡_};
-ghost use Rattle.bondreport.specs.Lines.{saidLine, textLine, callHeading, noCalls, noPillar, callLine, dayLine, numberLine, countLine, refusedLine};
+ghost use Rattle.bondreport.specs.Lines.{saidLine, textLine, callHeading, noCalls, noPillar, putStrike, standsApart, strikeLine, callLine, dayLine, numberLine, countLine, refusedLine};
 use bondreport::columns::blank;
 use bondreport::columns::put;
 use bondreport::figures::put_bits;
@@ -44,12 +44,43 @@ pub fn no_pillar() -> [u8; 80]
     said_line(b"Curve date", b"no pillar")
 }
 
+// A strike as it was typed, or where it stands instead.
+fn put_strike(line: [u8; 80], typed: &[u8]) -> [u8; 80]
+    ensures { λ r. ⌜ r ≡ putStrike line (now (typed .entry)) ⌝ }
+{
+    let n = typed.len();
+    if n > 63 {
+        return put(line, 48, b"beyond");
+    }
+    if n > 13 {
+        return put(line, 45, b"next line");
+    }
+    put(line, 54 - n, typed)
+}
+
+// Whether a strike stands on the next line.
+pub fn stands_apart(typed: &[u8]) -> bool
+    ensures { λ r. ⌜ r ≡ standsApart (now (typed .entry)) ⌝ }
+{
+    if typed.len() > 13 {
+        return typed.len() <= 63;
+    }
+    false
+}
+
+// A strike on a line of its own.
+pub fn strike_line(typed: &[u8]) -> [u8; 80]
+    ensures { λ r. ⌜ r ≡ strikeLine (now (typed .entry)) ⌝ }
+{
+    said_line(b"  strike", typed)
+}
+
 // A call's first day, last day and strike.
-pub fn call_line(start: u32, end: u32, strike: f64, places: u32) -> [u8; 80]
-    ensures { λ r. ⌜ r ≡ callLine start end strike places ⌝ }
+pub fn call_line(start: u32, end: u32, typed: &[u8], strike: f64) -> [u8; 80]
+    ensures { λ r. ⌜ r ≡ callLine start end (now (typed .entry)) strike ⌝ }
 {
     let days = put_date(put_date(blank(), 27, start), 39, end);
-    put_bits(put_decimals(days, 54, strike, places), 58, strike)
+    put_bits(put_strike(days, typed), 58, strike)
 }
 
 // A day.

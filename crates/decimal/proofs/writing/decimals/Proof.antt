@@ -1,9 +1,8 @@
 -- `writing::decimals` meets its contract. Assumes nothing.
-use Prim.Native.Nat.{_+_}
 use native.Mathlib.Omega.{arith}
-use Rattle.floats.proofs.Patterns.{digitsOf}
+use Rattle.floats.proofs.Patterns.{fieldOf}
 use Rattle.floats.proofs.Laws.{answers}
-use Rattle.decimal.proofs.writing.Fields.{many, not-finite, times-five, large, small, middling}
+use Rattle.decimal.proofs.writing.Fields.{many, not-finite, most-digits, room, shifted-enough, large, small, middling}
 use Rattle.decimal.proofs.writing.decimals.Statement.{statement}
 use Rattle.decimal.proofs.writing.decimals.Tie as tie
 
@@ -18,6 +17,12 @@ returns-2 c = search (not-finite, answers)
 
 float-to-bits-bits : tie.Need-float-to-bits-bits
 float-to-bits-bits c = search answers
+
+whole-digits-requires : tie.Need-whole-digits-requires
+whole-digits-requires c κs = search answers
+
+add-if3 : tie.Need-add-if3
+add-if3 c = omega (arith, most-digits (c .before .before .before .before .args .places) (c .whole-digits .ensures))
 
 returns-3 : tie.Need-returns-3
 returns-3 c = search (large, answers)
@@ -34,20 +39,18 @@ returns-4 c = search (small, answers)
 add-digits : tie.Need-add-digits
 add-digits c = search answers
 
-power-of-five-requires : tie.Need-power-of-five-requires
-power-of-five-requires c κs = search answers
+sub-times-fives : tie.Need-sub-times-fives
+sub-times-fives c = omega (arith, most-digits (c .before .before .before .before .before .before .args .places) (c .before .before .whole-digits .ensures))
 
-mul-closest-to : tie.Need-mul-closest-to
-mul-closest-to c = omega (arith, times-five (c .before .before .before .before .before .before .args .places) (digitsOf (c .before .before .before .before .before .before .args .x) + 4503599627370496) (omega arith) (c .power-of-five .ensures) (omega arith))
+sub-times-fives-2 : tie.Need-sub-times-fives-2
+sub-times-fives-2 c =
+    let a = c .before .before .before .before .before .before .args in
+    room (a .places) (fieldOf (a .x)) (omega arith) (c .before .before .whole-digits .ensures) (omega arith)
 
-sub-closest-to : tie.Need-sub-closest-to
-sub-closest-to c = search answers
-
-sub-closest-to-2 : tie.Need-sub-closest-to-2
-sub-closest-to-2 c = search answers
-
-closest-to-requires : tie.Need-closest-to-requires
-closest-to-requires c κs = search answers
+times-fives-requires : tie.Need-times-fives-requires
+times-fives-requires c κs =
+    let a = c .before .before .before .before .before .before .args in
+    (omega arith, omega arith, omega arith, shifted-enough (a .places) (fieldOf (a .x)) (omega arith) (c .before .before .whole-digits .ensures) (omega arith))
 
 in-units-requires-2 : tie.Need-in-units-requires-2
 in-units-requires-2 c κs = search answers
@@ -63,15 +66,15 @@ decimals-spec =
     not-finite-requires
     returns-2
     float-to-bits-bits
+    whole-digits-requires
+    add-if3
     returns-3
     sub-if4
     in-units-requires
     returns-4
     add-digits
-    power-of-five-requires
-    mul-closest-to
-    sub-closest-to
-    sub-closest-to-2
-    closest-to-requires
+    sub-times-fives
+    sub-times-fives-2
+    times-fives-requires
     in-units-requires-2
     returns-5)

@@ -23,14 +23,11 @@ call-at-requires c κs = search needs
 line-of-requires : tie.Need-line-of-requires Inv-loop μ-loop
 line-of-requires c κs = search needs
 
-strike-decimals-requires : tie.Need-strike-decimals-requires Inv-loop μ-loop
-strike-decimals-requires c κs = search needs
+typed-word-requires : tie.Need-typed-word-requires Inv-loop μ-loop
+typed-word-requires c κs = search needs
 
-call-line-requires : tie.Need-call-line-requires Inv-loop μ-loop
-call-line-requires c κs = search needs
-
-print-requires : tie.Need-print-requires Inv-loop μ-loop
-print-requires c κs = search needs
+print-call-requires : tie.Need-print-call-requires Inv-loop μ-loop
+print-call-requires c κs = search needs
 
 add-k : tie.Need-add-k Inv-loop μ-loop
 add-k c = search needs
@@ -54,9 +51,8 @@ calls-spec =
     at-rank-requires
     call-at-requires
     line-of-requires
-    strike-decimals-requires
-    call-line-requires
-    print-requires
+    typed-word-requires
+    print-call-requires
     add-k
     loop-less
     loop-again

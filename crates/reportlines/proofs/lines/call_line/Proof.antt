@@ -12,8 +12,8 @@ put-date-requires c κs = search needs
 put-date-requires-2 : tie.Need-put-date-requires-2
 put-date-requires-2 c κs = search needs
 
-put-decimals-requires : tie.Need-put-decimals-requires
-put-decimals-requires c κs = search needs
+put-strike-requires : tie.Need-put-strike-requires
+put-strike-requires c κs = search needs
 
 put-bits-requires : tie.Need-put-bits-requires
 put-bits-requires c κs = search needs
@@ -28,6 +28,6 @@ call-line-spec =
     blank-requires
     put-date-requires
     put-date-requires-2
-    put-decimals-requires
+    put-strike-requires
     put-bits-requires
     returns)

@@ -1,32 +1,32 @@
--- `price::typed::line_start` is safe and ends: nothing has to hold from turn to turn. Assumes nothing.
+-- `typed::line_start` meets its contract. Assumes nothing.
 use Prim.Native.Nat.{_-_}
-use borrow.Author.Needs.{needs}
-use Rattle.price.proofs.typed.line_start.Statement.{statement}
-use Rattle.price.proofs.typed.line_start.Tie as tie
+use Rattle.reportlines.proofs.typed.Beginning.{Stepping, beginning}
+use Rattle.reportlines.proofs.typed.line_start.Statement.{statement}
+use Rattle.reportlines.proofs.typed.line_start.Tie as tie
 
 abbrev Inv-loop : tie.InvT-loop
-Inv-loop text line at₀ i₀ at i = Unit {0}
+Inv-loop text line at₀ i₀ at i = Stepping text line at i
 
 abbrev μ-loop : tie.MeasureT-loop
 μ-loop text line at₀ i₀ at i = line - i
 
 loop-holds : tie.Need-loop-holds Inv-loop μ-loop
-loop-holds c = search needs
+loop-holds c = search beginning
 
 next-line-requires : tie.Need-next-line-requires Inv-loop μ-loop
-next-line-requires c κs = search needs
+next-line-requires c κs = search beginning
 
 add-i : tie.Need-add-i Inv-loop μ-loop
-add-i c = search needs
+add-i c = search beginning
 
 loop-less : tie.Need-loop-less Inv-loop μ-loop
-loop-less c = search needs
+loop-less c = search beginning
 
 loop-again : tie.Need-loop-again Inv-loop μ-loop
-loop-again c = search needs
+loop-again c = search beginning
 
 returns : tie.Need-returns Inv-loop μ-loop
-returns c = search needs
+returns c = search beginning
 
 pub line-start-spec : {M : Type 1} → statement M
 line-start-spec =

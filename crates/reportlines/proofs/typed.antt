@@ -1,0 +1,2 @@
+-- What the proofs of the typed words use.
+mod Beginning
