@@ -1,8 +1,9 @@
 /* Gutirapeo: the C interface of the callable-bond pricer.
  *
  * Each function returns a refusal number, 0 where the call is accepted, and writes the refusal's
- * place to *place and its result to the outputs, which are 0 on a refusal. Pointers must not be
- * null, must not overlap, and must be writable. No function keeps a pointer, allocates or traps.
+ * place to *place and its result to the outputs, which are 0 on a refusal (but a closing sheet's line, on
+ * which a refusal other than 31 is printed). Pointers must not be null, must not overlap, and must be
+ * writable. No function keeps a pointer, allocates or traps.
  *
  * Link with the archive that `rt staticlib host` writes: target/staticlib/libhost.a
  */
@@ -154,6 +155,40 @@ uint32_t gutirapeo_tree_value(uint32_t settlement,
                               double *first_row, size_t first_row_length,
                               double *second_row, size_t second_row_length,
                               uint32_t *place, double *value, uint64_t *node_count);
+
+/* A bond's line of the closing sheet: 35 bytes, written on every call, the last of them a newline.
+ *
+ *   columns 1 to 6    the bond number, 1 to 999,999
+ *   columns 7 to 22   the tree value with two decimals, rounded from the double's exact value, a half away from zero: 0.125 is
+ *                     0.13 and -0.125 is -0.13; what rounds to zero is 0.00 without a sign
+ *   columns 23 to 30  the node count
+ *   columns 31 to 34  the refusal number
+ *
+ * Everything is right-justified, and what there isn't is blank: beside a value the refusal, beside a refusal value and count.
+ * Everything else is taken as for the tree value, the lent slices too, and they are left as it leaves them. A refusal of the tree
+ * value is printed and handed back with its place. Once the tree value or its refusal is known, two more are tried, with place 0:
+ *   31  a bond number out of range; it stands for a value and for a refusal, and leaves the 35 bytes zero
+ *   32  a value beyond 999,999,999,999.99 either way after rounding, or a count above 99,999,999; printed with both blank */
+uint32_t gutirapeo_closing_line(uint32_t bond, uint32_t settlement,
+                                const uint32_t *cashflow_days, size_t cashflow_days_length,
+                                const uint8_t *cashflow_kinds, size_t cashflow_kinds_length,
+                                const double *cashflow_amounts, size_t cashflow_amounts_length,
+                                double units,
+                                const uint32_t *call_starts, size_t call_starts_length,
+                                const uint32_t *call_ends, size_t call_ends_length,
+                                const double *call_strikes, size_t call_strikes_length,
+                                uint32_t steps_per_year, uint32_t max_steps,
+                                double alpha,
+                                const double *sigma_times, size_t sigma_times_length,
+                                const double *sigmas, size_t sigmas_length,
+                                double spread,
+                                const uint32_t *pillar_days, size_t pillar_days_length,
+                                const double *pillar_factors, size_t pillar_factors_length,
+                                int32_t *nodes, size_t nodes_length,
+                                double *probabilities, size_t probabilities_length,
+                                double *first_row, size_t first_row_length,
+                                double *second_row, size_t second_row_length,
+                                uint32_t *place, uint8_t line[35]);
 
 /* The spread that makes the bond worth a target (within 1e15 of 0), and how many spreads were tried (at most 386; 0 where the
  * input is refused). Everything else is taken as for the tree value, the lent slices too, and they are left as it leaves them.

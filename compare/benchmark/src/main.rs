@@ -1,6 +1,7 @@
 //! Nanoseconds per call of the proved functions beside Rust code of the same rules, in one run.
 mod entries;
 mod notices;
+mod sheet;
 mod spreads;
 mod trees;
 
@@ -92,5 +93,6 @@ fn main() {
     line("mul_add", timed(|i| host::mul_add(a[i], b[i], c[i])), timed(|i| fused(a[i], b[i], c[i])));
     println!("sqrt and mul_add stand beside the hardware's root and the C library's fma; the others beside the same rules in Rust.");
     notices::run();
+    sheet::run();
     entries::run();
 }

@@ -1,9 +1,11 @@
 //! The C interface, declared as in include/gutirapeo.h, behind safe functions.
 mod c;
 mod notices;
+mod sheets;
 mod tree;
 
 pub use notices::call_list;
+pub use sheets::closing_line;
 pub use tree::{spread_from_price, tree_value, Lent};
 
 use reading::bondevents::Grid;

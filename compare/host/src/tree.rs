@@ -38,6 +38,11 @@ impl Lent {
         }
     }
 
+    /// Where each slice begins, and how long it is.
+    pub(crate) fn slices(&mut self) -> ((*mut i32, usize), [(*mut f64, usize); 3]) {
+        (lend(&mut self.nodes), self.floats.each_mut().map(|row| lend(row)))
+    }
+
     fn is_number(&self, n: i32) -> bool {
         n == self.number
     }

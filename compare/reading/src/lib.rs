@@ -17,6 +17,7 @@ pub mod exact;
 pub mod hullwhite;
 pub mod notices;
 pub mod ordinary;
+pub mod sheet;
 pub mod terms;
 pub mod treebasedbondpricer;
 

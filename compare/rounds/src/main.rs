@@ -11,6 +11,7 @@ mod grid;
 mod notices;
 mod random;
 mod sample;
+mod sheet;
 mod spreads;
 mod spreadterms;
 mod straight;
@@ -42,7 +43,7 @@ fn main() {
         return;
     }
     let mut differences = elementary::round(long, seed, &wanted);
-    let entries: [(&str, fn(bool, u64) -> u64); 7] = [
+    let entries: [(&str, fn(bool, u64) -> u64); 8] = [
         ("grid", grid::round),
         ("tree", tree::round),
         ("calllists", calllists::round),
@@ -50,6 +51,7 @@ fn main() {
         ("yields", yields::round),
         ("spreads", spreads::round),
         ("notices", notices::round),
+        ("sheet", sheet::round),
     ];
     for (name, round) in entries {
         if wanted(name) {

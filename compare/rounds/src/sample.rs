@@ -1,15 +1,17 @@
 //! Writes the stored sample that the program `replay` runs without Rust: `rounds --sample FILE`.
 //!
 //! A record is 160 words of 64 bits, little-endian, at the places below; floats as their bits. Accepted answers are the
-//! published text's, refusals and the call lists of notices the second reading's.
+//! published text's, refusals, the call lists of notices and the lines of the closing sheet the second reading's.
 use crate::notices::{damage, good, parallel};
 use crate::random::Random;
+use crate::sheet::{bond_number, value};
 use crate::spreadterms::{spread_terms, target};
 use crate::tally::published;
 use crate::terms;
 use crate::tree::tree_terms;
 use reading::bondanalytics::{self, Rate};
 use reading::notices::{self, Notices};
+use reading::sheet;
 use reading::treebasedbondpricer::{self, Room, Terms};
 use reading::{bondevents, bondpricer, elementary, Answer, Refusal};
 use std::collections::BTreeMap;
@@ -315,6 +317,34 @@ fn notice_records(random: &mut Random) -> Vec<Record> {
     sorted(random, left, notice_record, |r| if r[80] == 0 && r[84] == 0 { PLAIN } else { r[80] })
 }
 
+/// A line of the closing sheet: a bond number, and a value with its count or a refusal with its place.
+fn sheet_record(random: &mut Random) -> Record {
+    let bond = bond_number(random);
+    let mut r = [0; WORDS];
+    (r[0], r[1]) = (19, u64::from(bond));
+    let answer = if random.below(8) == 0 {
+        let refusal = Refusal { number: random.below(100) as u32, place: random.below(513) as u32 };
+        (r[2], r[3], r[4]) = (1, u64::from(refusal.number), u64::from(refusal.place));
+        Err(refusal)
+    } else {
+        let x = loop {
+            let x = value(random);
+            if !x.is_nan() {
+                break x;
+            }
+        };
+        let count = random.bits() >> (30 + random.below(34));
+        (r[3], r[4]) = (x.to_bits(), count);
+        Ok((x, count))
+    };
+    let (number, place, line) = sheet::line(bond, &answer);
+    (r[80], r[81]) = (u64::from(number), u64::from(place));
+    for (i, &byte) in line.iter().enumerate() {
+        r[82 + i / 8] |= u64::from(byte) << (8 * (i % 8));
+    }
+    r
+}
+
 /// Writes a sample; `kinds` says which entries there are.
 pub fn write(path: &str, seed: u64, kinds: &[u64]) {
     assert!(published::AVAILABLE, "the published source is not beside the repository");
@@ -328,6 +358,7 @@ pub fn write(path: &str, seed: u64, kinds: &[u64]) {
             14 => spread_records(&mut random),
             15 => (0..60).map(|_| straight_record(&mut random)).collect(),
             18 => notice_records(&mut random),
+            19 => (0..200).map(|_| sheet_record(&mut random)).collect(),
             _ => (0..60).map(|_| yield_record(&mut random, kind)).collect(),
         };
         bytes.extend(records.iter().flatten().flat_map(|word| word.to_le_bytes()));

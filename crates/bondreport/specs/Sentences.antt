@@ -35,6 +35,8 @@ advice =
     ∷ about 28 (bytes "A discount has no meaning here: look at the yield or the price.")
     ∷ about 29 (bytes "No yield or spread gives this price: look at the price.")
     ∷ about 30 (bytes "The search did not settle: the price is far from any market's.")
+    ∷ about 31 (bytes "Give the bond a number from 1 to 999,999.")
+    ∷ about 32 (bytes "This value or node count is too wide for the closing sheet.")
     ∷ about 36 (bytes "The price is far below what the bond is worth: look at it.")
     ∷ about 41 (bytes "Too many notices: at most 256 are taken in one go.")
     ∷ about 42 (bytes "Look at this notice: its series, its version or its action.")

@@ -72,7 +72,7 @@ fn minus_left(c: Leftward, x: Rounded) -> Leftward
 }
 
 // The decimals, the point, the whole part and the sign.
-fn decimals_left(c: Leftward, places: u32, x: Rounded) -> Leftward
+pub fn decimals_left(c: Leftward, places: u32, x: Rounded) -> Leftward
     ensures { λ r. ⌜ r ≡ decimalsLeft c places x ⌝ }
 {
     let part = digits_left(c, places as usize, x.part);

@@ -69,6 +69,10 @@ impl Refusal {
     pub const NO_BRACKET: u32 = 29;
     // Not converged.
     pub const NOT_CONVERGED: u32 = 30;
+    // A bond number outside 1 to 999,999, on the closing sheet.
+    pub const BOND_NUMBER: u32 = 31;
+    // A value or a node count too wide for its columns there.
+    pub const TOO_WIDE: u32 = 32;
     // The tried spread is above 1.
     pub const SPREAD_ABOVE: u32 = 36;
 }

@@ -1,2 +1,3 @@
 -- What the proofs of more than one function use.
 pub mod Equal
+pub mod Lines

@@ -4,6 +4,7 @@ mod grids;
 mod handing;
 mod notices;
 mod quotes;
+mod sheets;
 mod trees;
 
 use crate::grids::hand_grid;

@@ -11,6 +11,7 @@ use Rattle.bondevents.specs.Grid.{gridAnswer}
 use Rattle.treebasedbondpricer.specs.Tree.{Lent, roomOf}
 use Rattle.spreads.specs.Spreads.{quoting}
 use Rattle.host.specs.Handed.{HandedGrid, HandedTree, HandedSpread}
+use Rattle.host.specs.Sheets.{HandedSheet}
 
 -- ---- one call of each function: what is lent, what is left there, and what is handed back
 
@@ -44,6 +45,15 @@ pub record SpreadCall (m : Market) (target : Float) (calls : CallSchedule) : Typ
   pub spread : Float
   pub tried : ℕ
   pub handed : HandedSpread (quoting m target) calls lent left number place spread tried
+
+-- gutirapeo_closing_line
+pub record SheetCall (bond : ℕ) (m : Market) (calls : CallSchedule) : Type 0 where
+  pub lent : Lent
+  pub left : Lent
+  pub number : ℕ
+  pub place : ℕ
+  pub line : List ℕ
+  pub handed : HandedSheet bond m calls lent left number place line
 
 -- ---- the call-list rule
 
@@ -88,11 +98,18 @@ pub record SameSpreads {m : Market} {target : Float} {first second : CallSchedul
   pub tried : b .tried ≡ a .tried
   pub slices : b .lent ≡ a .lent → b .left ≡ a .left
 
--- No bit of what any of the three hands back.
+pub record SameLines {bond : ℕ} {m : Market} {first second : CallSchedule} (a : SheetCall bond m first) (b : SheetCall bond m second) : Type 0 where
+  pub number : b .number ≡ a .number
+  pub place : b .place ≡ a .place
+  pub line : b .line ≡ a .line
+  pub slices : b .lent ≡ a .lent → b .left ≡ a .left
+
+-- No bit of what any of the four hands back.
 pub record Unchanged (m : Market) (first second : CallSchedule) : Type 0 where
   pub grids : (a : GridCall m first) (b : GridCall m second) → SameGrids a b
   pub values : (a : TreeCall m first) (b : TreeCall m second) → roomOf (b .lent) ≡ roomOf (a .lent) → SameValues a b
   pub spreads : (target : Float) (a : SpreadCall m target first) (b : SpreadCall m target second) → roomOf (b .lent) ≡ roomOf (a .lent) → SameSpreads a b
+  pub lines : (bond : ℕ) (a : SheetCall bond m first) (b : SheetCall bond m second) → roomOf (b .lent) ≡ roomOf (a .lent) → SameLines a b
 
 -- Whenever the grid accepts a list, reordering it changes nothing.
 abbrev pub HostReorderingRule : Type 0

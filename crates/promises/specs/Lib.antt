@@ -7,5 +7,6 @@ pub mod NoticeLists
 pub mod SpreadReordering
 pub mod Evaluations
 pub mod HostCallLists
+pub mod ClosingSheet
 pub mod FitNodes
 pub mod laws

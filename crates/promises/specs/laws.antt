@@ -17,5 +17,6 @@ pub mod NoticeLists
 pub mod SpreadReordering
 pub mod Evaluations
 pub mod HostCallLists
+pub mod ClosingSheet
 pub mod SortedSets
 pub mod FitNodes

@@ -7,6 +7,7 @@ mod notices;
 mod quotes;
 mod record;
 mod report;
+mod sheets;
 mod trees;
 
 use crate::record::any_nan;
@@ -48,6 +49,12 @@ fn tallied(tally: Tally, record: &[u8; 1280]) -> Tally {
             return tally.notices(false);
         }
         return tally.notices(notices::same(record));
+    }
+    if kind == 19 {
+        if any_nan(record) {
+            return tally.sheet(false);
+        }
+        return tally.sheet(sheets::same(record));
     }
     tally.unknown()
 }

@@ -13,6 +13,8 @@ pub struct Tally {
     spread_differ: u64,
     notices: u64,
     notices_differ: u64,
+    sheet: u64,
+    sheet_differ: u64,
     unknown: u64,
 }
 
@@ -48,6 +50,8 @@ impl Tally {
             spread_differ: 0,
             notices: 0,
             notices_differ: 0,
+            sheet: 0,
+            sheet_differ: 0,
             unknown: 0,
         }
     }
@@ -82,6 +86,12 @@ impl Tally {
         self
     }
 
+    pub(crate) fn sheet(mut self, same: bool) -> Self {
+        self.sheet = one_more(self.sheet);
+        self.sheet_differ = one_more_unless(same, self.sheet_differ);
+        self
+    }
+
     pub(crate) fn unknown(mut self) -> Self {
         self.unknown = one_more(self.unknown);
         self
@@ -93,6 +103,7 @@ impl Tally {
         write_line(b"tree value ", self.tree, self.tree_differ);
         write_line(b"spread from price ", self.spread, self.spread_differ);
         write_line(b"call notices ", self.notices, self.notices_differ);
+        write_line(b"closing sheet ", self.sheet, self.sheet_differ);
         io::write_all(1, b"unknown ");
         io::print_decimal(1, self.unknown);
         io::write_all(1, b"\n");

@@ -56,6 +56,10 @@ pub fn what_to_do(number: u32) -> [u8; 80]
         Refusal::NOT_CONVERGED => text_line(
             b"The search did not settle: the price is far from any market's.",
         ),
+        Refusal::BOND_NUMBER => text_line(b"Give the bond a number from 1 to 999,999."),
+        Refusal::TOO_WIDE => text_line(
+            b"This value or node count is too wide for the closing sheet.",
+        ),
         Refusal::SPREAD_ABOVE => text_line(
             b"The price is far below what the bond is worth: look at it.",
         ),

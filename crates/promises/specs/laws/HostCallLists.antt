@@ -1,4 +1,5 @@
 -- Demand 3 of what the C functions hand back. Assumes nothing.
+use Prim.Native.Nat.{ℕ}
 use mathlib.Core.Path.{_≡_, refl, sym, ap, subst, _∙_}
 use mathlib.Core.Logic.{_⊎_, inl, inr}
 use mathlib.Core.List.{map}
@@ -18,8 +19,10 @@ use Rattle.treebasedbondpricer.specs.laws.CallLists.{call-list-rule, reordering
 use Rattle.brackets.specs.Brackets.{rootNumber, rootPlace, rootValue, evaluationsOf}
 use Rattle.spreads.specs.Spreads.{quoting, spreadFromPrice}
 use Rattle.spreads.specs.Spreads as spreads
+use Rattle.closingsheet.specs.declared.ClosingLine.{ClosingLine}
+use Rattle.closingsheet.specs.Sheet.{sheetOf}
 use Rattle.promises.specs.RefusalNumbers.{Among, treeRefusals}
-use Rattle.promises.specs.HostCallLists.{GridCall, TreeCall, SpreadCall, HostCallListRule, SameGrids, SameValues, SameSpreads, HostReorderingRule}
+use Rattle.promises.specs.HostCallLists.{GridCall, TreeCall, SpreadCall, SheetCall, HostCallListRule, SameGrids, SameValues, SameSpreads, SameLines, HostReorderingRule}
 use Rattle.promises.specs.laws.TreeNumbers.{tree-numbers}
 use Rattle.promises.specs.laws.SpreadReordering.{spread-reordering-rule}
 
@@ -97,7 +100,25 @@ module _ (m : Market) (first second : CallSchedule) (r : Reordered first second)
         slices = λ alike. b .handed .slices ∙ same .slices (b .lent) ∙ ap (spreads.lentAfter w first) alike ∙ sym (a .handed .slices);
       }
 
+  same-lines : (bond : ℕ) (a : SheetCall bond m first) (b : SheetCall bond m second) → roomOf (b .lent) ≡ roomOf (a .lent) → SameLines a b
+  same-lines bond a b as-long =
+      let p = a .handed .handed in
+      let q = b .handed .handed in
+      let same = reordering-rule m first second r z in
+      let e : sheetOf bond (treeValue m second (roomOf (b .lent))) ≡ sheetOf bond (treeValue m first (roomOf (a .lent))) = ap (sheetOf bond) (ap (treeValue m second) as-long ∙ same .values (roomOf (a .lent))) in
+      record {
+        number = q .number-is ∙ ap (λ (s : ClosingLine). s .refusal .number) e ∙ sym (p .number-is);
+        place = q .place-is ∙ ap (λ (s : ClosingLine). s .refusal .place) e ∙ sym (p .place-is);
+        line = q .line-is ∙ ap (λ (s : ClosingLine). s .line) e ∙ sym (p .line-is);
+        slices = λ alike. b .handed .slices ∙ same .slices (b .lent) ∙ ap (lentAfter m first) alike ∙ sym (a .handed .slices);
+      }
+
 pub host-reordering-rule : HostReorderingRule
 host-reordering-rule m first second r g z =
     let y = sym (g .handed .number-is) ∙ z in
-    record { grids = same-grids m first second r y; values = same-values m first second r y; spreads = same-spreads m first second r y }
+    record {
+      grids = same-grids m first second r y;
+      values = same-values m first second r y;
+      spreads = same-spreads m first second r y;
+      lines = same-lines m first second r y;
+    }

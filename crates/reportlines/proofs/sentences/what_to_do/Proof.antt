@@ -161,6 +161,18 @@ slice-aggregate-text-line-26 c = search needs
 text-line-requires-26 : tie.Need-text-line-requires-26
 text-line-requires-26 c κs = search needs
 
+slice-aggregate-text-line-27 : tie.Need-slice-aggregate-text-line-27
+slice-aggregate-text-line-27 c = search needs
+
+text-line-requires-27 : tie.Need-text-line-requires-27
+text-line-requires-27 c κs = search needs
+
+slice-aggregate-text-line-28 : tie.Need-slice-aggregate-text-line-28
+slice-aggregate-text-line-28 c = search needs
+
+text-line-requires-28 : tie.Need-text-line-requires-28
+text-line-requires-28 c κs = search needs
+
 returns : tie.Need-returns
 unfolding sentenceFor
 returns c = named (c .before .before .match .keys1) (c .text-line .ensures)
@@ -263,7 +275,15 @@ returns-25 c = named (c .before .before .match .keys25) (c .text-line25 .ensures
 
 returns-26 : tie.Need-returns-26
 unfolding sentenceFor
-returns-26 c = unnamed _ (c .before .before .match .rest) (c .text-line26 .ensures)
+returns-26 c = named (c .before .before .match .keys26) (c .text-line26 .ensures)
+
+returns-27 : tie.Need-returns-27
+unfolding sentenceFor
+returns-27 c = named (c .before .before .match .keys27) (c .text-line27 .ensures)
+
+returns-28 : tie.Need-returns-28
+unfolding sentenceFor
+returns-28 c = unnamed _ (c .before .before .match .rest) (c .text-line28 .ensures)
 
 pub what-to-do-spec : {M : Type 1} → statement M
 what-to-do-spec =
@@ -321,6 +341,10 @@ what-to-do-spec =
     text-line-requires-25
     slice-aggregate-text-line-26
     text-line-requires-26
+    slice-aggregate-text-line-27
+    text-line-requires-27
+    slice-aggregate-text-line-28
+    text-line-requires-28
     returns
     returns-2
     returns-3
@@ -346,4 +370,6 @@ what-to-do-spec =
     returns-23
     returns-24
     returns-25
-    returns-26)
+    returns-26
+    returns-27
+    returns-28)

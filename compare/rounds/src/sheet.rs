@@ -1,0 +1,153 @@
+//! Lines of the closing sheet against the second reading (number, place, 35 bytes, lent slices): of bonds worth a given double,
+//! and of random terms, each beside a list made from its own.
+use crate::random::Random;
+use crate::tally::Tally;
+use crate::terms::{self, pick};
+use crate::tree::{self, tree_terms};
+use host::Lent;
+use reading::sheet::{self, Line};
+use reading::terms::{Calls, Leg, Pillars, Sigma};
+use reading::treebasedbondpricer::{tree_value, Room, Terms};
+
+/// What a run must meet, 0 for a value.
+const MET: [u32; 19] = [0, 1, 2, 3, 4, 5, 6, 7, 8, 20, 21, 22, 23, 25, 26, 27, 31, 32, 44];
+const SMALL: Room = Room { nodes: 4, probabilities: 6, first: 1, second: 1 };
+
+pub fn bond_number(random: &mut Random) -> u32 {
+    match random.below(12) {
+        0 => pick(random, &[0, 1_000_000, u32::MAX]),
+        1 => pick(random, &[1, 9, 10, 99_999, 100_000, 999_999]),
+        _ => 1 + random.below(999_999) as u32,
+    }
+}
+
+/// A double of any exponent, an exact half cent, a double beside a decimal half cent or beside the widest value.
+pub fn value(random: &mut Random) -> f64 {
+    match random.below(6) {
+        0 | 1 => random.double(),
+        2 => {
+            let whole = (random.bits() >> (24 + random.below(40))) as f64;
+            let x = whole + pick(random, &[0.125, 0.375, 0.625, 0.875]);
+            let x = random.sign(x);
+            random.beside(x)
+        }
+        3 | 4 => {
+            let cents = (random.bits() >> (17 + random.below(47))) as f64;
+            let x = random.sign((cents + 0.5) / 100.0);
+            random.beside(x)
+        }
+        _ => {
+            let x = pick(random, &[999_999_999_999.99, 999_999_999_999.995, 1e12, 562_949_953_421_312.0]);
+            let x = random.sign(x);
+            random.beside(x)
+        }
+    }
+}
+
+/// A bond that repays these amounts in a year, discounted by nothing.
+fn repaying(amounts: &[f64]) -> Terms {
+    Terms {
+        settlement: 0,
+        leg: Leg { days: vec![365; amounts.len()], kinds: vec![1; amounts.len()], amounts: amounts.to_vec() },
+        units: 100.0,
+        calls: Calls::default(),
+        settings: (1, 512),
+        alpha: 0.0,
+        sigma: Sigma { times: vec![0.0], sigmas: vec![0.0] },
+        spread: 0.0,
+        pillars: Pillars { days: vec![0, 365], factors: vec![1.0, 1.0] },
+    }
+}
+
+/// Terms worth a double: one flow, or two where it is above what a flow may be.
+fn worth(x: f64) -> Terms {
+    if x.abs() <= 1e12 {
+        repaying(&[x])
+    } else {
+        repaying(&[x / 2.0, x / 2.0])
+    }
+}
+
+fn compare(tally: &mut Tally, bond: u32, t: &Terms, room: Room) -> Line {
+    let mut lent = Lent::new(room);
+    let ours = host::closing_line(bond, t, &mut lent);
+    let (answer, in_the_input) = tree_value(t, room);
+    let theirs = sheet::line(bond, &answer);
+    let left = if in_the_input { lent.untouched() } else { lent.zeroed() };
+    tally.case(ours.0, left && ours == theirs, || {
+        let text = |line: &Line| String::from_utf8_lossy(&line.2).into_owned();
+        format!("{bond} {t:?} {room:?} prints {:?} {}, the reading {:?} {}", text(&ours), ours.0, text(&theirs), theirs.0)
+    });
+    ours
+}
+
+/// The cents that a line shows.
+fn cents(line: &Line) -> i128 {
+    let value = std::str::from_utf8(&line.2[6..22]).unwrap().trim();
+    value.replace('.', "").parse().unwrap()
+}
+
+/// Whether a line of a list made from another's is as the call-list rule has it.
+fn no_lower(first: &Line, second: &Line, above: bool) -> bool {
+    match second.0 {
+        0 => cents(second) >= cents(first),
+        4 => above,
+        27 | 32 => !above,
+        _ => false,
+    }
+}
+
+/// A list with an entry less, with strikes raised, or both.
+fn thinned(random: &mut Random, calls: &Calls) -> Calls {
+    let mut made = calls.clone();
+    let mut i = 0;
+    while i < made.starts.len() {
+        if random.below(3) == 0 {
+            made.starts.remove(i);
+            made.ends.remove(i);
+            made.strikes.remove(i);
+        } else {
+            made.strikes[i] *= pick(random, &[1.0, 1.0 + 1e-9, 1.01, 1e3, 1e5]);
+            i += 1;
+        }
+    }
+    made
+}
+
+pub fn round(long: bool, seed: u64) -> u64 {
+    let cases = if long { 1_000_000 } else { 20_000 };
+    let mut random = Random(seed ^ 0x5bee7);
+    let mut doubles = Tally::new("sheet, value");
+    let mut lines = Tally::new("sheet");
+    let mut rule = Tally::new("sheet, calls");
+    for _ in 0..cases {
+        let x = value(&mut random);
+        let bond = bond_number(&mut random);
+        let ours = compare(&mut doubles, bond, &worth(x), SMALL);
+        if ours.0 == 0 {
+            let shown = String::from_utf8_lossy(&ours.2[6..22]).trim().to_owned();
+            let same = sheet::printed(x).as_deref() == Some(shown.as_str());
+            doubles.case(0, same, || format!("{x:e} prints {shown}"));
+        }
+    }
+    for _ in 0..cases / 4 {
+        let mut t = tree_terms(&mut random);
+        if random.below(4) == 0 {
+            terms::damage(&mut random, &mut t);
+        }
+        if random.below(16) == 0 {
+            t.leg.amounts.iter_mut().for_each(|amount| *amount *= 1e10);
+        }
+        let room = tree::room(&mut random, &t, tree::AMPLE);
+        let bond = bond_number(&mut random);
+        let first = compare(&mut lines, bond, &t, room);
+        if first.0 == 0 {
+            t.calls = thinned(&mut random, &t.calls);
+            let above = t.calls.strikes.iter().any(|&strike| strike > 1e6);
+            let second = compare(&mut lines, bond, &t, room);
+            rule.case(second.0, no_lower(&first, &second, above), || format!("{t:?} prints {second:?} behind {first:?}"));
+        }
+    }
+    let missing = lines.missing(&MET);
+    doubles.done() + lines.done() + rule.done() + missing
+}

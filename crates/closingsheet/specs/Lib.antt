@@ -1,0 +1,6 @@
+pub mod Cells
+pub mod Sheet
+pub mod Entry
+pub mod Shown
+pub mod laws
+pub mod Examples
