@@ -159,8 +159,8 @@ uint32_t gutirapeo_tree_value(uint32_t settlement,
 /* A bond's line of the closing sheet: 35 bytes, written on every call, the last of them a newline.
  *
  *   columns 1 to 6    the bond number, 1 to 999,999
- *   columns 7 to 22   the tree value with two decimals, rounded from the double's exact value, a half away from zero: 0.125 is
- *                     0.13 and -0.125 is -0.13; what rounds to zero is 0.00 without a sign
+ *   columns 7 to 22   the tree value with two decimals, rounded from the double's exact value, an exact half to the even cent:
+ *                     0.125 is 0.12, 0.375 is 0.38 and -0.125 is -0.12; what rounds to zero is 0.00 without a sign
  *   columns 23 to 30  the node count
  *   columns 31 to 34  the refusal number
  *

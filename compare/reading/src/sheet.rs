@@ -9,7 +9,7 @@ const ALL: usize = 1_074;
 /// The refusal's number and place, and the 35 bytes.
 pub type Line = (u32, u32, [u8; 35]);
 
-/// A value with two decimals, a half going away from zero; none where it is too wide.
+/// A value with two decimals, an exact half going to the even cent; none where it is too wide.
 pub fn printed(x: f64) -> Option<String> {
     if !x.is_finite() {
         return None;
@@ -17,7 +17,9 @@ pub fn printed(x: f64) -> Option<String> {
     let exact = format!("{:.ALL$}", x.abs());
     let (whole, decimals) = exact.split_once('.')?;
     let cut: u128 = format!("{whole}{}", &decimals[..2]).parse().ok()?;
-    let cents = if decimals.as_bytes()[2] < b'5' { cut } else { cut + 1 };
+    let (half, rest) = (decimals.as_bytes()[2], &decimals[3..]);
+    let exact_half = half == b'5' && rest.bytes().all(|digit| digit == b'0');
+    let cents = if half < b'5' || exact_half && cut % 2 == 0 { cut } else { cut + 1 };
     let minus = if x < 0.0 && cents > 0 { "-" } else { "" };
     (cents < 100_000_000_000_000).then(|| format!("{minus}{}.{:02}", cents / 100, cents % 100))
 }

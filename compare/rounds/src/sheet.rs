@@ -1,5 +1,5 @@
 //! Lines of the closing sheet against the second reading (number, place, 35 bytes, lent slices): of bonds worth a given double,
-//! and of random terms, each beside a list made from its own.
+//! which Rust prints too, and of random terms, each beside a list made from its own.
 use crate::random::Random;
 use crate::tally::Tally;
 use crate::terms::{self, pick};
@@ -29,7 +29,11 @@ pub fn value(random: &mut Random) -> f64 {
             let whole = (random.bits() >> (24 + random.below(40))) as f64;
             let x = whole + pick(random, &[0.125, 0.375, 0.625, 0.875]);
             let x = random.sign(x);
-            random.beside(x)
+            if random.below(4) == 0 {
+                random.beside(x)
+            } else {
+                x
+            }
         }
         3 | 4 => {
             let cents = (random.bits() >> (17 + random.below(47))) as f64;
@@ -114,6 +118,15 @@ fn thinned(random: &mut Random, calls: &Calls) -> Calls {
     made
 }
 
+/// What Rust prints with two decimals; its zero has a sign.
+fn rusts(x: f64) -> String {
+    let text = format!("{x:.2}");
+    if text == "-0.00" {
+        return "0.00".to_owned();
+    }
+    text
+}
+
 pub fn round(long: bool, seed: u64) -> u64 {
     let cases = if long { 1_000_000 } else { 20_000 };
     let mut random = Random(seed ^ 0x5bee7);
@@ -126,8 +139,8 @@ pub fn round(long: bool, seed: u64) -> u64 {
         let ours = compare(&mut doubles, bond, &worth(x), SMALL);
         if ours.0 == 0 {
             let shown = String::from_utf8_lossy(&ours.2[6..22]).trim().to_owned();
-            let same = sheet::printed(x).as_deref() == Some(shown.as_str());
-            doubles.case(0, same, || format!("{x:e} prints {shown}"));
+            let same = sheet::printed(x).as_deref() == Some(shown.as_str()) && rusts(x) == shown;
+            doubles.case(0, same, || format!("{x:e} prints {shown}, in Rust {}", rusts(x)));
         }
     }
     for _ in 0..cases / 4 {

@@ -1,3 +1,3 @@
 pub mod Copying
-pub mod Fields
+pub mod Printing
 pub mod Sheets

@@ -1,30 +1,24 @@
 -- Definitions only. A value in 16 columns of the closing sheet.
-use Prim.Native.Nat.{ℕ, _+_, _*_, _/_}
-use mathlib.Core.Bool.{Bool, true, false, cond}
+use mathlib.Core.Bool.{true, false, cond}
 use lib.Dec.{ltb}
 use lib.ListN.{take, replicate}
-use lib.Ieee.{Float, nan, inf, fin, up, down}
+use lib.Ieee.{Float}
+use Rattle.decimal.specs.declared.Rounded.{Rounded}
 use Rattle.decimal.specs.declared.Decimals.{Decimals}
 use Rattle.decimal.specs.declared.Decimals.the-variants.{Shown, Beyond}
-use Rattle.decimal.specs.Writing.{inUnits}
+use Rattle.decimal.specs.Writing.{decimalsOf}
 use Rattle.bondreport.specs.Columns.{blankLine}
 use Rattle.bondreport.specs.Figures.{before, decimalsLeft, onDecimals}
 use Rattle.closingsheet.specs.declared.ValueCell.{ValueCell}
 
--- a / c to a whole number, a half going away from zero; the sign stands apart.
-abbrev pub halfAway : ℕ → ℕ → ℕ
-halfAway a c = (2 * a + c) / (2 * c)
-
 -- Nothing beyond ±999,999,999,999.99 after rounding is printed.
-unfoldable pub inCents : Bool → ℕ → Decimals
-inCents negative cents = cond (ltb 99999999999999 cents) Beyond (Shown (inUnits negative 2 cents))
+abbrev pub fitting : Rounded → Decimals
+fitting shown = cond (ltb 999999999999 (shown .whole)) Beyond (Shown shown)
 
--- A value is rounded to cents from the exact value of the double; an infinity or a NaN has none.
+-- A value is rounded as the report rounds to two decimals: from the exact value of the double, an exact half going to the even cent. An infinity or a NaN has none.
 unfoldable pub printedOf : Float → Decimals
-unfolding inCents
-printedOf nan = Beyond
-printedOf (inf s) = Beyond
-printedOf (fin s m e) = inCents s (halfAway (100 * (m * up e)) (down e))
+unfolding onDecimals decimalsOf
+printedOf x = onDecimals (decimalsOf 2 x) Beyond fitting
 
 -- Two decimals, right-justified in 16 columns, without a sign on a zero. Where the value is too wide, the columns are blank.
 abbrev pub cellOf : Decimals → ValueCell

@@ -42,12 +42,13 @@ pub record Starred : Type 0 where
   pub window : sheetOf 1 (Value ninetyNine 2) ≡ printed 0 0 "     1           99.00       2    "
   -- Every column in use, but for the refusal's.
   pub widest : sheetOf 999999 (Value (ofBits binary64 0xc26d_1a94_a1ff_ffae) 99999999) ≡ printed 0 0 "999999-999999999999.9999999999    "
-  -- 0.125, 0.375 and -0.125 are exact halves.
-  pub half : shows 0x3fc0_0000_0000_0000 ≡ cell "            0.13"
+  -- 0.125, 0.375 and -0.125 are exact halves, and go to the even cent.
+  pub half : shows 0x3fc0_0000_0000_0000 ≡ cell "            0.12"
   pub half-up : shows 0x3fd8_0000_0000_0000 ≡ cell "            0.38"
-  pub half-below : shows 0xbfc0_0000_0000_0000 ≡ cell "           -0.13"
-  -- 1.005 as a double is less than it says.
+  pub half-below : shows 0xbfc0_0000_0000_0000 ≡ cell "           -0.12"
+  -- 1.005 as a double is less than it says, and 0.005 more.
   pub no-half : shows 0x3ff0_147a_e147_ae14 ≡ cell "            1.00"
+  pub above-half : shows 0x3f74_7ae1_47ae_147b ≡ cell "            0.01"
   -- -0.004, -0 and the smallest double below zero.
   pub no-sign : shows 0xbf70_624d_d2f1_a9fc ≡ cell "            0.00"
   pub minus-zero : shows 0x8000_0000_0000_0000 ≡ cell "            0.00"
@@ -82,6 +83,7 @@ starred =
       half-up = refl;
       half-below = refl;
       no-half = refl;
+      above-half = refl;
       no-sign = refl;
       minus-zero = refl;
       least = refl;

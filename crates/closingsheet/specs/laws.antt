@@ -4,3 +4,4 @@ pub mod Columns
 pub mod Digits
 pub mod ReadBack
 pub mod HalfCents
+pub mod Halves

@@ -26,5 +26,5 @@ impl ClosingLine {
 
     pub const MOST_NODES: u64 = 99_999_999;
 
-    pub const MOST_CENTS: u64 = 99_999_999_999_999;
+    pub const MOST_WHOLE: u64 = 999_999_999_999;
 }

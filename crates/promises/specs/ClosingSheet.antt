@@ -1,11 +1,12 @@
 -- Definitions only. What is promised of a bond's line of the closing sheet.
-use Prim.Native.Nat.{ℕ, _≤_, _<_}
+use Prim.Native.Nat.{ℕ, _+_, _*_, _%_, _≤_, _<_}
 use mathlib.Core.Path.{_≡_}
 use mathlib.Core.Logic.{_↔_, _⊎_}
-use mathlib.Core.Bool.{true, false}
+use mathlib.Core.Bool.{Bool, true, false, cond}
 use mathlib.Core.List.{List, [], _∷_, _++_}
 use lib.ListN.{take, drop, replicate}
-use lib.Ieee.{Float}
+use lib.IntN.{ℤ}
+use lib.Ieee.{Float, fin, up, down}
 use Rattle.floats.specs.declared.Refusal.{Refusal}
 use Rattle.decimal.specs.Examples.{bytes}
 use Rattle.terms.specs.Terms.{CallSchedule, Market}
@@ -19,7 +20,8 @@ use Rattle.closingsheet.specs.declared.ClosingLine.{ClosingLine}
 use Rattle.closingsheet.specs.Cells.{valueCell}
 use Rattle.closingsheet.specs.Sheet.{at, sheetOf}
 use Rattle.closingsheet.specs.Entry.{Filed}
-use Rattle.closingsheet.specs.Shown.{ValueColumns, RefusedColumns, Decimal, readBack, HalfCent, NoLower}
+use Rattle.closingsheet.specs.HalfAway.{FiledAway, Alike}
+use Rattle.closingsheet.specs.Shown.{ValueColumns, RefusedColumns, Decimal, readBack, above, below, HalfCent, NoLower}
 use Rattle.promises.specs.RefusalNumbers.{Among, treeRefusals}
 use Rattle.promises.specs.Examples.{market99, callFrom, lent}
 use Rattle.promises.specs.HostCallLists.{SheetCall}
@@ -111,3 +113,21 @@ LineCallListRule =
     → roomOf (b .lent) ≡ roomOf (a .lent)
     → a .number ≡ 0
     → ThinnedLine bond second (a .line) (b .number) (b .line)
+
+-- ---- halves to even
+
+-- A value of k and a half cents exactly, below zero too, is shown as the even one of k and k + 1.
+abbrev pub HalfToEven : Type 0
+HalfToEven =
+    (s : Bool) (m : ℕ) (e : ℤ) (k : ℕ)
+    → 2 * (100 * (m * up e)) ≡ (2 * k + 1) * down e
+    → valueCell (fin s m e) .wide ≡ false
+    → (above (readBack (valueCell (fin s m e) .cell)) ≡ cond s 0 (k + k % 2)) × (below (readBack (valueCell (fin s m e) .cell)) ≡ cond s (k + k % 2) 0)
+
+-- Against the sheet with a half away from zero nothing but the printed value is affected: for every bond number and all terms, those of 32 included, refusal, place, bond number, count, newline and slices are the same.
+abbrev pub OnlyTheValue : Type 0
+OnlyTheValue =
+    (bond : ℕ) (m : Market) (calls : CallSchedule) (old new : ClosingLine) (before after-old after-new : Lent)
+    → FiledAway bond m calls old before after-old
+    → Filed bond m calls new before after-new
+    → Alike old new × (after-new ≡ after-old)

@@ -1,49 +1,51 @@
--- A value's cents by its exact value. Assumes nothing.
-use Prim.Native.Nat.{ℕ, _+_, _*_, _^_, _≤_, _<_}
+-- A value's cents as the report's two decimals have them. Assumes nothing.
+use Prim.Native.Nat.{ℕ, _*_, _/_, _%_, _^_, _≤_, _<_, compare}
 use mathlib.Core.Path.{_≡_, sym, ap, _∙_}
+use mathlib.Core.Logic.{_⊎_, inl, inr}
 use mathlib.Core.Bool.{Bool, cond}
-use native.Mathlib.Nat.{mul-comm, mul-assoc, mul-left-comm, mul-mul-mul-comm, add-mul, le-div-iff-mul-le, div-eq-of-lt}
+use native.Mathlib.Nat.{le-trans, le-div-iff-mul-le}
 use native.Mathlib.Omega.{arith}
-use borrow.Author.Tests.{lt-ltb}
-use lib.Ieee.{Float, nan, inf, fin, up, down}
-use lib.Ieee.Exact.{HasValue}
+use borrow.Author.Tests.{lt-ltb, le-ltb, le-leb, lt-leb}
+use lib.Dec.{ltb, leb}
+use lib.IntN.{ℤ}
+use lib.Ieee.{fin, up, down}
 use lib.Ieee.Fits.{down-pos}
-use lib.Ieee.Nearest.{div-same}
+use lib.Ieee.Nearest.{closest, nearest-ge}
+use Rattle.rounded.specs.laws.RoundToOdd.{ordered}
 use Rattle.decimal.specs.declared.Decimals.the-variants.{Shown, Beyond}
 use Rattle.decimal.specs.Writing.{inUnits}
-use Rattle.closingsheet.specs.Cells.{halfAway, inCents, printedOf}
+use Rattle.bondreport.specs.Figures.{onDecimals}
+use Rattle.closingsheet.specs.Cells.{fitting, printedOf}
+use Rattle.closingsheet.specs.HalfAway.{inCents}
 
--- Equal fractions are rounded alike.
-pub away-same : (a b c d : ℕ) → 0 < b → 0 < d → a * d ≡ c * b → halfAway a b ≡ halfAway c d
-away-same a b c d B D e =
-    div-same (2 * a + b) (2 * b) (2 * c + d) (2 * d) (omega arith) (omega arith)
-    (spread a b d ∙ ap (λ (z : ℕ). 4 * z + 2 * (b * d)) e ∙ ap (λ (z : ℕ). 4 * (c * b) + 2 * z) (mul-comm b d) ∙ sym (spread c d b))
-  where
-    spread : (u v w : ℕ) → (2 * u + v) * (2 * w) ≡ 4 * (u * w) + 2 * (v * w)
-    spread u v w =
-        add-mul (2 * u) v (2 * w)
-        ∙ ap (λ (z : ℕ). z + v * (2 * w)) (mul-mul-mul-comm 2 u 2 w)
-        ∙ ap (λ (z : ℕ). 4 * (u * w) + z) (mul-left-comm v 2 w)
-
--- The cents of a value whose exact size is a / c.
-pub cents-of : (x : Float) (s : Bool) (a c : ℕ) → 0 < c → HasValue x s a c → printedOf x ≡ inCents s (halfAway (100 * a) c)
-unfolding printedOf
-cents-of nan s a c C v = absurd v
-cents-of (inf t) s a c C v = absurd v
-cents-of (fin t m e) s a c C v =
-    ap (λ (z : ℕ). inCents t z) (away-same (100 * (m * up e)) (down e) (100 * a) c (down-pos e) C (mul-assoc 100 (m * up e) c ∙ ap (λ (z : ℕ). 100 * z) (v .1) ∙ sym (mul-assoc 100 a (down e))))
-    ∙ ap (λ (b : Bool). inCents b (halfAway (100 * a) c)) (v .0)
-
--- ---- cents that are too many
-
-pub too-many : (negative : Bool) (cents : ℕ) → 99999999999999 < cents → inCents negative cents ≡ Beyond
+-- A whole part of twelve digits at the most is a limit on the cents.
+in-cents : (s : Bool) (cents : ℕ) → fitting (inUnits s 2 cents) ≡ inCents s cents
 unfolding inCents
-too-many negative cents h = ap (λ (b : Bool). cond b Beyond (Shown (inUnits negative 2 cents))) (lt-ltb 99999999999999 cents h)
+in-cents s cents = ap (λ (b : Bool). cond b Beyond (Shown (inUnits s 2 cents))) (go (ordered cents 99999999999999))
+  where
+    go : (cents ≤ 99999999999999) ⊎ (99999999999999 < cents) → ltb 999999999999 (cents / 100) ≡ ltb 99999999999999 cents
+    go (inl h) = le-ltb 999999999999 (cents / 100) (omega arith) ∙ sym (le-ltb 99999999999999 cents h)
+    go (inr h) = lt-ltb 999999999999 (cents / 100) (omega arith) ∙ sym (lt-ltb 99999999999999 cents h)
 
--- A size of 2^49 has more.
-pub away-many : (a c : ℕ) → 0 < c → 2 ^ 49 * c ≤ a → 99999999999999 < halfAway (100 * a) c
-away-many a c C h = le-div-iff-mul-le {k = 2 * c} {x = 100000000000000} {y = 2 * (100 * a) + c} (omega arith) .1 (omega arith)
+-- A size of 2^49 has more cents than are printed.
+too-many : (s : Bool) (a c : ℕ) → 0 < c → 2 ^ 49 * c ≤ a → Beyond ≡ inCents s (closest (100 * a) c)
+unfolding inCents
+too-many s a c C h =
+    let most : 100000000000000 ≤ 100 * a / c = le-div-iff-mul-le {k = c} {x = 100000000000000} {y = 100 * a} C .1 (omega arith) in
+    sym (ap (λ (b : Bool). cond b Beyond (Shown (inUnits s 2 (closest (100 * a) c)))) (lt-ltb 99999999999999 (closest (100 * a) c) (le-trans most (nearest-ge (100 * a / c) (compare (100 * a % c * 2) c)))))
 
--- A size below a half cent has none.
-pub away-none : (a c : ℕ) → 0 < c → 200 * a < c → halfAway (100 * a) c ≡ 0
-away-none a c C h = div-eq-of-lt (omega arith)
+pub cents-are : (s : Bool) (m : ℕ) (e : ℤ) → printedOf (fin s m e) ≡ inCents s (closest (100 * (m * up e)) (down e))
+unfolding printedOf
+cents-are s m e = go (ordered (2 ^ 49 * down e) (m * up e))
+  where
+    units : ℕ
+    units = closest (100 * (m * up e)) (down e)
+
+    go : (2 ^ 49 * down e ≤ m * up e) ⊎ (m * up e < 2 ^ 49 * down e)
+        → onDecimals (cond (leb (2 ^ 49 * down e) (m * up e)) Beyond (Shown (inUnits s 2 units))) Beyond fitting ≡ inCents s units
+    go (inl h) =
+        ap (λ (b : Bool). onDecimals (cond b Beyond (Shown (inUnits s 2 units))) Beyond fitting) (le-leb (2 ^ 49 * down e) (m * up e) h)
+        ∙ too-many s (m * up e) (down e) (down-pos e) h
+    go (inr h) =
+        ap (λ (b : Bool). onDecimals (cond b Beyond (Shown (inUnits s 2 units))) Beyond fitting) (lt-leb (2 ^ 49 * down e) (m * up e) h)
+        ∙ in-cents s units

@@ -1,23 +1,26 @@
 -- What is printed of a value lies within half a cent of it, and in the order of the values. Assumes nothing.
-use Prim.Native.Nat.{ℕ, _+_, _*_, _≤_, _<_}
+use Prim.Native.Nat.{ℕ, _+_, _-_, _*_, _/_, _%_, _≤_, _<_}
 use mathlib.Core.Path.{_≡_, refl, sym, ap, subst, _∙_}
 use mathlib.Core.Logic.{_⊎_, inl, inr}
 use mathlib.Core.Bool.{Bool, true, false, cond}
-use native.Mathlib.Nat.{le-trans, le-of-eq, mul-comm, mul-assoc, mul-left-comm, mul-mul-mul-comm, add-mul, mul-le-mul-left, le-of-mul-le-mul-right, div-mul-le-self, lt-div-mul-add}
+use native.Mathlib.Nat.{le-trans, le-of-eq, mul-assoc, add-mul, mul-le-mul-left, le-of-mul-le-mul-right, eq-or-lt-of-le, div-add-mod', mod-lt}
 use native.Mathlib.Omega.{arith}
 use borrow.Author.Tests.{lt-ltb, le-ltb}
 use lib.Dec.{T}
 use lib.IntN.{ℤ}
 use lib.Ieee.{Float, nan, inf, fin, up, down, le}
 use lib.Ieee.Fits.{down-pos}
-use lib.Ieee.Nearest.{div-mono}
+use lib.Ieee.Nearest.{closest, closest-mono}
 use Rattle.floats.specs.laws.Fractions.{Leq, leq-of-le}
-use Rattle.rounded.specs.laws.RoundToOdd.{ordered}
+use Rattle.rounded.specs.laws.RoundToOdd.{ordered, closest-down, closest-up, closest-tie}
+use Rattle.decimal.specs.declared.Decimals.{Decimals}
 use Rattle.decimal.specs.declared.Decimals.the-variants.{Shown, Beyond}
 use Rattle.decimal.specs.Writing.{inUnits}
 use Rattle.bondreport.specs.Figures.{onDecimals}
-use Rattle.closingsheet.specs.Cells.{halfAway, inCents, printedOf, cellOf, valueCell}
+use Rattle.closingsheet.specs.Cells.{printedOf, cellOf, valueCell}
+use Rattle.closingsheet.specs.HalfAway.{inCents}
 use Rattle.closingsheet.specs.Shown.{Decimal, readBack, HalfCent, NoLower}
+use Rattle.closingsheet.specs.laws.Cents.{cents-are}
 use Rattle.closingsheet.specs.laws.ReadBack.{Sides, sides, reads}
 
 -- ---- whatever rounds a / c to a nearest whole number
@@ -78,27 +81,37 @@ module _ (round : ℕ → ℕ → ℕ) (nearest : Nearest round) where
       go true false l = omega arith
       go false true l = omega (arith, none m e f (omega (arith, l .holds)), none n f e (omega (arith, l .holds)))
 
--- ---- a half away from zero
+-- ---- a half to even
 
-away-nearest : Nearest halfAway
-away-nearest =
-    record {
-      not-above = λ a c C. le-trans (le-of-eq (twice (halfAway a c) c)) (div-mul-le-self (2 * a + c) (2 * c));
-      not-below = λ a c C. omega (arith, twice (halfAway a c) c, lt-div-mul-add {a = 2 * a + c} {b = 2 * c} (omega arith));
-      mono = λ a b c d B D h. div-mono (2 * a + b) (2 * b) (2 * c + d) (2 * d) (omega arith) (omega arith) (across a b c d h);
-    }
+closest-nearest : Nearest closest
+closest-nearest = record { not-above = λ a c C. near a c C .0; not-below = λ a c C. near a c C .1; mono = closest-mono }
   where
-    twice : (q c : ℕ) → 2 * (q * c) ≡ q * (2 * c)
-    twice q c = sym (mul-left-comm q 2 c)
+    near : (a c : ℕ) → 0 < c → (2 * (closest a c * c) ≤ 2 * a + c) × (2 * a ≤ 2 * (closest a c * c) + c)
+    near a c C = go (ordered c (a % c * 2))
+      where
+        parts : a / c * c + a % c ≡ a
+        parts = div-add-mod' a c
 
-    spread : (u v w : ℕ) → (2 * u + v) * (2 * w) ≡ 4 * (u * w) + 2 * (v * w)
-    spread u v w =
-        add-mul (2 * u) v (2 * w)
-        ∙ ap (λ (z : ℕ). z + v * (2 * w)) (mul-mul-mul-comm 2 u 2 w)
-        ∙ ap (λ (z : ℕ). 4 * (u * w) + z) (mul-left-comm v 2 w)
+        one-more : (a / c + 1) * c ≡ a / c * c + c
+        one-more = add-mul (a / c) 1 c ∙ omega arith
 
-    across : (a b c d : ℕ) → a * d ≤ c * b → (2 * a + b) * (2 * d) ≤ (2 * c + d) * (2 * b)
-    across a b c d h = omega (arith, spread a b d, spread c d b, mul-comm b d)
+        even : (k : ℕ) → k < 2 → a % c * 2 ≡ c → (2 * ((a / c + k) * c) ≤ 2 * a + c) × (2 * a ≤ 2 * ((a / c + k) * c) + c)
+        even k l t = elim (ordered 1 k) [
+          | inl g ↦ let e : k ≡ 1 = omega arith in rw (e, one-more) ((omega (arith, parts)), (omega (arith, parts)))
+          | inr g ↦ let e : a / c + k ≡ a / c = omega arith in rw e ((omega (arith, parts)), (omega (arith, parts)))
+        ]
+
+        by : (n : ℕ) → closest a c ≡ n → (2 * (n * c) ≤ 2 * a + c) × (2 * a ≤ 2 * (n * c) + c) → (2 * (closest a c * c) ≤ 2 * a + c) × (2 * a ≤ 2 * (closest a c * c) + c)
+        by n e p = rw e p
+
+        go : (c ≤ a % c * 2) ⊎ (a % c * 2 < c) → (2 * (closest a c * c) ≤ 2 * a + c) × (2 * a ≤ 2 * (closest a c * c) + c)
+        go (inr h) = by (a / c) (closest-down a c (a / c) (a % c) (sym parts) h) ((omega (arith, parts)), (omega (arith, parts)))
+        go (inl h) = elim (eq-or-lt-of-le h) [
+          | inl e ↦ by (a / c + a / c % 2) (closest-tie a c (a / c) (a % c) (sym parts) (sym e) C) (even (a / c % 2) (omega arith) (sym e))
+          | inr l ↦
+              by (a / c + 1) (closest-up a c (a / c) (a % c) (sym parts) l (mod-lt a C))
+              (rw one-more ((omega (arith, parts)), (omega (arith, parts, mod-lt a C))))
+        ]
 
 -- ---- the sheet's values
 
@@ -108,7 +121,7 @@ pub record Printed (x : Float) : Type 0 where
   pub size : ℕ
   pub power : ℤ
   pub is : x ≡ fin sign size power
-  pub shown : Sides sign (halfAway (100 * (size * up power)) (down power)) (readBack (valueCell x .cell))
+  pub shown : Sides sign (closest (100 * (size * up power)) (down power)) (readBack (valueCell x .cell))
 
 printed-of : (s : Bool) (cents : ℕ) → cellOf (inCents s cents) .wide ≡ false → Sides s cents (readBack (cellOf (inCents s cents) .cell))
 unfolding inCents onDecimals
@@ -120,22 +133,43 @@ printed-of s cents w = go (ordered cents 99999999999999)
         (subst (λ (d : Decimal). Sides s cents d) (sym (reads s cents h)) (sides s cents))
     go (inr h) = absurd (subst T (ap (λ (b : Bool). cellOf (cond b Beyond (Shown (inUnits s 2 cents))) .wide) (sym (lt-ltb 99999999999999 cents h)) ∙ w) tt)
 
+shown-cents : (s : Bool) (m : ℕ) (e : ℤ) → valueCell (fin s m e) .wide ≡ false → Sides s (closest (100 * (m * up e)) (down e)) (readBack (valueCell (fin s m e) .cell))
+shown-cents s m e w =
+    let cents = closest (100 * (m * up e)) (down e) in
+    let as-cents = cents-are s m e in
+    subst (λ (d : Decimals). Sides s cents (readBack (cellOf d .cell))) (sym as-cents)
+    (printed-of s cents (sym (ap (λ (d : Decimals). cellOf d .wide) as-cents) ∙ w))
+
 printed : (x : Float) → valueCell x .wide ≡ false → Printed x
 unfolding printedOf onDecimals
 printed nan w = absurd (subst T w tt)
 printed (inf s) w = absurd (subst T w tt)
-printed (fin s m e) w = record { sign = s; size = m; power = e; is = refl; shown = printed-of s (halfAway (100 * (m * up e)) (down e)) w }
+printed (fin s m e) w = record { sign = s; size = m; power = e; is = refl; shown = shown-cents s m e w }
 
 -- What is printed of a value is within half a cent of it.
 pub within-half-a-cent : (x : Float) → valueCell x .wide ≡ false → HalfCent x (readBack (valueCell x .cell))
 within-half-a-cent x w =
     let p = printed x w in
-    subst (λ (y : Float). HalfCent y (readBack (valueCell x .cell))) (sym (p .is)) (half-cent halfAway away-nearest (p .sign) (p .size) (p .power) (readBack (valueCell x .cell)) (p .shown))
+    subst (λ (y : Float). HalfCent y (readBack (valueCell x .cell))) (sym (p .is)) (half-cent closest closest-nearest (p .sign) (p .size) (p .power) (readBack (valueCell x .cell)) (p .shown))
 
 -- A value no lower is printed no lower.
 pub printed-no-lower : (x y : Float) → valueCell x .wide ≡ false → valueCell y .wide ≡ false → T (le x y) → NoLower (readBack (valueCell x .cell)) (readBack (valueCell y .cell))
 printed-no-lower x y w v h =
     let p = printed x w in
     let q = printed y v in
-    in-order halfAway away-nearest (p .sign) (p .size) (p .power) (q .sign) (q .size) (q .power) (readBack (valueCell x .cell)) (readBack (valueCell y .cell)) (p .shown) (q .shown)
+    in-order closest closest-nearest (p .sign) (p .size) (p .power) (q .sign) (q .size) (q .power) (readBack (valueCell x .cell)) (readBack (valueCell y .cell)) (p .shown) (q .shown)
     (subst (λ (z : Float). T (le z (fin (q .sign) (q .size) (q .power)))) (p .is) (subst (λ (z : Float). T (le x z)) (q .is) h))
+
+-- ---- an exact half
+
+-- k and a half cents are the even one of k and k + 1.
+even-cent : (a c k : ℕ) → 0 < c → 2 * a ≡ (2 * k + 1) * c → closest a c ≡ k + k % 2
+even-cent a c k C h = closest-tie a c k (a - k * c) (omega (arith, twice)) (omega (arith, twice)) C
+  where
+    twice : (2 * k + 1) * c ≡ 2 * (k * c) + c
+    twice = add-mul (2 * k) 1 c ∙ ap (λ (z : ℕ). z + 1 * c) (mul-assoc 2 k c) ∙ omega arith
+
+pub half-to-even : (s : Bool) (m : ℕ) (e : ℤ) (k : ℕ) → 2 * (100 * (m * up e)) ≡ (2 * k + 1) * down e → valueCell (fin s m e) .wide ≡ false → Sides s (k + k % 2) (readBack (valueCell (fin s m e) .cell))
+half-to-even s m e k h w =
+    subst (λ (n : ℕ). Sides s n (readBack (valueCell (fin s m e) .cell))) (even-cent (100 * (m * up e)) (down e) k (down-pos e) h)
+    (shown-cents s m e w)

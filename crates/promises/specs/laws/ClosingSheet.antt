@@ -39,10 +39,11 @@ use Rattle.closingsheet.specs.Cells.{printedOf, valueCell}
 use Rattle.closingsheet.specs.Sheet.{at, refusedSheet, shownSheet, valueSheet, answerSheet, noSheet, sheetBy, sheetOf}
 use Rattle.closingsheet.specs.Shown.{ValueColumns, RefusedColumns, readBack, HalfCent, NoLower}
 use Rattle.closingsheet.specs.laws.Columns.{value-columns, refused-columns, cell-length}
-use Rattle.closingsheet.specs.laws.HalfCents.{within-half-a-cent, printed-no-lower}
+use Rattle.closingsheet.specs.laws.HalfCents.{within-half-a-cent, printed-no-lower, half-to-even}
+use Rattle.closingsheet.specs.laws.Halves.{nothing-else}
 use Rattle.promises.specs.RefusalNumbers.{member, Among, treeRefusals, Met}
 use Rattle.promises.specs.Examples.{market99, noCalls, lent}
-use Rattle.promises.specs.ClosingSheet.{valueColumns, valueShown, NoLine, RefusalShown, ValueShown, Line, EveryLine, LastExample, sheetRefusals, LineNumbers, MetOnSheet, EachMetOnSheet, LineCallListRule}
+use Rattle.promises.specs.ClosingSheet.{valueColumns, valueShown, NoLine, RefusalShown, ValueShown, Line, EveryLine, LastExample, sheetRefusals, LineNumbers, MetOnSheet, EachMetOnSheet, LineCallListRule, HalfToEven, OnlyTheValue}
 use Rattle.promises.specs.laws.TreeNumbers.{tree-numbers}
 use Rattle.promises.specs.laws.NumbersMet.{each-met}
 
@@ -309,3 +310,12 @@ line-call-list-rule bond m first second made a b as-long z =
       otherwise = λ none. rw (number, line, first-line) (thinned bond (has .value) (has .count) (has .narrow) (has .few-nodes) w (sheetOf bond w) show (t .otherwise none));
       in-columns = λ some. rw (number, line) (in-columns bond w (sheetOf bond w) show (λ s e. few (s .number) (tree-numbers m second room s e) .1) (λ e. some (number ∙ e)));
     }
+
+-- ---- halves to even
+
+pub even-cents : HalfToEven
+even-cents s m e k h w = let p = half-to-even s m e k h w in (p .over, p .under)
+
+pub only-the-value : OnlyTheValue
+only-the-value bond m calls old new before after-old after-new p q =
+    (rw (p .sheet, q .sheet) (nothing-else bond (treeValue m calls (roomOf before))), q .slices ∙ sym (p .slices))
