@@ -60,8 +60,11 @@ uint32_t gutirapeo_midpoint(double a, double b, uint32_t *place, double *value);
  *
  * A list comes as parallel arrays, each with its length. Days are whole, 0 to 200,000; a cashflow's kind is
  * 0 for a coupon and 1 for a redemption. A redemption on or before settlement is repaid and counts nowhere as
- * principal. Refusals found in the input:
+ * principal. day_count says how a day becomes a time: 0 Actual/365, 1 Actual/360, 2 30E/360 (a 31st counts as the 30th at
+ * both ends, February as it is), day 0 being 1 January 1900. Grid, curve, discounting and yields go by the time; what is paid,
+ * which calls are discrete or over and which principal a discrete call has go by the day. Refusals found in the input:
  *   1   a grid setting outside its range
+ *   33  an unknown day count, tried after 1
  *   2   a list's count outside its limits, or parallel arrays of unequal length
  *   3   a day out of range, cashflow days falling, a kind that isn't 0 or 1
  *   4   a number that isn't finite or lies outside its range
@@ -69,9 +72,11 @@ uint32_t gutirapeo_midpoint(double a, double b, uint32_t *place, double *value);
  *   6   sigma times that don't rise
  *   7   no cashflow after settlement
  *   8   pillar days that don't rise, the first not settlement, the last before maturity
+ *   34  two pillars at one time, tried after 8 (the place is the later one)
+ *   35  a maturity whose time is 0: in the grid, the tree value and the spread
  *   9   an unknown compounding code, or a frequency that can't be used
  *   44  a pillar's discount factor that isn't positive, tried last
- * The place is the index of the entry, 0 for single fields, counts and 7.
+ * The place is the index of the entry, 0 for single fields, counts, 7, 33 and 35.
  *
  * Every price that is passed or handed back is a full (dirty) price: strikes, targets, values and the price of a yield include
  * accrued interest. A bond that can be called at 100.5 plus accrued interest has the strike 100.5 plus what has accrued by the
@@ -79,7 +84,7 @@ uint32_t gutirapeo_midpoint(double a, double b, uint32_t *place, double *value);
 
 /* The event grid: maturity time, steps, and 513 cashflows, marks (1 where a step has a call price) and prices.
  * 20: no principal at a step that can be called. 27: a call price that overflows. */
-uint32_t gutirapeo_grid(uint32_t settlement,
+uint32_t gutirapeo_grid(uint32_t settlement, uint32_t day_count,
                         const uint32_t *cashflow_days, size_t cashflow_days_length,
                         const uint8_t *cashflow_kinds, size_t cashflow_kinds_length,
                         const double *cashflow_amounts, size_t cashflow_amounts_length,
@@ -123,9 +128,9 @@ uint32_t gutirapeo_call_list(const uint32_t *series, size_t series_length,
  * Lent, to work in: nodes with 2 places for each node of the tree, probabilities with 3 for each, and two rows, each as long as
  * the largest layer. A tree of n steps has the layers 0 to n. With alpha at or above 0 and sigmas that never fall, layer k has at
  * most 2k + 1 nodes: 2(n + 1)^2 nodes, 3(n + 1)^2 probabilities and rows of 2n + 1 are enough then. Whatever they held, all
- * four are untouched after a refusal of 1 to 8 or 44, and else all zero, to the last place.
+ * four are untouched after a refusal of 1 to 8, 33 to 35 or 44, and else all zero, to the last place.
  *
- * The refusals 1 to 8 and 44 have the places above. Of the others the place is the step, where nothing else is said:
+ * The refusals 1 to 8, 33 to 35 and 44 have the places above. Of the others the place is the step, where nothing else is said:
  *   20  no principal at a step that can be called (place 0)
  *   21  a layer doesn't fit into what is lent (the place is the layer)
  *   22  no variance on this step, but on others
@@ -135,7 +140,7 @@ uint32_t gutirapeo_call_list(const uint32_t *series, size_t series_length,
  *   26  exp or ln outside its range, as beside a pillar below 2^-1022
  *   27  a result that isn't finite (place 0 where it is a call price)
  * 26 and 27 have place 0 too where one step's decay can't be worked out. */
-uint32_t gutirapeo_tree_value(uint32_t settlement,
+uint32_t gutirapeo_tree_value(uint32_t settlement, uint32_t day_count,
                               const uint32_t *cashflow_days, size_t cashflow_days_length,
                               const uint8_t *cashflow_kinds, size_t cashflow_kinds_length,
                               const double *cashflow_amounts, size_t cashflow_amounts_length,
@@ -169,7 +174,7 @@ uint32_t gutirapeo_tree_value(uint32_t settlement,
  * value is printed and handed back with its place. Once the tree value or its refusal is known, two more are tried, with place 0:
  *   31  a bond number out of range; it stands for a value and for a refusal, and leaves the 35 bytes zero
  *   32  a value beyond 999,999,999,999.99 either way after rounding, or a count above 99,999,999; printed with both blank */
-uint32_t gutirapeo_closing_line(uint32_t bond, uint32_t settlement,
+uint32_t gutirapeo_closing_line(uint32_t bond, uint32_t settlement, uint32_t day_count,
                                 const uint32_t *cashflow_days, size_t cashflow_days_length,
                                 const uint8_t *cashflow_kinds, size_t cashflow_kinds_length,
                                 const double *cashflow_amounts, size_t cashflow_amounts_length,
@@ -200,7 +205,7 @@ uint32_t gutirapeo_closing_line(uint32_t bond, uint32_t settlement,
  *   29  no bracket
  *   30  not converged
  *   36  a spread above 1 would have to be tried; it counts as tried */
-uint32_t gutirapeo_spread_from_price(uint32_t settlement,
+uint32_t gutirapeo_spread_from_price(uint32_t settlement, uint32_t day_count,
                                      const uint32_t *cashflow_days, size_t cashflow_days_length,
                                      const uint8_t *cashflow_kinds, size_t cashflow_kinds_length,
                                      const double *cashflow_amounts, size_t cashflow_amounts_length,
@@ -223,7 +228,7 @@ uint32_t gutirapeo_spread_from_price(uint32_t settlement,
 
 /* What the bond is worth without its calls.
  * 25: settlement's factor comes out as 0. 26: exp or ln outside its range. 27: a result that isn't finite. */
-uint32_t gutirapeo_straight_value(uint32_t settlement,
+uint32_t gutirapeo_straight_value(uint32_t settlement, uint32_t day_count,
                                   const uint32_t *cashflow_days, size_t cashflow_days_length,
                                   const uint8_t *cashflow_kinds, size_t cashflow_kinds_length,
                                   const double *cashflow_amounts, size_t cashflow_amounts_length,
@@ -235,7 +240,7 @@ uint32_t gutirapeo_straight_value(uint32_t settlement,
 /* The price that a yield means, and its derivative. Compounding 0 to 4: Simple, Compounded, Continuous,
  * SimpleThenCompounded, CompoundedThenSimple; frequency 1, 2, 3, 4, 6, 12, 13, 26, 52, 365 or 999.
  * 26, 27 as above. 28: a yield base or simple factor at or below 0. */
-uint32_t gutirapeo_price_from_yield(uint32_t settlement,
+uint32_t gutirapeo_price_from_yield(uint32_t settlement, uint32_t day_count,
                                     const uint32_t *cashflow_days, size_t cashflow_days_length,
                                     const uint8_t *cashflow_kinds, size_t cashflow_kinds_length,
                                     const double *cashflow_amounts, size_t cashflow_amounts_length,
@@ -244,7 +249,7 @@ uint32_t gutirapeo_price_from_yield(uint32_t settlement,
 
 /* The yield that a price means, and how often the price was worked out (at most 386; 0 where the input is refused).
  * 26, 27, 28 as above. 29: no bracket. 30: not converged. */
-uint32_t gutirapeo_yield_from_price(uint32_t settlement,
+uint32_t gutirapeo_yield_from_price(uint32_t settlement, uint32_t day_count,
                                     const uint32_t *cashflow_days, size_t cashflow_days_length,
                                     const uint8_t *cashflow_kinds, size_t cashflow_kinds_length,
                                     const double *cashflow_amounts, size_t cashflow_amounts_length,

@@ -64,18 +64,18 @@ fn measured() {
     }
     line(
         "grid, 512 steps, 64 windows, 256 flows",
-        timed(50, || { let _ = black_box(host::grid(0, &leg, 100.0, &calls, (366, 512))); }),
-        timed(1, || { let _ = black_box(published::grid(0, &leg, 100.0, &calls, (366, 512))); }),
+        timed(50, || { let _ = black_box(host::grid(0, 0, &leg, 100.0, &calls, (366, 512))); }),
+        timed(1, || { let _ = black_box(published::grid(0, 0, &leg, 100.0, &calls, (366, 512))); }),
     );
     let leg = flows(60, 182, 2.5);
     line(
         "yield from price, 60 semi-annual flows",
-        timed(20, || { let _ = black_box(host::yield_from_price(0, &leg, 1, 2, 97.25)); }),
-        timed(20, || { let _ = black_box(published::yield_of(0, &leg, 1, 2, 97.25)); }),
+        timed(20, || { let _ = black_box(host::yield_from_price(0, 0, &leg, 1, 2, 97.25)); }),
+        timed(20, || { let _ = black_box(published::yield_of(0, 0, &leg, 1, 2, 97.25)); }),
     );
     line(
         "price from yield, 60 semi-annual flows",
-        timed(500, || { let _ = black_box(host::price_from_yield(0, &leg, 1, 2, 0.04)); }),
-        timed(500, || { let _ = black_box(published::price(0, &leg, 1, 2, 0.04)); }),
+        timed(500, || { let _ = black_box(host::price_from_yield(0, 0, &leg, 1, 2, 0.04)); }),
+        timed(500, || { let _ = black_box(published::price(0, 0, &leg, 1, 2, 0.04)); }),
     );
 }

@@ -1,4 +1,5 @@
 //! Nanoseconds per call of the proved functions beside Rust code of the same rules, in one run.
+mod daycounts;
 mod entries;
 mod notices;
 mod sheet;
@@ -94,5 +95,6 @@ fn main() {
     println!("sqrt and mul_add stand beside the hardware's root and the C library's fma; the others beside the same rules in Rust.");
     notices::run();
     sheet::run();
+    daycounts::run();
     entries::run();
 }

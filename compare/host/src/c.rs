@@ -14,6 +14,7 @@ extern "C" {
     pub fn gutirapeo_midpoint(a: f64, b: f64, place: &mut u32, value: &mut f64) -> u32;
     pub fn gutirapeo_grid(
         settlement: u32,
+        day_count: u32,
         cashflow_days: *const u32,
         cashflow_days_len: usize,
         cashflow_kinds: *const u8,
@@ -57,6 +58,7 @@ extern "C" {
     ) -> u32;
     pub fn gutirapeo_tree_value(
         settlement: u32,
+        day_count: u32,
         cashflow_days: *const u32,
         cashflow_days_len: usize,
         cashflow_kinds: *const u8,
@@ -97,6 +99,7 @@ extern "C" {
     pub fn gutirapeo_closing_line(
         bond: u32,
         settlement: u32,
+        day_count: u32,
         cashflow_days: *const u32,
         cashflow_days_len: usize,
         cashflow_kinds: *const u8,
@@ -135,6 +138,7 @@ extern "C" {
     ) -> u32;
     pub fn gutirapeo_spread_from_price(
         settlement: u32,
+        day_count: u32,
         cashflow_days: *const u32,
         cashflow_days_len: usize,
         cashflow_kinds: *const u8,
@@ -174,6 +178,7 @@ extern "C" {
     ) -> u32;
     pub fn gutirapeo_straight_value(
         settlement: u32,
+        day_count: u32,
         cashflow_days: *const u32,
         cashflow_days_len: usize,
         cashflow_kinds: *const u8,
@@ -190,6 +195,7 @@ extern "C" {
     ) -> u32;
     pub fn gutirapeo_price_from_yield(
         settlement: u32,
+        day_count: u32,
         cashflow_days: *const u32,
         cashflow_days_len: usize,
         cashflow_kinds: *const u8,
@@ -205,6 +211,7 @@ extern "C" {
     ) -> u32;
     pub fn gutirapeo_yield_from_price(
         settlement: u32,
+        day_count: u32,
         cashflow_days: *const u32,
         cashflow_days_len: usize,
         cashflow_kinds: *const u8,

@@ -53,12 +53,13 @@ wrapped! {
 const PATTERN: f64 = f64::from_bits(0x7ff8_dead_beef_0001);
 
 /// The grid entry.
-pub fn grid(settlement: u32, leg: &Leg, units: f64, calls: &Calls, settings: (u32, u32)) -> Outcome<Grid> {
+pub fn grid(settlement: u32, code: u32, leg: &Leg, units: f64, calls: &Calls, settings: (u32, u32)) -> Outcome<Grid> {
     let (mut place, mut maturity_time, mut steps) = (0xdead_beef, PATTERN, 0xdead_beef);
     let (mut cashflows, mut marks, mut prices) = ([PATTERN; 513], [9u8; 513], [PATTERN; 513]);
     let number = unsafe {
         c::gutirapeo_grid(
             settlement,
+            code,
             leg.days.as_ptr(),
             leg.days.len(),
             leg.kinds.as_ptr(),
@@ -99,11 +100,12 @@ pub fn grid(settlement: u32, leg: &Leg, units: f64, calls: &Calls, settings: (u3
 }
 
 /// The straight value entry.
-pub fn straight_value(settlement: u32, leg: &Leg, spread: f64, pillars: &Pillars) -> Answer {
+pub fn straight_value(settlement: u32, code: u32, leg: &Leg, spread: f64, pillars: &Pillars) -> Answer {
     let (mut place, mut value) = (0xdead_beef, PATTERN);
     let number = unsafe {
         c::gutirapeo_straight_value(
             settlement,
+            code,
             leg.days.as_ptr(),
             leg.days.len(),
             leg.kinds.as_ptr(),
@@ -123,11 +125,12 @@ pub fn straight_value(settlement: u32, leg: &Leg, spread: f64, pillars: &Pillars
 }
 
 /// The price from yield entry: price and derivative.
-pub fn price_from_yield(settlement: u32, leg: &Leg, compounding: u32, frequency: u32, y: f64) -> Outcome<(f64, f64)> {
+pub fn price_from_yield(settlement: u32, code: u32, leg: &Leg, compounding: u32, frequency: u32, y: f64) -> Outcome<(f64, f64)> {
     let (mut place, mut price, mut derivative) = (0xdead_beef, PATTERN, PATTERN);
     let number = unsafe {
         c::gutirapeo_price_from_yield(
             settlement,
+            code,
             leg.days.as_ptr(),
             leg.days.len(),
             leg.kinds.as_ptr(),
@@ -149,11 +152,12 @@ pub fn price_from_yield(settlement: u32, leg: &Leg, compounding: u32, frequency:
 }
 
 /// The yield from price entry, with the evaluations.
-pub fn yield_from_price(settlement: u32, leg: &Leg, compounding: u32, frequency: u32, target: f64) -> (Answer, u32) {
+pub fn yield_from_price(settlement: u32, code: u32, leg: &Leg, compounding: u32, frequency: u32, target: f64) -> (Answer, u32) {
     let (mut place, mut value, mut evaluations) = (0xdead_beef, PATTERN, 0xdead_beef);
     let number = unsafe {
         c::gutirapeo_yield_from_price(
             settlement,
+            code,
             leg.days.as_ptr(),
             leg.days.len(),
             leg.kinds.as_ptr(),

@@ -11,6 +11,7 @@ pub fn closing_line(bond: u32, terms: &Terms, lent: &mut Lent) -> Line {
         c::gutirapeo_closing_line(
             bond,
             terms.settlement,
+            terms.code,
             terms.leg.days.as_ptr(),
             terms.leg.days.len(),
             terms.leg.kinds.as_ptr(),

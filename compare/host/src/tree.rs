@@ -81,6 +81,7 @@ pub fn tree_value(terms: &Terms, lent: &mut Lent) -> Outcome<(f64, u64)> {
     let number = unsafe {
         c::gutirapeo_tree_value(
             terms.settlement,
+            terms.code,
             terms.leg.days.as_ptr(),
             terms.leg.days.len(),
             terms.leg.kinds.as_ptr(),
@@ -133,6 +134,7 @@ pub fn spread_from_price(terms: &Terms, target: f64, lent: &mut Lent) -> (Answer
     let number = unsafe {
         c::gutirapeo_spread_from_price(
             terms.settlement,
+            terms.code,
             terms.leg.days.as_ptr(),
             terms.leg.days.len(),
             terms.leg.kinds.as_ptr(),

@@ -3,7 +3,7 @@ use reading::terms::{Calls, Leg, Pillars};
 use reading::treebasedbondpricer::Terms;
 use std::vec::Vec;
 
-pub fn grid(_: u32, _: &Leg, _: f64, _: &Calls, _: (u32, u32)) -> Option<(f64, usize, Vec<f64>, Vec<Option<f64>>)> {
+pub fn grid(_: u32, _: u32, _: &Leg, _: f64, _: &Calls, _: (u32, u32)) -> Option<(f64, usize, Vec<f64>, Vec<Option<f64>>)> {
     None
 }
 
@@ -15,15 +15,15 @@ pub fn node_count(_: &Terms) -> Option<u64> {
     None
 }
 
-pub fn straight(_: u32, _: &Leg, _: f64, _: &Pillars) -> Option<f64> {
+pub fn straight(_: u32, _: u32, _: &Leg, _: f64, _: &Pillars) -> Option<f64> {
     None
 }
 
-pub fn price(_: u32, _: &Leg, _: u32, _: u32, _: f64) -> Option<(f64, f64)> {
+pub fn price(_: u32, _: u32, _: &Leg, _: u32, _: u32, _: f64) -> Option<(f64, f64)> {
     None
 }
 
-pub fn yield_of(_: u32, _: &Leg, _: u32, _: u32, _: f64) -> Option<f64> {
+pub fn yield_of(_: u32, _: u32, _: &Leg, _: u32, _: u32, _: f64) -> Option<f64> {
     None
 }
 

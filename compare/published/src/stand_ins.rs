@@ -1,6 +1,6 @@
 //! What the published functions name of the rest of their repository, as small as they need it.
 use core::fmt;
-use reading::{elementary as reading01, terms, Answer};
+use reading::{daycount, elementary as reading01, Answer};
 use std::string::String;
 use std::vec::Vec;
 
@@ -80,24 +80,26 @@ pub type DualFwd = f64;
 #[derive(Clone, Copy, PartialEq, Eq, PartialOrd, Ord)]
 pub struct Date(pub u32);
 
+/// Of a day-count code. The text asks for times from settlement only.
 #[derive(Clone, Copy)]
-pub struct DayCounter;
+pub struct DayCounter(pub u32);
 
 impl DayCounter {
     pub fn year_fraction(&self, from: Date, to: Date) -> f64 {
-        terms::year_fraction(from.0, to.0)
+        daycount::year_fraction(from.0, self.0, to.0)
     }
 }
 
 #[derive(Clone, Copy)]
 pub struct TimeGridConfiguration {
+    pub code: u32,
     pub steps_per_year: usize,
     pub max_steps: usize,
 }
 
 impl TimeGridConfiguration {
     pub fn day_counter(&self) -> DayCounter {
-        DayCounter
+        DayCounter(self.code)
     }
     pub fn steps_per_year(&self) -> usize {
         self.steps_per_year
@@ -188,13 +190,14 @@ pub enum Frequency {
 
 #[derive(Clone, Copy)]
 pub struct RateDefinition {
+    pub code: u32,
     pub compounding: Compounding,
     pub frequency: Frequency,
 }
 
 impl RateDefinition {
     pub fn day_counter(&self) -> DayCounter {
-        DayCounter
+        DayCounter(self.code)
     }
     pub fn compounding(&self) -> Compounding {
         self.compounding

@@ -92,22 +92,22 @@ fn schedule(calls: &Calls) -> Vec<CallScheduleEntry> {
         .collect()
 }
 
-fn events(settlement: u32, leg: &Flows, units: f64, calls: &Calls, settings: (u32, u32)) -> Result<BondEventGrid<Tested>> {
-    let controls = TimeGridConfiguration { steps_per_year: settings.0 as usize, max_steps: settings.1 as usize };
+fn events(settlement: u32, code: u32, leg: &Flows, units: f64, calls: &Calls, settings: (u32, u32)) -> Result<BondEventGrid<Tested>> {
+    let controls = TimeGridConfiguration { code, steps_per_year: settings.0 as usize, max_steps: settings.1 as usize };
     bond_event_grid(&leg_of(settlement, leg), units, &schedule(calls), &paid(settlement, leg, Tested), Date(settlement), controls)
 }
 
 /// Maturity time, steps, cashflows and call prices; nothing where the text refuses.
-pub fn grid(settlement: u32, leg: &Flows, units: f64, calls: &Calls, settings: (u32, u32)) -> Option<(f64, usize, Vec<f64>, Vec<Option<f64>>)> {
-    let g = events(settlement, leg, units, calls, settings).ok()?;
+pub fn grid(settlement: u32, code: u32, leg: &Flows, units: f64, calls: &Calls, settings: (u32, u32)) -> Option<(f64, usize, Vec<f64>, Vec<Option<f64>>)> {
+    let g = events(settlement, code, leg, units, calls, settings).ok()?;
     Some((g.maturity_time, g.steps, g.cashflows.iter().map(|c| c.0).collect(), g.calls.iter().map(|c| c.call_price).collect()))
 }
 
 /// The tree value; nothing where the text refuses.
 pub fn tree(terms: &reading::treebasedbondpricer::Terms) -> Option<f64> {
-    let g = events(terms.settlement, &terms.leg, terms.units, &terms.calls, terms.settings).ok()?;
+    let g = events(terms.settlement, terms.code, &terms.leg, terms.units, &terms.calls, terms.settings).ok()?;
     let sigma = sigmas(&terms.sigma);
-    let factor = |t: f64| Ok(Tested(or_unwind(curve(terms.settlement, &terms.pillars, t, 0))));
+    let factor = |t: f64| Ok(Tested(or_unwind(curve(terms.settlement, terms.code, &terms.pillars, t, 0))));
     lattice_value(factor, &g, terms.alpha, &sigma, Tested(terms.spread)).ok().map(|v| v.0)
 }
 
@@ -117,7 +117,7 @@ fn sigmas(sigma: &Sigma) -> Vec<(f64, Tested)> {
 
 /// The nodes of all layers of the text's own tree.
 pub fn node_count(terms: &reading::treebasedbondpricer::Terms) -> Option<u64> {
-    let g = events(terms.settlement, &terms.leg, terms.units, &terms.calls, terms.settings).ok()?;
+    let g = events(terms.settlement, terms.code, &terms.leg, terms.units, &terms.calls, terms.settings).ok()?;
     let time_step = g.maturity_time / g.steps as f64;
     let variances = transition_variances(terms.alpha, &sigmas(&terms.sigma), g.steps, time_step).ok()?;
     let (layers, _) = lattice_transitions(terms.alpha, &variances, time_step).ok()?;
@@ -127,32 +127,33 @@ pub fn node_count(terms: &reading::treebasedbondpricer::Terms) -> Option<u64> {
 
 struct Curve<'a> {
     settlement: u32,
+    code: u32,
     pillars: &'a Pillars,
 }
 
 impl InterestRatesTermStructure<Tested> for Curve<'_> {
     fn discount_factor(&self, date: Date) -> Result<Tested> {
-        let t = reading::terms::year_fraction(self.settlement, date.0);
-        Ok(Tested(or_unwind(curve(self.settlement, self.pillars, t, 0))))
+        let t = reading::daycount::year_fraction(self.settlement, self.code, date.0);
+        Ok(Tested(or_unwind(curve(self.settlement, self.code, self.pillars, t, 0))))
     }
 }
 
 /// The straight value; nothing where the text refuses.
-pub fn straight(settlement: u32, leg: &Flows, spread: f64, pillars: &Pillars) -> Option<f64> {
+pub fn straight(settlement: u32, code: u32, leg: &Flows, spread: f64, pillars: &Pillars) -> Option<f64> {
     let valuation = BondValuation {
-        curve: &Curve { settlement, pillars },
+        curve: &Curve { settlement, code, pillars },
         cashflows: &paid(settlement, leg, Tested),
         leg: &leg_of(settlement, leg),
         units: 1.0,
         calls: &[],
         reference_date: Date(settlement),
-        spread_day_counter: DayCounter,
+        spread_day_counter: DayCounter(code),
     };
     discounted_value(&valuation, Tested(spread)).ok().map(|v| v.0)
 }
 
-/// The rate definition of two codes; Simple and Continuous are fed Annual.
-fn rate(compounding: u32, frequency: u32) -> RateDefinition {
+/// The rate definition of a day count and two codes; Simple and Continuous are fed Annual.
+fn rate(code: u32, compounding: u32, frequency: u32) -> RateDefinition {
     let used = match frequency {
         2 => Frequency::Semiannual,
         3 => Frequency::EveryFourthMonth,
@@ -166,23 +167,24 @@ fn rate(compounding: u32, frequency: u32) -> RateDefinition {
         999 => Frequency::OtherFrequency,
         _ => Frequency::Annual,
     };
-    match compounding {
-        0 => RateDefinition { compounding: Compounding::Simple, frequency: Frequency::Annual },
-        1 => RateDefinition { compounding: Compounding::Compounded, frequency: used },
-        2 => RateDefinition { compounding: Compounding::Continuous, frequency: Frequency::Annual },
-        3 => RateDefinition { compounding: Compounding::SimpleThenCompounded, frequency: used },
-        _ => RateDefinition { compounding: Compounding::CompoundedThenSimple, frequency: used },
-    }
+    let (compounding, frequency) = match compounding {
+        0 => (Compounding::Simple, Frequency::Annual),
+        1 => (Compounding::Compounded, used),
+        2 => (Compounding::Continuous, Frequency::Annual),
+        3 => (Compounding::SimpleThenCompounded, used),
+        _ => (Compounding::CompoundedThenSimple, used),
+    };
+    RateDefinition { code, compounding, frequency }
 }
 
 /// Price and derivative; nothing where the text refuses.
-pub fn price(settlement: u32, leg: &Flows, compounding: u32, frequency: u32, y: f64) -> Option<(f64, f64)> {
-    yield_price_and_derivative(&paid(settlement, leg, |x| x), Date(settlement), rate(compounding, frequency), y).ok()
+pub fn price(settlement: u32, code: u32, leg: &Flows, compounding: u32, frequency: u32, y: f64) -> Option<(f64, f64)> {
+    yield_price_and_derivative(&paid(settlement, leg, |x| x), Date(settlement), rate(code, compounding, frequency), y).ok()
 }
 
 /// The yield; nothing where the text refuses.
-pub fn yield_of(settlement: u32, leg: &Flows, compounding: u32, frequency: u32, target: f64) -> Option<f64> {
-    solve_yield(&paid(settlement, leg, |x| x), Date(settlement), rate(compounding, frequency), target).ok()
+pub fn yield_of(settlement: u32, code: u32, leg: &Flows, compounding: u32, frequency: u32, target: f64) -> Option<f64> {
+    solve_yield(&paid(settlement, leg, |x| x), Date(settlement), rate(code, compounding, frequency), target).ok()
 }
 
 /// The text's own solver over any objective.

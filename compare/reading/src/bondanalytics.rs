@@ -1,6 +1,7 @@
 //! Price from yield, yield from price, spread from price and the bracketed root.
+use crate::daycount::year_fraction;
 use crate::elementary::{exp_at, max_at, midpoint_at, mul_add_at, powf_at, tested};
-use crate::terms::{year_fraction, Input, Leg};
+use crate::terms::{Input, Leg};
 use crate::treebasedbondpricer::{self, tree_value, Room, Terms};
 use crate::{Answer, Outcome, Refusal};
 
@@ -48,25 +49,25 @@ fn discount_and_derivative(y: f64, time: f64, rate: Rate) -> Outcome<(f64, f64)>
     }
 }
 
-fn price_and_derivative(settlement: u32, leg: &Leg, rate: Rate, y: f64) -> Outcome<(f64, f64)> {
+fn price_and_derivative(settlement: u32, code: u32, leg: &Leg, rate: Rate, y: f64) -> Outcome<(f64, f64)> {
     let mut sums = (0.0, 0.0);
     for (&day, &amount) in leg.days.iter().zip(&leg.amounts) {
         if day > settlement {
-            let (discount, slope) = discount_and_derivative(y, year_fraction(settlement, day), rate)?;
+            let (discount, slope) = discount_and_derivative(y, year_fraction(settlement, code, day), rate)?;
             sums = (mul_add_at(amount, discount, sums.0, 0)?, mul_add_at(amount, slope, sums.1, 0)?);
         }
     }
     Ok(sums)
 }
 
-fn input<'a>(settlement: u32, leg: &'a Leg, rate: Rate) -> Input<'a> {
-    Input { settlement, leg: Some(leg), rate: Some((rate.compounding, rate.frequency)), ..Input::default() }
+fn input<'a>(settlement: u32, code: u32, leg: &'a Leg, rate: Rate) -> Input<'a> {
+    Input { settlement, code, leg: Some(leg), rate: Some((rate.compounding, rate.frequency)), ..Input::default() }
 }
 
 /// The price from yield entry: price and derivative.
-pub fn price_from_yield(settlement: u32, leg: &Leg, rate: Rate, y: f64) -> Outcome<(f64, f64)> {
-    Input { given_yield: Some(y), ..input(settlement, leg, rate) }.checked()?;
-    price_and_derivative(settlement, leg, rate, y)
+pub fn price_from_yield(settlement: u32, code: u32, leg: &Leg, rate: Rate, y: f64) -> Outcome<(f64, f64)> {
+    Input { given_yield: Some(y), ..input(settlement, code, leg, rate) }.checked()?;
+    price_and_derivative(settlement, code, leg, rate, y)
 }
 
 /// What a search did: its evaluations, one that refuses included, and the bracket that it ended with.
@@ -130,8 +131,8 @@ pub fn bracketed_root(objective: &mut dyn FnMut(f64) -> Answer, lower: f64, uppe
 }
 
 /// The yield from price entry, with the evaluations.
-pub fn yield_from_price(settlement: u32, leg: &Leg, rate: Rate, target: f64) -> (Answer, u32) {
-    let checked = Input { target: Some(target), ..input(settlement, leg, rate) }.checked();
+pub fn yield_from_price(settlement: u32, code: u32, leg: &Leg, rate: Rate, target: f64) -> (Answer, u32) {
+    let checked = Input { target: Some(target), ..input(settlement, code, leg, rate) }.checked();
     if let Err(refusal) = checked {
         return (Err(refusal), 0);
     }
@@ -140,7 +141,7 @@ pub fn yield_from_price(settlement: u32, leg: &Leg, rate: Rate, target: f64) -> 
         _ => -10.0,
     };
     let mut search = Search::default();
-    let mut objective = |y: f64| tested(price_and_derivative(settlement, leg, rate, y)?.0 - target, 0);
+    let mut objective = |y: f64| tested(price_and_derivative(settlement, code, leg, rate, y)?.0 - target, 0);
     let root = bracketed_root(&mut objective, -0.05, 0.10, lowest, &mut search);
     (root, search.tried)
 }

@@ -1,7 +1,8 @@
 //! The event grid.
 use alloc::{vec, vec::Vec};
+use crate::daycount::year_fraction;
 use crate::elementary::{ceil_at, min_at, refused, round_at, tested};
-use crate::terms::{year_fraction, Calls, Input, Leg};
+use crate::terms::{Calls, Input, Leg};
 use crate::{Answer, Outcome};
 
 #[derive(Clone, Debug, PartialEq)]
@@ -14,13 +15,14 @@ pub struct Grid {
 
 struct Axis {
     settlement: u32,
+    code: u32,
     maturity_time: f64,
     steps: u32,
 }
 
 impl Axis {
     fn time(&self, day: u32) -> f64 {
-        year_fraction(self.settlement, day)
+        year_fraction(self.settlement, self.code, day)
     }
 
     /// round(time/T × steps) clamped to 1..highest.
@@ -67,11 +69,11 @@ fn call_price(axis: &Axis, leg: &Leg, units: f64, start: u32, end: u32, strike: 
 }
 
 /// The grid of checked terms.
-pub fn bond_event_grid(settlement: u32, leg: &Leg, units: f64, calls: &Calls, settings: (u32, u32)) -> Outcome<Grid> {
-    let maturity_time = year_fraction(settlement, *leg.days.last().unwrap());
+pub fn bond_event_grid(settlement: u32, code: u32, leg: &Leg, units: f64, calls: &Calls, settings: (u32, u32)) -> Outcome<Grid> {
+    let maturity_time = year_fraction(settlement, code, *leg.days.last().unwrap());
     let target = ceil_at(maturity_time * f64::from(settings.0), 0)?;
     let steps = if target > f64::from(settings.1) { settings.1 } else { (target as u32).max(1) };
-    let axis = Axis { settlement, maturity_time, steps };
+    let axis = Axis { settlement, code, maturity_time, steps };
     let mut grid = Grid { maturity_time, steps, cashflows: vec![0.0; 513], calls: vec![None; 513] };
     for (&day, &amount) in leg.days.iter().zip(&leg.amounts) {
         if day > settlement {
@@ -96,9 +98,10 @@ pub fn bond_event_grid(settlement: u32, leg: &Leg, units: f64, calls: &Calls, se
 }
 
 /// The grid entry.
-pub fn grid(settlement: u32, leg: &Leg, units: f64, calls: &Calls, settings: (u32, u32)) -> Outcome<Grid> {
+pub fn grid(settlement: u32, code: u32, leg: &Leg, units: f64, calls: &Calls, settings: (u32, u32)) -> Outcome<Grid> {
     let input = Input {
         settlement,
+        code,
         leg: Some(leg),
         units: Some(units),
         calls: Some(calls),
@@ -106,5 +109,5 @@ pub fn grid(settlement: u32, leg: &Leg, units: f64, calls: &Calls, settings: (u3
         ..Input::default()
     };
     input.checked()?;
-    bond_event_grid(settlement, leg, units, calls, settings)
+    bond_event_grid(settlement, code, leg, units, calls, settings)
 }

@@ -19,6 +19,7 @@ pub fn bond(steps: u32) -> Terms {
     let years: Vec<u32> = (2..10).map(|year| 365 * year).collect();
     Terms {
         settlement: 0,
+        code: 0,
         leg,
         units: 100.0,
         calls: Calls { starts: years.clone(), ends: years, strikes: vec![100.0; 8] },

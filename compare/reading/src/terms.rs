@@ -1,5 +1,6 @@
-//! What a call brings, the input checks 1 to 9 and 44, day times and the curve.
+//! What a call brings, the input checks 1 to 9, 33 to 35 and 44, and the curve.
 use alloc::vec::Vec;
+use crate::daycount::{year_fraction, LAST_CODE};
 use crate::elementary::{exp_at, ln_at, tested};
 use crate::{Answer, Outcome, Refusal};
 
@@ -33,6 +34,7 @@ pub struct Pillars {
 #[derive(Clone, Copy, Default)]
 pub struct Input<'a> {
     pub settlement: u32,
+    pub code: u32,
     pub leg: Option<&'a Leg>,
     pub units: Option<f64>,
     pub calls: Option<&'a Calls>,
@@ -84,6 +86,7 @@ impl Input<'_> {
         if let Some((per_year, maximum)) = self.settings {
             when(1, !(1..=366).contains(&per_year) || !(1..=512).contains(&maximum))?;
         }
+        when(33, self.code > LAST_CODE)?;
         self.counts()?;
         self.days()?;
         self.numbers()?;
@@ -95,14 +98,10 @@ impl Input<'_> {
         }
         if let Some(l) = self.leg {
             when(7, l.days.iter().all(|&day| day <= self.settlement))?;
-            if let Some(p) = self.pillars {
-                let maturity = *l.days.last().unwrap();
-                let last = p.days.len() - 1;
-                indexed(8, p.days.len(), |i| match i {
-                    0 => p.days[0] != self.settlement,
-                    _ => p.days[i] <= p.days[i - 1] || i == last && p.days[i] < maturity,
-                })?;
-            }
+            self.pillar_order(l)?;
+            // Of the entries that take a leg, the grid and those that are built on it take settings.
+            let maturity = *l.days.last().unwrap();
+            when(35, self.settings.is_some() && self.time(maturity) == 0.0)?;
         }
         if let Some((compounding, frequency)) = self.rate {
             let known = match compounding {
@@ -116,6 +115,23 @@ impl Input<'_> {
             indexed(44, p.factors.len(), |i| !(p.factors[i] > 0.0))?;
         }
         Ok(())
+    }
+
+    fn time(&self, day: u32) -> f64 {
+        year_fraction(self.settlement, self.code, day)
+    }
+
+    /// 8, then 34: two pillars at one time, the later one the place.
+    fn pillar_order(&self, leg: &Leg) -> Outcome<()> {
+        let Some(p) = self.pillars else { return Ok(()) };
+        let maturity = *leg.days.last().unwrap();
+        let last = p.days.len() - 1;
+        indexed(8, p.days.len(), |i| match i {
+            0 => p.days[0] != self.settlement,
+            _ => p.days[i] <= p.days[i - 1] || i == last && p.days[i] < maturity,
+        })?;
+        let times: Vec<f64> = p.days.iter().map(|&day| self.time(day)).collect();
+        indexed(34, times.len(), |i| times[..i].contains(&times[i]))
     }
 
     fn counts(&self) -> Outcome<()> {
@@ -180,13 +196,9 @@ impl Input<'_> {
     }
 }
 
-pub fn year_fraction(settlement: u32, day: u32) -> f64 {
-    (f64::from(day) - f64::from(settlement)) / 365.0
-}
-
 /// From a pillar up to the next exp of the line through the logarithms of their factors; from the last pillar on, its factor.
-pub fn curve(settlement: u32, pillars: &Pillars, t: f64, place: u32) -> Answer {
-    let time = |i: usize| year_fraction(settlement, pillars.days[i]);
+pub fn curve(settlement: u32, code: u32, pillars: &Pillars, t: f64, place: u32) -> Answer {
+    let time = |i: usize| year_fraction(settlement, code, pillars.days[i]);
     for i in 1..pillars.days.len() {
         if t < time(i) {
             let (t0, t1) = (time(i - 1), time(i));

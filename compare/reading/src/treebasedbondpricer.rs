@@ -19,6 +19,7 @@ pub struct Room {
 #[derive(Clone, Debug)]
 pub struct Terms {
     pub settlement: u32,
+    pub code: u32,
     pub leg: Leg,
     pub units: f64,
     pub calls: Calls,
@@ -145,7 +146,7 @@ fn fitted(terms: &Terms, tree: &Tree, time_step: f64) -> Outcome<Vec<f64>> {
             let x = t(-f64::from(node) * time_step)?;
             sum = t(sum + t(price * exp_at(t(spacing * x)?, k)?)?)?;
         }
-        let factor = curve(terms.settlement, &terms.pillars, t(time_step * f64::from(k + 1))?, k)?;
+        let factor = curve(terms.settlement, terms.code, &terms.pillars, t(time_step * f64::from(k + 1))?, k)?;
         if factor <= 0.0 {
             return refuse(25, k);
         }
@@ -196,6 +197,7 @@ fn walked(grid: &Grid, tree: &Tree, shifts: &[f64], time_step: f64, spread: f64)
 pub(crate) fn input(terms: &Terms) -> Input<'_> {
     Input {
         settlement: terms.settlement,
+        code: terms.code,
         leg: Some(&terms.leg),
         units: Some(terms.units),
         calls: Some(&terms.calls),
@@ -228,7 +230,7 @@ fn tree_of(terms: &Terms, room: Room, grid: &Grid, time_step: f64) -> Outcome<Tr
 /// The least room for the tree of these terms, where it can be grown within a given one.
 pub fn least_room(terms: &Terms, within: Room) -> Option<Room> {
     input(terms).checked().ok()?;
-    let grid = bond_event_grid(terms.settlement, &terms.leg, terms.units, &terms.calls, terms.settings).ok()?;
+    let grid = bond_event_grid(terms.settlement, terms.code, &terms.leg, terms.units, &terms.calls, terms.settings).ok()?;
     let time_step = tested(grid.maturity_time / f64::from(grid.steps), 0).ok()?;
     let tree = tree_of(terms, within, &grid, time_step).ok()?;
     let all = tree.nodes as usize;
@@ -237,7 +239,7 @@ pub fn least_room(terms: &Terms, within: Room) -> Option<Room> {
 }
 
 fn valued(terms: &Terms, room: Room) -> Outcome<(f64, u64)> {
-    let grid = bond_event_grid(terms.settlement, &terms.leg, terms.units, &terms.calls, terms.settings)?;
+    let grid = bond_event_grid(terms.settlement, terms.code, &terms.leg, terms.units, &terms.calls, terms.settings)?;
     let time_step = tested(grid.maturity_time / f64::from(grid.steps), 0)?;
     let tree = tree_of(terms, room, &grid, time_step)?;
     let shifts = fitted(terms, &tree, time_step)?;

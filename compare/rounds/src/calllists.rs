@@ -70,7 +70,7 @@ fn called(random: &mut Random) -> Terms {
 }
 
 fn answers(t: &Terms, lent: &mut Lent) -> (Outcome<Grid>, Outcome<(f64, u64)>) {
-    (host::grid(t.settlement, &t.leg, t.units, &t.calls, t.settings), host::tree_value(t, lent))
+    (host::grid(t.settlement, t.code, &t.leg, t.units, &t.calls, t.settings), host::tree_value(t, lent))
 }
 
 fn same_bits(a: &[f64], b: &[f64]) -> bool {

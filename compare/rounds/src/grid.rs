@@ -3,6 +3,10 @@ use crate::random::Random;
 use crate::tally::{published, same_number, Tally};
 use crate::terms;
 use reading::bondevents::{self, Grid};
+use reading::treebasedbondpricer::Terms;
+
+/// What a run must meet.
+const MET: [u32; 9] = [1, 2, 3, 4, 5, 7, 20, 33, 35];
 
 fn same(a: &Grid, b: &Grid) -> bool {
     same_number(a.maturity_time, b.maturity_time)
@@ -15,6 +19,27 @@ fn same(a: &Grid, b: &Grid) -> bool {
         })
 }
 
+/// One set of terms, against the reading and the text.
+pub fn compare(tally: &mut Tally, t: &Terms) {
+    let ours = host::grid(t.settlement, t.code, &t.leg, t.units, &t.calls, t.settings);
+    let theirs = bondevents::grid(t.settlement, t.code, &t.leg, t.units, &t.calls, t.settings);
+    let agree = match (&ours, &theirs) {
+        (Ok(a), Ok(b)) => same(a, b),
+        (Err(a), Err(b)) => a == b,
+        _ => false,
+    };
+    tally.case(ours.as_ref().map_or_else(|r| r.number, |_| 0), agree, || format!("{t:?} gives {ours:?}, the reading {theirs:?}"));
+    if let (Ok(a), true) = (&ours, published::AVAILABLE) {
+        let text = published(|| published::grid(t.settlement, t.code, &t.leg, t.units, &t.calls, t.settings));
+        let agree = text.is_some_and(|(maturity_time, steps, mut cashflows, mut calls)| {
+            cashflows.resize(513, 0.0);
+            calls.resize(513, None);
+            same(a, &Grid { maturity_time, steps: steps as u32, cashflows, calls })
+        });
+        tally.case(0, agree, || format!("{t:?} gives {ours:?}, not what the published text gives"));
+    }
+}
+
 pub fn round(long: bool, seed: u64) -> u64 {
     let cases = if long { 1_000_000 } else { 10_000 };
     let mut random = Random(seed);
@@ -24,23 +49,8 @@ pub fn round(long: bool, seed: u64) -> u64 {
         if random.below(4) == 0 {
             terms::damage(&mut random, &mut t);
         }
-        let ours = host::grid(t.settlement, &t.leg, t.units, &t.calls, t.settings);
-        let theirs = bondevents::grid(t.settlement, &t.leg, t.units, &t.calls, t.settings);
-        let agree = match (&ours, &theirs) {
-            (Ok(a), Ok(b)) => same(a, b),
-            (Err(a), Err(b)) => a == b,
-            _ => false,
-        };
-        tally.case(ours.as_ref().map_or_else(|r| r.number, |_| 0), agree, || format!("{t:?} gives {ours:?}, the reading {theirs:?}"));
-        if let (Ok(a), true) = (&ours, published::AVAILABLE) {
-            let text = published(|| published::grid(t.settlement, &t.leg, t.units, &t.calls, t.settings));
-            let agree = text.is_some_and(|(maturity_time, steps, mut cashflows, mut calls)| {
-                cashflows.resize(513, 0.0);
-                calls.resize(513, None);
-                same(a, &Grid { maturity_time, steps: steps as u32, cashflows, calls })
-            });
-            tally.case(0, agree, || format!("{t:?} gives {ours:?}, not what the published text gives"));
-        }
+        compare(&mut tally, &t);
     }
-    tally.done()
+    let missing = tally.missing(&MET);
+    tally.done() + missing
 }

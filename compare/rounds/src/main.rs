@@ -3,11 +3,11 @@
 //! rounds [--long] [--seed N] [NAME...]
 //! rounds --sample FILE KIND...
 //!
-//! The quick round takes seconds; the long one has 10^7 cases for each elementary function and 10^6 or more for each entry
-//! but spread from price, which has 150,000.
+//! The quick round takes seconds; the long one has 10^7 cases for each elementary function and 10^6 or more for each entry.
 mod calllists;
 mod elementary;
 mod grid;
+mod monthends;
 mod notices;
 mod random;
 mod sample;
@@ -43,9 +43,10 @@ fn main() {
         return;
     }
     let mut differences = elementary::round(long, seed, &wanted);
-    let entries: [(&str, fn(bool, u64) -> u64); 8] = [
+    let entries: [(&str, fn(bool, u64) -> u64); 9] = [
         ("grid", grid::round),
         ("tree", tree::round),
+        ("monthends", monthends::round),
         ("calllists", calllists::round),
         ("straight", straight::round),
         ("yields", yields::round),

@@ -22,6 +22,9 @@ const FLOWS: usize = 8;
 const CALLS: usize = 4;
 const STEPS: usize = 24;
 
+/// Where the count of call entries stands.
+const CALL_COUNT: usize = 29;
+
 type Record = [u64; WORDS];
 
 fn floats(record: &mut Record, at: usize, values: &[f64]) {
@@ -39,25 +42,25 @@ fn numbers(record: &mut Record, at: usize, values: impl Iterator<Item = u64>) {
 /// The inputs of any entry.
 fn inputs(kind: u64, t: &Terms) -> Record {
     let mut r = [0; WORDS];
-    (r[0], r[1]) = (kind, u64::from(t.settlement));
-    r[2] = t.leg.days.len() as u64;
-    numbers(&mut r, 3, t.leg.days.iter().map(|&n| u64::from(n)));
-    numbers(&mut r, 11, t.leg.kinds.iter().map(|&n| u64::from(n)));
-    floats(&mut r, 19, &t.leg.amounts);
-    floats(&mut r, 27, &[t.units]);
-    r[28] = t.calls.starts.len() as u64;
-    numbers(&mut r, 29, t.calls.starts.iter().map(|&n| u64::from(n)));
-    numbers(&mut r, 33, t.calls.ends.iter().map(|&n| u64::from(n)));
-    floats(&mut r, 37, &t.calls.strikes);
-    (r[41], r[42]) = (u64::from(t.settings.0), u64::from(t.settings.1));
-    floats(&mut r, 43, &[t.alpha]);
-    r[44] = t.sigma.times.len() as u64;
-    floats(&mut r, 45, &t.sigma.times);
-    floats(&mut r, 49, &t.sigma.sigmas);
-    floats(&mut r, 53, &[t.spread]);
-    r[54] = t.pillars.days.len() as u64;
-    numbers(&mut r, 55, t.pillars.days.iter().map(|&n| u64::from(n)));
-    floats(&mut r, 63, &t.pillars.factors);
+    (r[0], r[1], r[2]) = (kind, u64::from(t.settlement), u64::from(t.code));
+    r[3] = t.leg.days.len() as u64;
+    numbers(&mut r, 4, t.leg.days.iter().map(|&n| u64::from(n)));
+    numbers(&mut r, 12, t.leg.kinds.iter().map(|&n| u64::from(n)));
+    floats(&mut r, 20, &t.leg.amounts);
+    floats(&mut r, 28, &[t.units]);
+    r[CALL_COUNT] = t.calls.starts.len() as u64;
+    numbers(&mut r, 30, t.calls.starts.iter().map(|&n| u64::from(n)));
+    numbers(&mut r, 34, t.calls.ends.iter().map(|&n| u64::from(n)));
+    floats(&mut r, 38, &t.calls.strikes);
+    (r[42], r[43]) = (u64::from(t.settings.0), u64::from(t.settings.1));
+    floats(&mut r, 44, &[t.alpha]);
+    r[45] = t.sigma.times.len() as u64;
+    floats(&mut r, 46, &t.sigma.times);
+    floats(&mut r, 50, &t.sigma.sigmas);
+    floats(&mut r, 54, &[t.spread]);
+    r[55] = t.pillars.days.len() as u64;
+    numbers(&mut r, 56, t.pillars.days.iter().map(|&n| u64::from(n)));
+    floats(&mut r, 64, &t.pillars.factors);
     r
 }
 
@@ -127,11 +130,11 @@ fn elementary_record(random: &mut Random, kind: u64) -> Record {
 fn grid_record(random: &mut Random) -> Record {
     let t = small(random, terms::terms);
     let mut r = inputs(12, &t);
-    match bondevents::grid(t.settlement, &t.leg, t.units, &t.calls, t.settings) {
+    match bondevents::grid(t.settlement, t.code, &t.leg, t.units, &t.calls, t.settings) {
         Err(refusal) => refused(r, refusal),
         Ok(_) => {
             let (maturity, steps, cashflows, calls) =
-                published(|| published::grid(t.settlement, &t.leg, t.units, &t.calls, t.settings)).expect("the published text accepts");
+                published(|| published::grid(t.settlement, t.code, &t.leg, t.units, &t.calls, t.settings)).expect("the published text accepts");
             floats(&mut r, 82, &[maturity]);
             r[84] = steps as u64;
             floats(&mut r, 85, &cashflows);
@@ -140,6 +143,12 @@ fn grid_record(random: &mut Random) -> Record {
             r
         }
     }
+}
+
+/// 60 grids: 40 accepted, 3 each of 33 and 35, 14 of other refusals.
+fn grid_records(random: &mut Random) -> Vec<Record> {
+    let left = BTreeMap::from([(0, 40), (33, 3), (35, 3), (PLAIN, 14)]);
+    sorted(random, left, grid_record, |r| if matches!(r[80], 0 | 33 | 35) { r[80] } else { PLAIN })
 }
 
 /// What the replayed tree is lent at the most.
@@ -168,15 +177,15 @@ fn tree_record(random: &mut Random) -> Record {
 }
 
 /// The refusals of the tree value that can be met.
-const TREE: [u64; 16] = [1, 2, 3, 4, 5, 6, 7, 8, 20, 21, 22, 23, 25, 26, 27, 44];
-/// Accepted of any kind, beside 0 for those with calls.
+const TREE: [u64; 19] = [1, 2, 3, 4, 5, 6, 7, 8, 20, 21, 22, 23, 25, 26, 27, 33, 34, 35, 44];
+/// Of any other kind, beside those that are counted one by one.
 const PLAIN: u64 = 100;
 
-/// 200 tree values: 6 of each refusal that can be met, 20 accepted of any kind, the rest accepted with calls and some nodes.
+/// 218 tree values: 6 of each refusal that can be met, 20 accepted of any kind, the rest accepted with calls and some nodes.
 fn tree_records(random: &mut Random) -> Vec<Record> {
     let mut left: BTreeMap<u64, u32> = TREE.into_iter().map(|number| (number, 6)).collect();
     left.extend([(PLAIN, 20), (0, 84)]);
-    sorted(random, left, tree_record, |r| if r[80] == 0 && (r[28] == 0 || r[83] < 10) { PLAIN } else { r[80] })
+    sorted(random, left, tree_record, |r| if r[80] == 0 && (r[CALL_COUNT] == 0 || r[83] < 10) { PLAIN } else { r[80] })
 }
 
 /// Spread from price: the target stands where the spread stood.
@@ -224,20 +233,20 @@ fn sorted(random: &mut Random, mut left: BTreeMap<u64, u32>, record: fn(&mut Ran
     records
 }
 
-/// 100 spreads from prices: 3 of each refusal of the tree value, 6 each of 29 and 36, 10 accepted of any kind, 30 accepted with calls.
+/// 109 spreads from prices: 3 of each refusal of the tree value, 6 each of 29 and 36, 10 accepted of any kind, 30 accepted with calls.
 fn spread_records(random: &mut Random) -> Vec<Record> {
     let mut left: BTreeMap<u64, u32> = TREE.into_iter().map(|number| (number, 3)).collect();
     left.extend([(29, 6), (36, 6), (PLAIN, 10), (0, 30)]);
-    sorted(random, left, spread_record, |r| if r[80] == 0 && r[28] == 0 { PLAIN } else { r[80] })
+    sorted(random, left, spread_record, |r| if r[80] == 0 && r[CALL_COUNT] == 0 { PLAIN } else { r[80] })
 }
 
 fn straight_record(random: &mut Random) -> Record {
     let t = small(random, terms::terms);
     let mut r = inputs(15, &t);
-    match bondpricer::straight_value(t.settlement, &t.leg, t.spread, &t.pillars) {
+    match bondpricer::straight_value(t.settlement, t.code, &t.leg, t.spread, &t.pillars) {
         Err(refusal) => refused(r, refusal),
         Ok(_) => {
-            let value = published(|| published::straight(t.settlement, &t.leg, t.spread, &t.pillars)).expect("the published text accepts");
+            let value = published(|| published::straight(t.settlement, t.code, &t.leg, t.spread, &t.pillars)).expect("the published text accepts");
             floats(&mut r, 82, &[value]);
             r
         }
@@ -248,28 +257,28 @@ fn yield_record(random: &mut Random, kind: u64) -> Record {
     let t = small(random, terms::terms);
     let rate = Rate { compounding: random.below(6) as u32, frequency: [1, 2, 4, 12, 365, 7][random.below(6) as usize] };
     let mut r = inputs(kind, &t);
-    (r[71], r[72]) = (u64::from(rate.compounding), u64::from(rate.frequency));
+    (r[72], r[73]) = (u64::from(rate.compounding), u64::from(rate.frequency));
     if kind == 16 {
         let y = random.between(-0.3, 0.5);
-        floats(&mut r, 73, &[y]);
-        return match bondanalytics::price_from_yield(t.settlement, &t.leg, rate, y) {
+        floats(&mut r, 74, &[y]);
+        return match bondanalytics::price_from_yield(t.settlement, t.code, &t.leg, rate, y) {
             Err(refusal) => refused(r, refusal),
             Ok(_) => {
                 let (price, derivative) =
-                    published(|| published::price(t.settlement, &t.leg, rate.compounding, rate.frequency, y)).expect("the published text accepts");
+                    published(|| published::price(t.settlement, t.code, &t.leg, rate.compounding, rate.frequency, y)).expect("the published text accepts");
                 floats(&mut r, 82, &[price, derivative]);
                 r
             }
         };
     }
     let target = random.between(-20.0, 200.0);
-    floats(&mut r, 73, &[target]);
-    let (answer, evaluations) = bondanalytics::yield_from_price(t.settlement, &t.leg, rate, target);
+    floats(&mut r, 74, &[target]);
+    let (answer, evaluations) = bondanalytics::yield_from_price(t.settlement, t.code, &t.leg, rate, target);
     r[84] = u64::from(evaluations);
     match answer {
         Err(refusal) => refused(r, refusal),
         Ok(_) => {
-            let y = published(|| published::yield_of(t.settlement, &t.leg, rate.compounding, rate.frequency, target)).expect("the published text accepts");
+            let y = published(|| published::yield_of(t.settlement, t.code, &t.leg, rate.compounding, rate.frequency, target)).expect("the published text accepts");
             floats(&mut r, 82, &[y]);
             r
         }
@@ -353,7 +362,7 @@ pub fn write(path: &str, seed: u64, kinds: &[u64]) {
     for &kind in kinds {
         let records: Vec<Record> = match kind {
             1..=11 => (0..8).map(|_| elementary_record(&mut random, kind)).collect(),
-            12 => (0..60).map(|_| grid_record(&mut random)).collect(),
+            12 => grid_records(&mut random),
             13 => tree_records(&mut random),
             14 => spread_records(&mut random),
             15 => (0..60).map(|_| straight_record(&mut random)).collect(),

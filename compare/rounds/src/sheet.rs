@@ -52,6 +52,7 @@ pub fn value(random: &mut Random) -> f64 {
 fn repaying(amounts: &[f64]) -> Terms {
     Terms {
         settlement: 0,
+        code: 0,
         leg: Leg { days: vec![365; amounts.len()], kinds: vec![1; amounts.len()], amounts: amounts.to_vec() },
         units: 100.0,
         calls: Calls::default(),

@@ -13,7 +13,7 @@ use reading::{Answer, Refusal};
 use std::collections::BTreeMap;
 
 /// What a run must meet. 30 isn't there: a bracket within ±1 is as narrow as 1e-14 long before the 256th halving.
-const MET: [u32; 18] = [1, 2, 3, 4, 5, 6, 7, 8, 20, 21, 22, 23, 25, 26, 27, 29, 36, 44];
+const MET: [u32; 21] = [1, 2, 3, 4, 5, 6, 7, 8, 20, 21, 22, 23, 25, 26, 27, 29, 33, 34, 35, 36, 44];
 
 /// What it must meet at a spread tried after the first.
 const LATER: [u32; 4] = [26, 27, 29, 36];
@@ -142,6 +142,7 @@ impl Counts {
 fn examples(counts: &mut Counts) {
     let bond = |amount: f64| Terms {
         settlement: 0,
+        code: 0,
         leg: Leg { days: vec![365], kinds: vec![1], amounts: vec![amount] },
         units: 100.0,
         calls: Calls::default(),
@@ -202,7 +203,7 @@ fn solvers(cases: u32, random: &mut Random) -> u64 {
 }
 
 pub fn round(long: bool, seed: u64) -> u64 {
-    let cases = if long { 150_000 } else { 6_000 };
+    let cases = if long { 1_000_000 } else { 6_000 };
     let mut random = Random(seed);
     let mut counts = Counts::new();
     examples(&mut counts);

@@ -29,11 +29,11 @@ pub fn spread_terms(random: &mut Random, long: bool) -> (Terms, Room) {
         return (t, AMPLE);
     }
     match random.below(10_000) {
-        0..=4 if long => {
+        0 if long => {
             t.settings = (366, 1 + random.below(512) as u32);
             return (t, LARGE);
         }
-        5..=99 => {}
+        1..=99 => {}
         _ => t.settings.1 = t.settings.1.min(1 + random.below(5) as u32),
     }
     (t, AMPLE)

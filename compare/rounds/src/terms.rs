@@ -1,5 +1,6 @@
 //! Random terms: good ones of every kind, and damaged copies of them.
 use crate::random::Random;
+use reading::daycount::civil;
 use reading::terms::{Calls, Leg, Pillars, Sigma};
 use reading::treebasedbondpricer::Terms;
 
@@ -16,6 +17,42 @@ fn scaled(random: &mut Random, low: f64, high: f64) -> f64 {
     10f64.powf(random.between(low, high))
 }
 
+/// The first days of February 1900, 2000, 2024, 2025 and 2100.
+const FEBRUARIES: [u32; 5] = [31, 36_555, 45_321, 45_687, 73_080];
+
+/// A day at the end of a month or in the first days of the next, soon after a given one.
+fn month_end(random: &mut Random, from: u32) -> u32 {
+    let at = (from..).find(|&day| civil(day).2 >= 28).unwrap();
+    at + random.below(5) as u32
+}
+
+/// A day, or for one in four the end of a month soon after it.
+fn perhaps_month_end(random: &mut Random, day: u32) -> u32 {
+    match random.below(4) {
+        0 => month_end(random, day),
+        _ => day,
+    }
+}
+
+/// The next 30th of a month with a 31st.
+fn thirtieth(from: u32) -> u32 {
+    (from..).find(|&day| civil(day + 1).2 == 31).unwrap()
+}
+
+fn settlement(random: &mut Random) -> u32 {
+    match random.below(8) {
+        0 => {
+            let february = pick(random, &FEBRUARIES);
+            month_end(random, february)
+        }
+        1 => thirtieth(random.below(150_000) as u32) + random.below(2) as u32,
+        _ => {
+            let day = pick(random, &[0, 1, 365, 40000, 45000, 150_000]);
+            perhaps_month_end(random, day)
+        }
+    }
+}
+
 pub fn leg(random: &mut Random, settlement: u32) -> Leg {
     let count = match random.below(8) {
         0 => 1,
@@ -26,7 +63,11 @@ pub fn leg(random: &mut Random, settlement: u32) -> Leg {
     let mut days: Vec<u32> = (0..count)
         .map(|_| match random.below(12) {
             0 => settlement,
-            _ => settlement.saturating_sub(200) + whole(random, 0, reach),
+            1 => settlement + 1,
+            _ => {
+                let day = settlement.saturating_sub(200) + whole(random, 0, reach);
+                perhaps_month_end(random, day)
+            }
         })
         .collect();
     days.sort_unstable();
@@ -58,12 +99,23 @@ pub fn calls(random: &mut Random, settlement: u32, leg: &Leg) -> Calls {
     for _ in 0..count {
         let low = settlement.saturating_sub(50);
         let high = if random.below(12) == 0 { last + 100 } else { last.max(low + 1) - 1 };
-        let start = match random.below(6) {
+        let start = match random.below(7) {
             0 => settlement,
-            1 => pick(random, &leg.days),
-            _ => whole(random, u64::from(low), u64::from(high.max(low))),
+            1 => settlement + 1,
+            2 => pick(random, &leg.days),
+            _ => {
+                let day = whole(random, u64::from(low), u64::from(high.max(low)));
+                perhaps_month_end(random, day)
+            }
         };
-        let end = if random.below(2) == 0 { start } else { start + random.below(900) as u32 };
+        let end = match random.below(8) {
+            0..=3 => start,
+            4 => start + 1,
+            _ => {
+                let day = start + random.below(900) as u32;
+                perhaps_month_end(random, day)
+            }
+        };
         let strike = match random.below(16) {
             0 => scaled(random, -300.0, 6.0),
             _ => random.between(80.0, 120.0),
@@ -100,7 +152,13 @@ pub fn pillars(random: &mut Random, settlement: u32, last: u32) -> Pillars {
     let mut days = vec![settlement];
     let rate = random.between(-0.01, 0.08);
     for _ in 0..random.below(8) {
-        days.push(settlement + 1 + random.below(u64::from(last.max(settlement + 2) - settlement)) as u32);
+        let day = settlement + 1 + random.below(u64::from(last.max(settlement + 2) - settlement)) as u32;
+        days.push(perhaps_month_end(random, day));
+    }
+    if random.below(32) == 0 {
+        // At one time under 30E.
+        let day = thirtieth(pick(random, &days));
+        days.extend([day, day + 1]);
     }
     days.push(last.max(settlement + 1) + random.below(400) as u32);
     days.sort_unstable();
@@ -128,7 +186,7 @@ pub fn spread(random: &mut Random) -> f64 {
 }
 
 pub fn terms(random: &mut Random) -> Terms {
-    let settlement = pick(random, &[0, 1, 365, 40000, 45000, 150_000]);
+    let settlement = settlement(random);
     let leg = leg(random, settlement);
     let calls = calls(random, settlement, &leg);
     let last = *leg.days.last().unwrap();
@@ -137,8 +195,9 @@ pub fn terms(random: &mut Random) -> Terms {
         0 => whole(random, 1, 120),
         _ => whole(random, 1, 24),
     };
-    Terms {
+    let mut terms = Terms {
         settlement,
+        code: pick(random, &[0, 1, 2, 2]),
         units: match random.below(16) {
             0 => scaled(random, -323.0, 12.0),
             _ => pick(random, &[1.0, 100.0, 1000.0]),
@@ -155,7 +214,21 @@ pub fn terms(random: &mut Random) -> Terms {
         spread: spread(random),
         pillars: pillars(random, settlement, last),
         leg,
+    };
+    if random.below(64) == 0 {
+        mature_at_once(random, &mut terms);
     }
+    terms
+}
+
+/// Settlement on a 30th and all that is paid on the 31st, at time 0 under 30E.
+fn mature_at_once(random: &mut Random, terms: &mut Terms) {
+    let settlement = thirtieth(terms.settlement);
+    terms.settlement = settlement;
+    terms.leg.days.iter_mut().for_each(|day| *day = (*day).min(settlement + 1));
+    *terms.leg.days.last_mut().unwrap() = settlement + 1;
+    terms.pillars.days = vec![settlement, settlement + 1 + random.below(4) as u32];
+    terms.pillars.factors.truncate(2);
 }
 
 const BAD: [f64; 9] = [f64::NAN, f64::INFINITY, f64::NEG_INFINITY, -0.0, 0.0, -1.0, 1e300, 5e-324, 1.0000001e12];
@@ -193,7 +266,7 @@ fn spoil<T: Copy>(random: &mut Random, list: &mut Vec<T>, value: T) {
 pub fn damage(random: &mut Random, terms: &mut Terms) {
     for _ in 0..1 + random.below(2) {
         let near = terms.settlement;
-        match random.below(18) {
+        match random.below(19) {
             0 => terms.settlement = bad_day(random, near),
             1 => {
                 let v = bad_day(random, near);
@@ -247,6 +320,7 @@ pub fn damage(random: &mut Random, terms: &mut Terms) {
                 terms.leg.kinds.resize(n, 0);
                 terms.leg.amounts.resize(n, 1.0);
             }
+            17 => terms.code = pick(random, &[0, 1, 2, 3, 3, 3, u32::MAX]),
             _ => {
                 let n = pick(random, &[63, 64, 65]);
                 terms.calls.starts.resize(n, near);

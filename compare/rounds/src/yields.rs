@@ -4,7 +4,11 @@ use crate::tally::{published, same_number, Tally};
 use crate::terms;
 use reading::bondanalytics::{self, Rate};
 use reading::terms::Leg;
+use reading::treebasedbondpricer::Terms;
 use reading::Outcome;
+
+/// What a run must meet of the input's refusals.
+const MET: [u32; 6] = [2, 3, 4, 7, 9, 33];
 
 const FREQUENCIES: [u32; 14] = [1, 2, 3, 4, 6, 12, 13, 26, 52, 365, 999, 0, 5, 7];
 
@@ -12,41 +16,41 @@ fn number<T>(outcome: &Outcome<T>) -> u32 {
     outcome.as_ref().map_or_else(|r| r.number, |_| 0)
 }
 
-fn price(random: &mut Random, tally: &mut Tally, settlement: u32, leg: &Leg, rate: Rate) -> Option<f64> {
+pub fn price(random: &mut Random, tally: &mut Tally, t: &Terms, rate: Rate) -> Option<f64> {
     let y = match random.below(12) {
         0 => random.double(),
         1 => random.between(-3.0, 60.0),
         _ => random.between(-0.1, 0.3),
     };
-    let ours = host::price_from_yield(settlement, leg, rate.compounding, rate.frequency, y);
-    let theirs = bondanalytics::price_from_yield(settlement, leg, rate, y);
+    let ours = host::price_from_yield(t.settlement, t.code, &t.leg, rate.compounding, rate.frequency, y);
+    let theirs = bondanalytics::price_from_yield(t.settlement, t.code, &t.leg, rate, y);
     let agree = match (ours, theirs) {
         (Ok(a), Ok(b)) => same_number(a.0, b.0) && same_number(a.1, b.1),
         (a, b) => a == b,
     };
-    tally.case(number(&ours), agree, || format!("{settlement} {leg:?} {rate:?} {y} gives {ours:?}, the reading {theirs:?}"));
+    tally.case(number(&ours), agree, || format!("{t:?} {rate:?} {y} gives {ours:?}, the reading {theirs:?}"));
     if let (Ok(a), true) = (ours, published::AVAILABLE) {
-        let text = published(|| published::price(settlement, leg, rate.compounding, rate.frequency, y));
+        let text = published(|| published::price(t.settlement, t.code, &t.leg, rate.compounding, rate.frequency, y));
         let agree = text.is_some_and(|b| same_number(a.0, b.0) && same_number(a.1, b.1));
-        tally.case(0, agree, || format!("{settlement} {leg:?} {rate:?} {y} gives {a:?}, the published text {text:?}"));
+        tally.case(0, agree, || format!("{t:?} {rate:?} {y} gives {a:?}, the published text {text:?}"));
     }
     ours.ok().map(|(price, _)| price)
 }
 
-fn solve(tally: &mut Tally, settlement: u32, leg: &Leg, rate: Rate, target: f64) {
-    let (ours, evaluations) = host::yield_from_price(settlement, leg, rate.compounding, rate.frequency, target);
-    let (theirs, counted) = bondanalytics::yield_from_price(settlement, leg, rate, target);
+fn solve(tally: &mut Tally, t: &Terms, rate: Rate, target: f64) {
+    let (ours, evaluations) = host::yield_from_price(t.settlement, t.code, &t.leg, rate.compounding, rate.frequency, target);
+    let (theirs, counted) = bondanalytics::yield_from_price(t.settlement, t.code, &t.leg, rate, target);
     let agree = evaluations == counted
         && match (ours, theirs) {
             (Ok(a), Ok(b)) => same_number(a, b),
             (a, b) => a == b,
         };
     tally.case(number(&ours), agree, || {
-        format!("{settlement} {leg:?} {rate:?} {target} gives {ours:?} after {evaluations}, the reading {theirs:?} after {counted}")
+        format!("{t:?} {rate:?} {target} gives {ours:?} after {evaluations}, the reading {theirs:?} after {counted}")
     });
     if let (Ok(a), true) = (ours, published::AVAILABLE) {
-        let text = published(|| published::yield_of(settlement, leg, rate.compounding, rate.frequency, target));
-        tally.case(0, text.is_some_and(|b| same_number(a, b)), || format!("{settlement} {leg:?} {rate:?} {target} gives {a}, the published text {text:?}"));
+        let text = published(|| published::yield_of(t.settlement, t.code, &t.leg, rate.compounding, rate.frequency, target));
+        tally.case(0, text.is_some_and(|b| same_number(a, b)), || format!("{t:?} {rate:?} {target} gives {a}, the published text {text:?}"));
     }
 }
 
@@ -54,7 +58,7 @@ fn solve(tally: &mut Tally, settlement: u32, leg: &Leg, rate: Rate, target: f64)
 fn examples(tally: &mut Tally) {
     let leg = Leg { days: vec![365], kinds: vec![1], amounts: vec![1.0] };
     for (target, refusal, evaluations) in [(-1.0, 29, 66), (1e6, 28, 7)] {
-        let (answer, counted) = host::yield_from_price(0, &leg, 0, 1, target);
+        let (answer, counted) = host::yield_from_price(0, 0, &leg, 0, 1, target);
         tally.case(number(&answer), number(&answer) == refusal && counted == evaluations, || {
             format!("the example with target {target} gives {answer:?} after {counted}, not {refusal} after {evaluations}")
         });
@@ -76,13 +80,14 @@ pub fn round(long: bool, seed: u64) -> u64 {
             compounding: if random.below(30) == 0 { 5 } else { random.below(5) as u32 },
             frequency: FREQUENCIES[random.below(14).min(random.below(14)) as usize],
         };
-        let price = price(&mut random, &mut prices, t.settlement, &t.leg, rate);
+        let price = price(&mut random, &mut prices, &t, rate);
         let target = match (random.below(10), price) {
             (0, _) | (1..=8, None) => random.between(-50.0, 300.0),
             (1..=8, Some(price)) => price,
             _ => random.double(),
         };
-        solve(&mut yields, t.settlement, &t.leg, rate, target);
+        solve(&mut yields, &t, rate, target);
     }
-    prices.done() + yields.done()
+    let missing = prices.missing(&MET) + yields.missing(&MET);
+    prices.done() + yields.done() + missing
 }

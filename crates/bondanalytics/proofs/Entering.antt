@@ -9,7 +9,10 @@ use Rattle.floats.specs.Answers.{plusZero}
 use Rattle.terms.specs.declared.Check.{Check}
 use Rattle.terms.specs.declared.Check.the-variants as check
 use Rattle.terms.specs.Numbers.{million, targetLimit}
+use Rattle.terms.specs.declared.Settlement.{Settlement}
+use Rattle.terms.specs.declared.Epoch.{Epoch}
 use Rattle.terms.specs.Terms.{Leg}
+use Rattle.terms.specs.Times.{epochOf}
 use Rattle.terms.specs.Outcomes.{Outcome, onOutcome}
 use Rattle.terms.specs.Checks.{onCheck}
 use Rattle.terms.specs.Entries.{yieldChecks, priceChecks, targetChecks}
@@ -33,7 +36,7 @@ use Rattle.sought.specs.laws.Sought.{TreeParts, soughtAt}
 use Rattle.brackets.specs.laws.SoughtRoots.{sought-yield}
 use Rattle.interestrate.specs.laws.Found.{foundRate, foundCheck, found-check}
 
-module _ (limit x : Float) (settlement : ℕ) (leg : Leg) (compounding code : ℕ) (f : FoundRate) {w s : Check} (e : foundRate f ≡ rateOf compounding code) (k : w ≡ foundCheck f) (h : s ≡ yieldChecks limit settlement leg x w) where
+module _ (limit x : Float) (settlement : Settlement) (leg : Leg) (compounding code : ℕ) (f : FoundRate) {w s : Check} (e : foundRate f ≡ rateOf compounding code) (k : w ≡ foundCheck f) (h : s ≡ yieldChecks limit settlement leg x w) where
   checked : s ≡ yieldChecks limit settlement leg x (rateCheck compounding code)
   checked = h ∙ ap (yieldChecks limit settlement leg x) (k ∙ found-check compounding code f e)
 
@@ -63,33 +66,33 @@ module _ (limit x : Float) (settlement : ℕ) (leg : Leg) (compounding code : �
     unfolding onOutcome
     unknown v g = rw g at (passed v)
 
-module _ (settlement : ℕ) (leg : Leg) (compounding code : ℕ) (x : Float) (f : FoundRate) {w s : Check} (e : foundRate f ≡ rateOf compounding code) (k : w ≡ foundCheck f) where
+module _ (settlement : Settlement) (leg : Leg) (compounding code : ℕ) (x : Float) (f : FoundRate) {w s : Check} (e : foundRate f ≡ rateOf compounding code) (k : w ≡ foundCheck f) where
   module _ (h : s ≡ priceChecks settlement leg x w) where
     pub price-refused : {q : Refusal} → s ≡ check.Refused q → price.Refused q ≡ priceFromYield settlement leg compounding code x
     unfolding priceFromYield
-    price-refused v = refused million x settlement leg compounding code f e k h price.Refused (λ rate. priceAndDerivative settlement leg rate x) v
+    price-refused v = refused million x settlement leg compounding code f e k h price.Refused (λ rate. priceAndDerivative (epochOf settlement) leg rate x) v
 
     pub price-unknown : {q : Refusal} → s ≡ check.Passed → f ≡ Refused q → price.Refused q ≡ priceFromYield settlement leg compounding code x
     unfolding priceFromYield
-    price-unknown v g = unknown million x settlement leg compounding code f e k h price.Refused (λ rate. priceAndDerivative settlement leg rate x) v g
+    price-unknown v g = unknown million x settlement leg compounding code f e k h price.Refused (λ rate. priceAndDerivative (epochOf settlement) leg rate x) v g
 
-    pub price-given : {d : RateDefinition} {r : YieldPrice} → s ≡ check.Passed → f ≡ Given d → r ≡ flows x (d .compounding) settlement (leg .days) (leg .amounts) plusZero plusZero → r ≡ priceFromYield settlement leg compounding code x
+    pub price-given : {d : RateDefinition} {r : YieldPrice} {t : Epoch} → t ≡ epochOf settlement → s ≡ check.Passed → f ≡ Given d → r ≡ flows x (d .compounding) t (leg .days) (leg .amounts) plusZero plusZero → r ≡ priceFromYield settlement leg compounding code x
     unfolding priceFromYield
-    price-given v g p = p ∙ given million x settlement leg compounding code f e k h price.Refused (λ rate. priceAndDerivative settlement leg rate x) v g
+    price-given {d = d} t v g p = p ∙ ap (λ (z : Epoch). flows x (d .compounding) z (leg .days) (leg .amounts) plusZero plusZero) t ∙ given million x settlement leg compounding code f e k h price.Refused (λ rate. priceAndDerivative (epochOf settlement) leg rate x) v g
 
   module _ (h : s ≡ targetChecks settlement leg x w) where
     pub yield-refused : {q : Refusal} → s ≡ check.Refused q → root.Refused q 0 ≡ yieldFromPrice settlement leg compounding code x
     unfolding yieldFromPrice
-    yield-refused v = refused targetLimit x settlement leg compounding code f e k h (λ r. root.Refused r 0) (λ rate. solveYield settlement leg rate x) v
+    yield-refused v = refused targetLimit x settlement leg compounding code f e k h (λ r. root.Refused r 0) (λ rate. solveYield (epochOf settlement) leg rate x) v
 
     pub yield-unknown : {q : Refusal} → s ≡ check.Passed → f ≡ Refused q → root.Refused q 0 ≡ yieldFromPrice settlement leg compounding code x
     unfolding yieldFromPrice
-    yield-unknown v g = unknown targetLimit x settlement leg compounding code f e k h (λ r. root.Refused r 0) (λ rate. solveYield settlement leg rate x) v g
+    yield-unknown v g = unknown targetLimit x settlement leg compounding code f e k h (λ r. root.Refused r 0) (λ rate. solveYield (epochOf settlement) leg rate x) v g
 
     -- The kinds play no part.
-    pub yield-given : {d : RateDefinition} {r : Root} → s ≡ check.Passed → f ≡ Given d → r ≡ solveYield settlement (record { days = leg .days; kinds = []; amounts = leg .amounts }) d x → r ≡ yieldFromPrice settlement leg compounding code x
+    pub yield-given : {d : RateDefinition} {r : Root} {t : Epoch} → t ≡ epochOf settlement → s ≡ check.Passed → f ≡ Given d → r ≡ solveYield t (record { days = leg .days; kinds = []; amounts = leg .amounts }) d x → r ≡ yieldFromPrice settlement leg compounding code x
     unfolding yieldFromPrice objective
-    yield-given v g p = p ∙ given targetLimit x settlement leg compounding code f e k h (λ r. root.Refused r 0) (λ rate. solveYield settlement leg rate x) v g
+    yield-given {d = d} t v g p = p ∙ ap (λ (z : Epoch). solveYield z (record { days = leg .days; kinds = []; amounts = leg .amounts }) d x) t ∙ given targetLimit x settlement leg compounding code f e k h (λ r. root.Refused r 0) (λ rate. solveYield (epochOf settlement) leg rate x) v g
 
 -- The solver's call, with the lowest yield that it is given. The tree plays no part.
 pub solves : (s : Sought) (days : List ℕ) (amounts : List Float) (t : TreeParts) {l : Float} {r : Root}

@@ -13,6 +13,9 @@ use interestrate::rates::rate_of;
 use sought::Priced;
 use sought::Sought;
 use terms::Check;
+use terms::Epoch;
+use terms::Settlement;
+use terms::time::epoch_of;
 ghost use mathlib.Core.Path.{_≡_};
 ghost use mathlib.Core.List.{[]};
 ghost use lib.ListN.{length};
@@ -21,7 +24,7 @@ ghost use Rattle.bondanalytics.specs.Yields.{priceFromYield, yieldFromPr
 
 // The price of the cashflows at a yield, and its derivative.
 pub fn price_from_yield(
-    settlement: u32,
+    settlement: Settlement,
     cashflow_days: &[u32],
     cashflow_kinds: &[u8],
     cashflow_amounts: &[f64],
@@ -43,9 +46,10 @@ pub fn price_from_yield(
     if let Check::Refused(q) = checked {
         return YieldPrice::Refused(q);
     }
+    let epoch = epoch_of(settlement);
     match found {
         FoundRate::Given(rate) => yield_price_and_derivative(
-            settlement,
+            epoch,
             cashflow_days,
             cashflow_amounts,
             rate,
@@ -57,7 +61,7 @@ pub fn price_from_yield(
 
 // The yield at which the cashflows are worth the target.
 fn solve_yield(
-    settlement: u32,
+    settlement: Epoch,
     days: &[u32],
     amounts: &[f64],
     rate: RateDefinition,
@@ -97,7 +101,7 @@ fn solve_yield(
 
 // The yield at which the cashflows are worth the target, and the evaluations made.
 pub fn yield_from_price(
-    settlement: u32,
+    settlement: Settlement,
     cashflow_days: &[u32],
     cashflow_kinds: &[u8],
     cashflow_amounts: &[f64],
@@ -119,14 +123,9 @@ pub fn yield_from_price(
     if let Check::Refused(q) = checked {
         return Root::Refused(q, 0);
     }
+    let epoch = epoch_of(settlement);
     match found {
-        FoundRate::Given(rate) => solve_yield(
-            settlement,
-            cashflow_days,
-            cashflow_amounts,
-            rate,
-            target,
-        ),
+        FoundRate::Given(rate) => solve_yield(epoch, cashflow_days, cashflow_amounts, rate, target),
         FoundRate::Refused(q) => Root::Refused(q, 0),
     }
 }

@@ -9,13 +9,14 @@ use mathlib.Core.List.{List, [], _∷_}
 use lib.ListN.{length, getD, drop, drop-of-length-le}
 use lib.Seq.{drop-cons}
 use lib.Dec.{eqb, ltb}
-use lib.Ieee.{Float, binary64, add}
+use lib.Ieee.{Float, nan, binary64, add}
 use Rattle.floats.specs.Answers.{plusZero}
 use Rattle.terms.specs.Terms.{Leg}
 use Rattle.bondevents.specs.Steps.{Axis}
 use Rattle.bondevents.specs.Calls.{redemptions, redemptionStepOf}
-use Rattle.bondevents.specs.Parts.{FlowSteps, principalAfter}
+use Rattle.bondevents.specs.Parts.{FlowSteps, Principals, principalAfter}
 use Rattle.bondevents.specs.laws.Repaid.{one-more}
+use Rattle.bondevents.proofs.Filling.{Filling}
 
 -- What is left to add from i on, to this total, is the whole sum. The list of days, or of steps, may be longer than the cashflows.
 pub record Counting (after : ℕ → Bool) (days kinds : List ℕ) (amounts : List Float) (total : Float) (i : ℕ) : Type 0 where
@@ -83,11 +84,19 @@ by-table f after (day ∷ days) (step ∷ table) (kind ∷ kinds) (amount ∷ am
     ∙ sym (one-more (λ d. after (f d)) day kind amount days kinds amounts total)
 
 -- A window's principal, from the table of steps.
-pub from-steps : (a : Axis) (leg : Leg) (table : List ℕ) (step : ℕ) {r : Float} → FlowSteps a (leg .days) table
+from-steps : (a : Axis) (leg : Leg) (table : List ℕ) (step : ℕ) {r : Float} → FlowSteps a (leg .days) table
     → length (leg .kinds) ≡ length (leg .days) → length (leg .days) ≤ 256
     → r ≡ redemptions (ltb step) table (leg .kinds) (leg .amounts) plusZero → r ≡ principalAfter a leg step
 from-steps a leg table step s k few e =
     e ∙ by-table (redemptionStepOf a) (ltb step) (leg .days) table (leg .kinds) (leg .amounts) plusZero k (omega (arith, s .size)) (s .at)
+
+-- A table of them, filled up to the last step.
+pub all-steps : (a : Axis) (leg : Leg) (steps : ℕ) {reached : List ℕ} {table : List Float} {i : ℕ} → FlowSteps a (leg .days) reached
+    → length (leg .kinds) ≡ length (leg .days) → length (leg .days) ≤ 256
+    → Filling (λ step. redemptions (ltb step) reached (leg .kinds) (leg .amounts) plusZero) nan 513 i table → steps ≤ i
+    → Principals a leg steps table
+all-steps a leg steps {reached} s k few filled h =
+    record { size = filled .sized; at = λ step l. from-steps a leg reached step s k few (filled .at step (omega arith)) }
 
 -- The laws of such a loop.
 pub ruleset counting = (begin, turn, done, done-days, needs)

@@ -12,12 +12,11 @@ use lib.Ieee.{Float, nan}
 use Rattle.floats.specs.declared.Answer.{Answer}
 use Rattle.floats.specs.Answers.{plusZero}
 use Rattle.terms.specs.declared.Check.the-variants.{Passed}
-use Rattle.terms.specs.Times.{yearFraction}
 use Rattle.terms.specs.Terms.{Bond}
 use Rattle.terms.specs.Outcomes.{given, onOutcome, valued}
 use Rattle.bondevents.specs.declared.CallStep.{CallStep}
 use Rattle.bondevents.specs.declared.CallsAnswer.{CallsAnswer}
-use Rattle.bondevents.specs.Steps.{Axis, callStepOf}
+use Rattle.bondevents.specs.Steps.{Axis, timeOf, callStepOf}
 use Rattle.bondevents.specs.Calls.{newStep, keepLowest, eligible, principal, callPrice, redemptions, overSteps, withEntry}
 use Rattle.bondevents.specs.Parts.{entryOf, priced, inWindow, Principals, overPrices, callsAnswer}
 use Rattle.bondevents.proofs.Single.{by-prices, agree, none, single}
@@ -86,7 +85,7 @@ module _ (a : Axis) (bond : Bond) (strike : Float) (some : 1 ≤ a .steps) (call
         ∙ ap (λ (z : ℕ). callsAnswer (overSteps a bond (entryOf start z strike) (a .steps) 0 calls)) e
         ∙ sym (ap (λ (z : Bool). callsAnswer (cond z (given calls) (overSteps a bond (entryOf start end strike) (a .steps) 0 calls))) (le-ltb end (a .settlement) h))
 
-    same-test : {from to : Float} → (start ≡ end → ⊥) → from ≡ yearFraction (a .settlement) start → to ≡ yearFraction (a .settlement) end → (s : ℕ) → eligible a (entryOf start end strike) s ≡ inWindow a from to s
+    same-test : {from to : Float} → (start ≡ end → ⊥) → from ≡ timeOf a start → to ≡ timeOf a end → (s : ℕ) → eligible a (entryOf start end strike) s ≡ inWindow a from to s
     unfolding eligible
     same-test e f g s = rw (ne-eqb start end e, f, g) refl
 
@@ -99,8 +98,8 @@ module _ (a : Axis) (bond : Bond) (strike : Float) (some : 1 ≤ a .steps) (call
         → a .settlement ≤ end
         → (start ≡ end → ⊥)
         → Principals a (bond .leg) (a .steps) table
-        → from ≡ yearFraction (a .settlement) start
-        → to ≡ yearFraction (a .settlement) end
+        → from ≡ timeOf a start
+        → to ≡ timeOf a end
         → r ≡ callsAnswer (overPrices (inWindow a from to) (λ s. priced strike (getD table s nan) (bond .units)) (a .steps) 0 calls)
         → r ≡ callsAnswer (withEntry a bond (entryOf start end strike) calls)
     unfolding withEntry

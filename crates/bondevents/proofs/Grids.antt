@@ -9,8 +9,11 @@ use Rattle.floats.specs.declared.Refusal.{Refusal}
 use Rattle.floats.specs.Answers.{plusZero}
 use Rattle.terms.specs.declared.Check.{Check}
 use Rattle.terms.specs.declared.Check.the-variants.{Passed, Refused}
+use Rattle.terms.specs.declared.Settlement.{Settlement}
+use Rattle.terms.specs.declared.Epoch.{Epoch}
 use Rattle.terms.specs.Terms.{Bond, CallSchedule, TimeGrid}
-use Rattle.terms.specs.Checks.{onCheck}
+use Rattle.terms.specs.Times.{epochOf, timeFrom}
+use Rattle.terms.specs.Checks.{onCheck, lastDay}
 use Rattle.terms.specs.Entries.{gridChecks}
 use Rattle.terms.specs.laws.TermChecks.{StepsInRange, settings-passed, LegCounted, leg-counted}
 use Rattle.terms.specs.laws.CallChecks.{CallCounted, call-counted}
@@ -20,7 +23,7 @@ use Rattle.bondevents.specs.declared.CallStep.{CallStep}
 use Rattle.bondevents.specs.declared.CallsAnswer.{CallsAnswer}
 use Rattle.bondevents.specs.declared.BondEventGrid.{BondEventGrid}
 use Rattle.bondevents.specs.declared.EventGrid.{EventGrid}
-use Rattle.bondevents.specs.Steps.{Axis, maturityTime, stepsOf, paidInto, stepCashflows}
+use Rattle.bondevents.specs.Steps.{Axis, stepsOf, paidInto, stepCashflows}
 use Rattle.bondevents.specs.Calls.{overEntries}
 use Rattle.bondevents.specs.Grid.{axisOf, eventGrid, refusedGrid, acceptedGrid, gridAnswer}
 use Rattle.bondevents.specs.Parts.{axisAt, noCalls, noGrid, callsAnswer, refusalIn, gridOutcome}
@@ -38,32 +41,32 @@ steps-few T g h = max-le h (min-le-left (g .maximum) _)
 pub bounded : {n : ℕ} (T : Float) (g : TimeGrid) → n ≡ stepsOf T g → 1 ≤ g .maximum → g .maximum ≤ 512 → (1 ≤ n) × (n ≤ 512)
 bounded T g e some few = rw e (steps-some T g, le-trans (steps-few T g some) few)
 
-module _ (settlement : ℕ) (bond : Bond) (calls : CallSchedule) (controls : TimeGrid) (m : Float) (n : ℕ) (p : m ≡ maturityTime settlement (bond .leg)) (q : n ≡ stepsOf m controls) where
-  axis-is : axisAt settlement m n ≡ axisOf settlement (bond .leg) controls
+module _ (settlement : Settlement) (bond : Bond) (calls : CallSchedule) (controls : TimeGrid) (s : Epoch) (day : ℕ) (m : Float) (n : ℕ) (d : s ≡ epochOf settlement) (l : day ≡ lastDay (bond .leg .days)) (p : m ≡ timeFrom s day) (q : n ≡ stepsOf m controls) where
+  axis-is : axisAt s m n ≡ axisOf settlement (bond .leg) controls
   unfolding axisOf
-  axis-is = rw (q, p) refl
+  axis-is = rw (q, p, l, d) refl
 
   -- The grid from the calls of each step.
-  grid-is : eventGrid settlement bond calls controls ≡ follow (overEntries (axisAt settlement m n) bond (calls .starts) (calls .ends) (calls .strikes) noCalls) λ cs. given (record { «maturity_time» = m; steps = n; cashflows = stepCashflows (axisAt settlement m n) (bond .leg); calls = cs })
+  grid-is : eventGrid settlement bond calls controls ≡ follow (overEntries (axisAt s m n) bond (calls .starts) (calls .ends) (calls .strikes) noCalls) λ cs. given (record { «maturity_time» = m; steps = n; cashflows = stepCashflows (axisAt s m n) (bond .leg); calls = cs })
   unfolding eventGrid noCalls
   grid-is = ap (λ (a : Axis). follow (overEntries a bond (calls .starts) (calls .ends) (calls .strikes) noCalls) λ cs. given (record { «maturity_time» = a .maturity; steps = a .steps; cashflows = stepCashflows a (bond .leg); calls = cs })) (sym axis-is)
 
-  module _ {r : CallsAnswer} (e : r ≡ callsAnswer (overEntries (axisAt settlement m n) bond (calls .starts) (calls .ends) (calls .strikes) noCalls)) where
-    on-steps : {o : Outcome (List CallStep)} → overEntries (axisAt settlement m n) bond (calls .starts) (calls .ends) (calls .strikes) noCalls ≡ o → gridOutcome (eventGrid settlement bond calls controls) ≡ gridOutcome (follow o λ cs. given (record { «maturity_time» = m; steps = n; cashflows = stepCashflows (axisAt settlement m n) (bond .leg); calls = cs }))
-    on-steps f = ap gridOutcome (grid-is ∙ ap (λ (z : Outcome (List CallStep)). follow z λ cs. given (record { «maturity_time» = m; steps = n; cashflows = stepCashflows (axisAt settlement m n) (bond .leg); calls = cs })) f)
+  module _ {r : CallsAnswer} (e : r ≡ callsAnswer (overEntries (axisAt s m n) bond (calls .starts) (calls .ends) (calls .strikes) noCalls)) where
+    on-steps : {o : Outcome (List CallStep)} → overEntries (axisAt s m n) bond (calls .starts) (calls .ends) (calls .strikes) noCalls ≡ o → gridOutcome (eventGrid settlement bond calls controls) ≡ gridOutcome (follow o λ cs. given (record { «maturity_time» = m; steps = n; cashflows = stepCashflows (axisAt s m n) (bond .leg); calls = cs }))
+    on-steps f = ap gridOutcome (grid-is ∙ ap (λ (z : Outcome (List CallStep)). follow z λ cs. given (record { «maturity_time» = m; steps = n; cashflows = stepCashflows (axisAt s m n) (bond .leg); calls = cs })) f)
 
-    pub grid-refused : {s : Refusal} {z : BondEventGrid} → r .check ≡ Refused s → z ≡ noGrid → record { check = r .check; grid = z } ≡ gridOutcome (eventGrid settlement bond calls controls)
+    pub grid-refused : {t : Refusal} {z : BondEventGrid} → r .check ≡ Refused t → z ≡ noGrid → record { check = r .check; grid = z } ≡ gridOutcome (eventGrid settlement bond calls controls)
     unfolding onOutcome
-    grid-refused {s} {z} c w =
+    grid-refused {t} {z} c w =
         ap (λ (y : BondEventGrid). record { check = r .check; grid = y }) w
         ∙ ap (λ (y : Check). record { check = y; grid = noGrid }) c
-        ∙ sym (on-steps (calls-refused (overEntries (axisAt settlement m n) bond (calls .starts) (calls .ends) (calls .strikes) noCalls) e c))
+        ∙ sym (on-steps (calls-refused (overEntries (axisAt s m n) bond (calls .starts) (calls .ends) (calls .strikes) noCalls) e c))
 
-    pub grid-given : {row : List Float} → r .check ≡ Passed → row ≡ paidInto (axisAt settlement m n) (bond .leg .days) (bond .leg .amounts) (replicate 513 plusZero) → record { check = Passed; grid = record { «maturity_time» = m; steps = n; cashflows = row; calls = r .calls } } ≡ gridOutcome (eventGrid settlement bond calls controls)
+    pub grid-given : {row : List Float} → r .check ≡ Passed → row ≡ paidInto (axisAt s m n) (bond .leg .days) (bond .leg .amounts) (replicate 513 plusZero) → record { check = Passed; grid = record { «maturity_time» = m; steps = n; cashflows = row; calls = r .calls } } ≡ gridOutcome (eventGrid settlement bond calls controls)
     unfolding onOutcome
     grid-given {row} c w =
         ap (λ (y : List Float). record { check = Passed; grid = record { «maturity_time» = m; steps = n; cashflows = y; calls = r .calls } }) w
-        ∙ sym (on-steps (calls-passed (overEntries (axisAt settlement m n) bond (calls .starts) (calls .ends) (calls .strikes) noCalls) e c))
+        ∙ sym (on-steps (calls-passed (overEntries (axisAt s m n) bond (calls .starts) (calls .ends) (calls .strikes) noCalls) e c))
 
 -- ---- the grid entry
 
@@ -75,7 +78,7 @@ pub one-in : (k : Check) {q : Refusal} → k ≡ Refused q → q ≡ refusalIn k
 unfolding onCheck
 one-in k e = sym (ap refusalIn e)
 
-module _ (settlement : ℕ) (bond : Bond) (calls : CallSchedule) (controls : TimeGrid) {k : Check} (e : k ≡ gridChecks settlement bond calls controls) where
+module _ (settlement : Settlement) (bond : Bond) (calls : CallSchedule) (controls : TimeGrid) {k : Check} (e : k ≡ gridChecks settlement bond calls controls) where
   -- The input is refused.
   pub input-refused : {q s : Refusal} {z : BondEventGrid} → k ≡ Refused q → s ≡ refusalIn k → z ≡ noGrid → record { refusal = s; grid = z } ≡ gridAnswer settlement bond calls controls
   unfolding gridAnswer onCheck noGrid

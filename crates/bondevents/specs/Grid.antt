@@ -1,10 +1,11 @@
 -- Definitions only. The event grid and the grid entry.
-use Prim.Native.Nat.{ℕ}
 use lib.ListN.{replicate}
 use lib.Ieee.{Float}
 use Rattle.floats.specs.declared.Refusal.{Refusal}
 use Rattle.floats.specs.Answers.{plusZero}
+use Rattle.terms.specs.declared.Settlement.{Settlement}
 use Rattle.terms.specs.Terms.{Leg, CallSchedule, Bond, TimeGrid}
+use Rattle.terms.specs.Times.{yearFraction}
 use Rattle.terms.specs.Checks.{onCheck}
 use Rattle.terms.specs.Entries.{gridChecks}
 use Rattle.terms.specs.Outcomes.{Outcome, given, follow, onOutcome}
@@ -15,17 +16,18 @@ use Rattle.bondevents.specs.Steps.{Axis, maturityTime, stepsOf, stepCash
 use Rattle.bondevents.specs.Calls.{newStep, callSteps, overEntries}
 
 -- T and steps of a bond's grid.
-unfoldable pub axisOf : ℕ → Leg → TimeGrid → Axis
+unfoldable pub axisOf : Settlement → Leg → TimeGrid → Axis
 unfolding stepsOf
 axisOf settlement leg controls =
     record {
-      settlement = settlement;
+      settlement = settlement .day;
+      time = yearFraction settlement;
       maturity = maturityTime settlement leg;
       steps = stepsOf (maturityTime settlement leg) controls;
     }
 
 -- bond_event_grid: the grid of checked terms, or 20 or 27 at place 0.
-unfoldable pub eventGrid : ℕ → Bond → CallSchedule → TimeGrid → Outcome BondEventGrid
+unfoldable pub eventGrid : Settlement → Bond → CallSchedule → TimeGrid → Outcome BondEventGrid
 unfolding axisOf overEntries
 eventGrid settlement bond calls controls =
     let a = axisOf settlement (bond .leg) controls in
@@ -49,7 +51,7 @@ abbrev pub acceptedGrid : BondEventGrid → GridAnswer
 acceptedGrid g = record { refusal = record { number = 0; place = 0 }; grid = g }
 
 -- The grid entry: the input checks, then the grid.
-unfoldable pub gridAnswer : ℕ → Bond → CallSchedule → TimeGrid → GridAnswer
+unfoldable pub gridAnswer : Settlement → Bond → CallSchedule → TimeGrid → GridAnswer
 unfolding gridChecks eventGrid
 gridAnswer settlement bond calls controls =
     onCheck (gridChecks settlement bond calls controls) refusedGrid

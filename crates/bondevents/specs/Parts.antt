@@ -12,7 +12,9 @@ use Rattle.terms.specs.Checks.{onCheck}
 use Rattle.floats.specs.Answers.{plusZero, refusal, tested, whenFinite}
 use Rattle.terms.specs.declared.Check.{Check}
 use Rattle.terms.specs.declared.Check.the-variants.{Passed, Refused}
+use Rattle.terms.specs.declared.Epoch.{Epoch}
 use Rattle.terms.specs.Numbers.{tolerance}
+use Rattle.terms.specs.Times.{timeFrom}
 use Rattle.terms.specs.Terms.{Leg, Bond}
 use Rattle.terms.specs.Outcomes.{Outcome, given, follow, onOutcome, valued}
 use Rattle.bondevents.specs.declared.CallStep.{CallStep}
@@ -24,8 +26,13 @@ use Rattle.bondevents.specs.Calls.{Entry, newStep, keepLowest, gridTime,
 use Rattle.bondevents.specs.Grid.{zeroGrid}
 
 -- What the parallel parameters of the code make together.
-abbrev pub axisAt : ℕ → Float → ℕ → Axis
-axisAt settlement maturity steps = record { settlement = settlement; maturity = maturity; steps = steps }
+abbrev pub axisAt : Epoch → Float → ℕ → Axis
+axisAt settlement maturity steps =
+    record { settlement = settlement .day; time = timeFrom settlement; maturity = maturity; steps = steps }
+
+-- For what doesn't look at settlement.
+abbrev pub noEpoch : Epoch
+noEpoch = record { day = 0; code = 0; count = 0 }
 
 abbrev pub bondOf : List ℕ → List ℕ → List Float → Float → Bond
 bondOf days kinds amounts units = record { leg = record { days = days; kinds = kinds; amounts = amounts }; units = units }

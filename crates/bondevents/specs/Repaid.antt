@@ -4,6 +4,7 @@ use mathlib.Core.Path.{_≡_}
 use mathlib.Core.Bool.{Bool, cond, _&&_}
 use mathlib.Core.List.{List, [], _∷_}
 use lib.Dec.{eqb, leb}
+use Rattle.terms.specs.declared.Settlement.{Settlement}
 use Rattle.terms.specs.declared.Check.the-variants.{Passed}
 use Rattle.terms.specs.Terms.{CallSchedule, Bond, TimeGrid}
 use Rattle.terms.specs.Entries.{gridChecks}
@@ -36,6 +37,6 @@ withoutRepaid settlement bond =
 -- Of terms that pass the checks, maturity, steps, cashflows, call prices and refusal are those of the bond without its repaid redemptions.
 abbrev pub RepaidNowhere : Type 0
 RepaidNowhere =
-    (settlement : ℕ) (bond : Bond) (calls : CallSchedule) (controls : TimeGrid)
+    (settlement : Settlement) (bond : Bond) (calls : CallSchedule) (controls : TimeGrid)
     → gridChecks settlement bond calls controls ≡ Passed
-    → eventGrid settlement bond calls controls ≡ eventGrid settlement (withoutRepaid settlement bond) calls controls
+    → eventGrid settlement bond calls controls ≡ eventGrid settlement (withoutRepaid (settlement .day) bond) calls controls

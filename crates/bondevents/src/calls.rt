@@ -9,8 +9,9 @@ use floats::Refusal;
 use floats::finite::not_finite;
 use floats::refusals::overflow;
 use terms::Check;
+use terms::Epoch;
 use terms::refusing::refused_by;
-use terms::time::year_fraction;
+use terms::time::time_from;
 ghost use mathlib.Core.Path.{_≡_};
 ghost use mathlib.Core.List.{List};
 ghost use Prim.Native.Nat.{ℕ, _≤_, _<_};
@@ -18,7 +19,7 @@ ghost use lib.ListN.{length, getD, set, replicate};
 ghost use lib.Ieee.{nan};
 ghost use Rattle.terms.specs.Outcomes.{given, valued};
 ghost use Rattle.bondevents.specs.Calls.{newStep, keepLowest, overSteps, withEntry};
-ghost use Rattle.bondevents.specs.Parts.{axisAt, bondOf, entryOf, priced, inWindow, overPrices, Principals, noCalls, callsAnswer};
+ghost use Rattle.bondevents.specs.Parts.{axisAt, noEpoch, bondOf, entryOf, priced, inWindow, overPrices, Principals, noCalls, callsAnswer};
 
 // Strike × principal/units, refused where there is no principal.
 fn call_price(strike: f64, principal: f64, units: f64) -> Answer
@@ -44,7 +45,7 @@ fn call_price(strike: f64, principal: f64, units: f64) -> Answer
 // Whether the step's time lies within the two times, with the tolerance.
 fn in_window(maturity: f64, steps: usize, from: f64, to: f64, step: usize) -> bool
     requires { ⌜ (steps ≤ 512) × (step ≤ 512) ⌝ }
-    ensures { λ r. ⌜ r ≡ inWindow (axisAt 0 maturity steps) from to step ⌝ }
+    ensures { λ r. ⌜ r ≡ inWindow (axisAt noEpoch maturity steps) from to step ⌝ }
 {
     let time = maturity * step as f64 / steps as f64;
     if time + 1.0e-12 >= from {
@@ -74,7 +75,7 @@ fn over_window(
     calls: [CallStep; 513],
 ) -> CallsAnswer
     requires { ⌜ steps ≤ 512 ⌝ }
-    ensures { λ r. ⌜ r ≡ callsAnswer (overPrices (inWindow (axisAt 0 maturity steps) from to) (λ step. priced strike (getD (now (principals .entry)) step nan) units) steps 0 calls) ⌝ }
+    ensures { λ r. ⌜ r ≡ callsAnswer (overPrices (inWindow (axisAt noEpoch maturity steps) from to) (λ step. priced strike (getD (now (principals .entry)) step nan) units) steps 0 calls) ⌝ }
 {
     let mut kept = calls;
     let mut i = 0;
@@ -122,7 +123,7 @@ fn at_step(
 
 // A discrete call: on settlement step 0, otherwise the day's step, where that is tried.
 fn with_call(
-    settlement: u32,
+    settlement: Epoch,
     maturity: f64,
     steps: usize,
     days: &[u32],
@@ -138,7 +139,7 @@ fn with_call(
     ensures { λ r. ⌜ r ≡ callsAnswer (overSteps (axisAt settlement maturity steps) (bondOf (now (days .entry)) (now (kinds .entry)) (now (amounts .entry)) units) (entryOf date date strike) steps 0 calls) ⌝ }
 {
     let principal = call_principal(days, kinds, amounts, date);
-    if date == settlement {
+    if date == settlement.day {
         return at_step(0, strike, principal, units, calls);
     }
     let step = call_step_of(settlement, maturity, steps, date);
@@ -153,7 +154,7 @@ fn with_call(
 
 // One entry. Those ending before settlement are skipped; a window finds its principals in the table.
 pub fn with_entry(
-    settlement: u32,
+    settlement: Epoch,
     maturity: f64,
     steps: usize,
     days: &[u32],
@@ -171,7 +172,7 @@ pub fn with_entry(
     requires { ⌜ ((start ≡ end → ⊥) → Principals (axisAt settlement maturity steps) (bondOf (now days) (now kinds) (now amounts) units .leg) steps (now principals)) ⌝ }
     ensures { λ r. ⌜ r ≡ callsAnswer (withEntry (axisAt settlement maturity steps) (bondOf (now (days .entry)) (now (kinds .entry)) (now (amounts .entry)) units) (entryOf start end strike) calls) ⌝ }
 {
-    if end < settlement {
+    if end < settlement.day {
         return CallsAnswer {
             check: Check::Passed,
             calls,
@@ -191,7 +192,7 @@ pub fn with_entry(
             calls,
         );
     }
-    let from = year_fraction(settlement, start);
-    let to = year_fraction(settlement, end);
+    let from = time_from(settlement, start);
+    let to = time_from(settlement, end);
     over_window(maturity, steps, from, to, strike, units, principals, calls)
 }

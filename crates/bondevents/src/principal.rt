@@ -1,6 +1,7 @@
 // The principal that a call cancels: the redemptions after it.
 
 use crate::steps::step_of;
+use terms::Epoch;
 ghost use mathlib.Core.Path.{_≡_};
 ghost use mathlib.Core.Bool.{Bool, cond, _&&_};
 ghost use Prim.Native.Nat.{ℕ, _≤_};
@@ -39,18 +40,18 @@ pub fn call_principal(days: &[u32], kinds: &[u8], amounts: &[f64], date: u32) ->
 }
 
 // A redemption's step: its day's, or 0 where it is repaid, on or before settlement.
-fn redemption_step_of(settlement: u32, maturity: f64, steps: usize, day: u32) -> usize
+fn redemption_step_of(settlement: Epoch, maturity: f64, steps: usize, day: u32) -> usize
     requires { ⌜ (1 ≤ steps) × (steps ≤ 512) ⌝ }
     ensures { λ r. ⌜ r ≡ redemptionStepOf (axisAt settlement maturity steps) day ⌝ }
 {
-    if settlement < day {
+    if settlement.day < day {
         return step_of(settlement, maturity, steps, day);
     }
     0
 }
 
 // The step that each cashflow has as a redemption, worked out once.
-pub fn flow_steps(settlement: u32, maturity: f64, steps: usize, days: &[u32]) -> [usize; 256]
+pub fn flow_steps(settlement: Epoch, maturity: f64, steps: usize, days: &[u32]) -> [usize; 256]
     requires { ⌜ (1 ≤ steps) × (steps ≤ 512) ⌝ }
     requires { ⌜ length (now days) ≤ 256 ⌝ }
     ensures { λ r. ⌜ FlowSteps (axisAt settlement maturity steps) (now (days .entry)) r ⌝ }
@@ -81,7 +82,7 @@ fn principal_after(kinds: &[u8], amounts: &[f64], reached: &[usize; 256], step: 
 
 // A window's principal at each of the steps, worked out once for all entries.
 pub fn window_principals(
-    settlement: u32,
+    settlement: Epoch,
     maturity: f64,
     steps: usize,
     days: &[u32],

@@ -3,7 +3,8 @@
 use floats::Answer;
 use floats::ceil::ceil_at;
 use floats::round::round_at;
-use terms::time::year_fraction;
+use terms::Epoch;
+use terms::time::time_from;
 ghost use mathlib.Core.Path.{_≡_};
 ghost use Prim.Native.Nat.{_≤_};
 ghost use lib.Ieee.{toUnsigned};
@@ -56,22 +57,19 @@ pub fn steps_of(maturity: f64, per_year: u32, maximum: u32) -> usize
 }
 
 // A day's step: round(time/T × steps), clamped to 1..steps.
-pub fn step_of(settlement: u32, maturity: f64, steps: usize, day: u32) -> usize
+pub fn step_of(settlement: Epoch, maturity: f64, steps: usize, day: u32) -> usize
     requires { ⌜ (1 ≤ steps) × (steps ≤ 512) ⌝ }
     ensures { λ r. ⌜ r ≡ stepOf (axisAt settlement maturity steps) day ⌝ }
 {
-    near_to(
-        year_fraction(settlement, day) / maturity * steps as f64,
-        steps,
-    )
+    near_to(time_from(settlement, day) / maturity * steps as f64, steps)
 }
 
 // A call day's step, clamped to 1..max(steps−1, 1).
-pub fn call_step_of(settlement: u32, maturity: f64, steps: usize, day: u32) -> usize
+pub fn call_step_of(settlement: Epoch, maturity: f64, steps: usize, day: u32) -> usize
     requires { ⌜ (1 ≤ steps) × (steps ≤ 512) ⌝ }
     ensures { λ r. ⌜ r ≡ callStepOf (axisAt settlement maturity steps) day ⌝ }
 {
-    let target = year_fraction(settlement, day) / maturity * steps as f64;
+    let target = time_from(settlement, day) / maturity * steps as f64;
     if steps > 1 {
         return near_to(target, steps - 1);
     }

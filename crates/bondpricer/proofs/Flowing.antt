@@ -16,11 +16,12 @@ use Rattle.floats.specs.declared.Answer.the-variants.{Value, Refused}
 use Rattle.floats.specs.Answers.{plusZero, onAnswer, andThen, refusal, tested, whenFinite}
 use Rattle.elementary.specs.Exponential.{expAt}
 use Rattle.floats.proofs.Laws.{valued, refused}
+use Rattle.terms.specs.declared.Epoch.{Epoch}
 use Rattle.terms.specs.Terms.{Leg}
-use Rattle.terms.specs.Times.{yearFraction}
+use Rattle.terms.specs.Times.{timeFrom}
 use Rattle.bondpricer.specs.Straight.{withFlow, flows, discountedValue}
 
-module _ (curve : Float → ℕ → Answer) (settlement : ℕ) (spread reference : Float) where
+module _ (curve : Float → ℕ → Answer) (settlement : Epoch) (spread reference : Float) where
   -- What follows the day's factor.
   abbrev after : Float → Float → Float → Float → Answer
   after amount value factor time =
@@ -31,7 +32,7 @@ module _ (curve : Float → ℕ → Answer) (settlement : ℕ) (spread reference
       whenFinite (mul binary64 y spreadDiscount) 0 λ z. tested (add binary64 value z) 0
 
   pub at-time : (day : ℕ) (amount value : Float) {s : Answer} {factor time : Float} {r : Answer}
-      → time ≡ yearFraction settlement day
+      → time ≡ timeFrom settlement day
       → s ≡ curve time 0
       → s ≡ Value factor
       → r ≡ after amount value factor time
@@ -41,7 +42,7 @@ module _ (curve : Float → ℕ → Answer) (settlement : ℕ) (spread reference
 
   -- No factor at the day's time.
   pub no-factor : (day : ℕ) (amount value : Float) {s : Answer} {time : Float} {q : Refusal}
-      → time ≡ yearFraction settlement day
+      → time ≡ timeFrom settlement day
       → s ≡ curve time 0
       → s ≡ Refused q
       → s ≡ withFlow curve settlement spread reference day amount value
@@ -63,7 +64,7 @@ module _ (curve : Float → ℕ → Answer) (settlement : ℕ) (spread reference
       turn : i < length days
           → flows curve settlement spread reference (drop i days) (drop i amounts) value
           ≡ andThen
-          (cond (ltb settlement (getD days i 0)) (withFlow curve settlement spread reference (getD days i 0) (getD amounts i nan) value) (Value value))
+          (cond (ltb (settlement .day) (getD days i 0)) (withFlow curve settlement spread reference (getD days i 0) (getD amounts i nan) value) (Value value))
           (λ v. flows curve settlement spread reference (drop (i + 1) days) (drop (i + 1) amounts) v)
       unfolding flows
       turn h =
@@ -73,28 +74,28 @@ module _ (curve : Float → ℕ → Answer) (settlement : ℕ) (spread reference
       -- The same where the flow's own outcome is known.
       follows : {s : Answer}
           → i < length days
-          → settlement < getD days i 0
+          → settlement .day < getD days i 0
           → s ≡ withFlow curve settlement spread reference (getD days i 0) (getD amounts i nan) value
           → andThen s (λ v. flows curve settlement spread reference (drop (i + 1) days) (drop (i + 1) amounts) v)
           ≡ flows curve settlement spread reference days amounts plusZero
-      follows h u e = sym (rw (lt-ltb settlement (getD days i 0) u, ← e) at (turn h)) ∙ g .rest
+      follows h u e = sym (rw (lt-ltb (settlement .day) (getD days i 0) u, ← e) at (turn h)) ∙ g .rest
 
       pub paid : {s : Answer} (v : Float)
           → i < length days
-          → settlement < getD days i 0
+          → settlement .day < getD days i 0
           → s ≡ withFlow curve settlement spread reference (getD days i 0) (getD amounts i nan) value
           → s ≡ Value v
           → Going (i + 1) v
       unfolding onAnswer
       paid v h u e w = record { within = omega arith; rest = rw w at (follows h u e) }
 
-      pub unpaid : i < length days → getD days i 0 ≤ settlement → Going (i + 1) value
+      pub unpaid : i < length days → getD days i 0 ≤ settlement .day → Going (i + 1) value
       unfolding onAnswer
-      unpaid h u = record { within = omega arith; rest = sym (rw (le-ltb settlement (getD days i 0) u) at (turn h)) ∙ g .rest }
+      unpaid h u = record { within = omega arith; rest = sym (rw (le-ltb (settlement .day) (getD days i 0) u) at (turn h)) ∙ g .rest }
 
       pub stopped : {s : Answer} {q : Refusal}
           → i < length days
-          → settlement < getD days i 0
+          → settlement .day < getD days i 0
           → s ≡ withFlow curve settlement spread reference (getD days i 0) (getD amounts i nan) value
           → s ≡ Refused q
           → s ≡ flows curve settlement spread reference days amounts plusZero
@@ -107,9 +108,9 @@ module _ (curve : Float → ℕ → Answer) (settlement : ℕ) (spread reference
 
 -- ---- settlement's factor, told from its time
 
-module _ (curve : Float → ℕ → Answer) (settlement : ℕ) (leg : Leg) (spread : Float) {s : Answer} {time : Float} where
+module _ (curve : Float → ℕ → Answer) (settlement : Epoch) (leg : Leg) (spread : Float) {s : Answer} {time : Float} where
   pub at-settlement : {reference : Float} {r : Answer}
-      → time ≡ yearFraction settlement settlement
+      → time ≡ timeFrom settlement (settlement .day)
       → s ≡ curve time 0
       → s ≡ Value reference
       → r ≡ cond (le reference plusZero) (refusal 25 0) (flows curve settlement spread reference (leg .days) (leg .amounts) plusZero)
@@ -118,7 +119,7 @@ module _ (curve : Float → ℕ → Answer) (settlement : ℕ) (leg : Leg) (spre
   at-settlement t e v p = valued _ _ _ (e ∙ ap (λ (z : Float). curve z 0) t) v p
 
   pub no-reference : {q : Refusal}
-      → time ≡ yearFraction settlement settlement
+      → time ≡ timeFrom settlement (settlement .day)
       → s ≡ curve time 0
       → s ≡ Refused q
       → s ≡ discountedValue curve settlement leg spread

@@ -6,9 +6,13 @@ use floats::Refusal;
 use floats::finite::not_finite;
 use floats::refusals::overflow;
 use terms::Check;
+use terms::Epoch;
+use terms::Settlement;
 use terms::curve::curve_at;
 use terms::curve::pillar_times;
-use terms::time::year_fraction;
+use terms::curve::timed_pillars;
+use terms::time::epoch_of;
+use terms::time::time_from;
 ghost use mathlib.Core.Path.{_≡_};
 ghost use mathlib.Core.List.{[]};
 ghost use lib.ListN.{length};
@@ -19,7 +23,7 @@ ghost use Rattle.bondpricer.specs.Straight.{withFlow, flows, discountedV
 
 // amount × (the day's factor / settlement's) × exp(spread × −time), added to the value.
 fn with_flow(
-    settlement: u32,
+    settlement: Epoch,
     curve_times: &[f64],
     factors: &[f64],
     spread: f64,
@@ -30,7 +34,7 @@ fn with_flow(
 ) -> Answer
     ensures { λ r. ⌜ r ≡ withFlow (curveOver (now («curve_times» .entry)) (now (factors .entry))) settlement spread reference day amount value ⌝ }
 {
-    let time = year_fraction(settlement, day);
+    let time = time_from(settlement, day);
     let a = curve_at(curve_times, factors, time, 0);
     let Answer::Value(factor) = a else {
         return a;
@@ -64,7 +68,7 @@ fn with_flow(
 
 // The paid cashflows in list order.
 fn all_flows(
-    settlement: u32,
+    settlement: Epoch,
     days: &[u32],
     amounts: &[f64],
     spread: f64,
@@ -81,7 +85,7 @@ fn all_flows(
         let day = days[i];
         let amount = amounts[i];
         i += 1;
-        if settlement < day {
+        if settlement.day < day {
             let a = with_flow(
                 settlement,
                 curve_times,
@@ -103,7 +107,7 @@ fn all_flows(
 
 // discounted_value: 25 is tried on settlement's factor only.
 pub fn discounted_value(
-    settlement: u32,
+    settlement: Epoch,
     days: &[u32],
     amounts: &[f64],
     spread: f64,
@@ -116,7 +120,7 @@ pub fn discounted_value(
     let a = curve_at(
         curve_times,
         factors,
-        year_fraction(settlement, settlement),
+        time_from(settlement, settlement.day),
         0,
     );
     let Answer::Value(reference) = a else {
@@ -141,7 +145,7 @@ pub fn discounted_value(
 
 // What the bond is worth without its calls.
 pub fn straight_value(
-    settlement: u32,
+    settlement: Settlement,
     cashflow_days: &[u32],
     cashflow_kinds: &[u8],
     cashflow_amounts: &[f64],
@@ -151,6 +155,8 @@ pub fn straight_value(
 ) -> Answer
     ensures { λ r. ⌜ r ≡ straightValue settlement (record { days = now («cashflow_days» .entry); kinds = now («cashflow_kinds» .entry); amounts = now («cashflow_amounts» .entry) }) spread (record { days = now («pillar_days» .entry); factors = now («pillar_factors» .entry) }) ⌝ }
 {
+    let table = pillar_times(settlement, pillar_days);
+    let count = timed_pillars(pillar_days);
     let checked = straight_checks(
         settlement,
         cashflow_days,
@@ -159,17 +165,18 @@ pub fn straight_value(
         spread,
         pillar_days,
         pillar_factors,
+        &table[..count],
     );
     if let Check::Refused(q) = checked {
         return Answer::Refused(q);
     }
-    let curve_times = pillar_times(settlement, pillar_days);
+    let epoch = epoch_of(settlement);
     discounted_value(
-        settlement,
+        epoch,
         cashflow_days,
         cashflow_amounts,
         spread,
-        &curve_times[..pillar_days.len()],
+        &table[..count],
         pillar_factors,
     )
 }

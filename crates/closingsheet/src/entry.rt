@@ -2,6 +2,7 @@
 
 use crate::ClosingLine;
 use crate::line::line_of;
+use terms::Settlement;
 use treevalue::tree::tree_value;
 ghost use Rattle.terms.specs.Slices.{legIn, callsIn, sigmaIn, pillarsIn, marketIn};
 ghost use Rattle.treebasedbondpricer.specs.Slices.{lentIn, lentOut};
@@ -10,7 +11,7 @@ ghost use Rattle.closingsheet.specs.Entry.{Filed};
 // A bond's line of the closing sheet.
 pub fn closing_line(
     bond: u32,
-    settlement: u32,
+    settlement: Settlement,
     cashflow_days: &[u32],
     cashflow_kinds: &[u8],
     cashflow_amounts: &[f64],

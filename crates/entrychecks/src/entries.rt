@@ -13,22 +13,24 @@ use crate::tree_stages::tree_counts;
 use crate::tree_stages::tree_days;
 use crate::tree_stages::tree_numbers;
 use crate::tree_stages::tree_orders;
+use crate::yield_stages::yield_counts;
 use crate::yield_stages::yield_days;
 use crate::yield_stages::yield_numbers;
 use terms::Check;
+use terms::Settlement;
 use terms::cashflows::any_paid;
-use terms::counts::leg_count;
 use terms::limits::Spread;
 use terms::limits::Target;
 use terms::limits::Yields;
 ghost use mathlib.Core.Path.{_≡_};
 ghost use Rattle.terms.specs.Terms.{Leg, CallSchedule, SigmaSchedule, Pillars, Bond, TimeGrid, HullWhite, Market};
+ghost use Rattle.terms.specs.Curve.{CurveTimes};
 ghost use Rattle.terms.specs.Entries.{gridChecks, marketChecks, treeChecks, spreadChecks, straightChecks, yieldChecks, priceChecks, targetChecks};
 ghost use Rattle.terms.specs.Slices.{legIn, callsIn, sigmaIn, pillarsIn, marketIn};
 
 // What the grid checks.
 pub fn grid_checks(
-    settlement: u32,
+    settlement: Settlement,
     days: &[u32],
     kinds: &[u8],
     amounts: &[f64],
@@ -44,11 +46,21 @@ pub fn grid_checks(
         (callsIn starts ends strikes)
         (record { perYear = yearly; maximum = maximum }) ⌝ }
 {
-    let a = grid_counts(yearly, maximum, days, kinds, amounts, starts, ends, strikes);
+    let a = grid_counts(
+        yearly,
+        maximum,
+        settlement.code,
+        days,
+        kinds,
+        amounts,
+        starts,
+        ends,
+        strikes,
+    );
     let Check::Passed = a else {
         return a;
     };
-    let b = grid_days(settlement, days, kinds, starts, ends);
+    let b = grid_days(settlement.day, days, kinds, starts, ends);
     let Check::Passed = b else {
         return b;
     };
@@ -61,21 +73,23 @@ pub fn grid_checks(
 
 // What the straight value checks.
 pub fn straight_checks(
-    settlement: u32,
+    settlement: Settlement,
     days: &[u32],
     kinds: &[u8],
     amounts: &[f64],
     spread: f64,
     pillars: &[u32],
     factors: &[f64],
+    curve_times: &[f64],
 ) -> Check
+    requires { ⌜ CurveTimes settlement (now pillars) (now «curve_times») ⌝ }
     ensures { λ r. ⌜ r ≡ straightChecks settlement (legIn days kinds amounts) spread (pillarsIn pillars factors) ⌝ }
 {
-    let a = straight_counts(days, kinds, amounts, pillars, factors);
+    let a = straight_counts(settlement.code, days, kinds, amounts, pillars, factors);
     let Check::Passed = a else {
         return a;
     };
-    let b = straight_days(settlement, days, kinds, pillars);
+    let b = straight_days(settlement.day, days, kinds, pillars);
     let Check::Passed = b else {
         return b;
     };
@@ -83,13 +97,13 @@ pub fn straight_checks(
     let Check::Passed = c else {
         return c;
     };
-    straight_orders(settlement, days, pillars, factors)
+    straight_orders(settlement, days, pillars, curve_times, factors)
 }
 
 // What both yield entries check, with the limit of the yield or the target, and the check of the rate definition.
 fn yield_checks(
     limit: f64,
-    settlement: u32,
+    settlement: Settlement,
     days: &[u32],
     kinds: &[u8],
     amounts: &[f64],
@@ -98,11 +112,11 @@ fn yield_checks(
 ) -> Check
     ensures { λ r. ⌜ r ≡ yieldChecks limit settlement (legIn days kinds amounts) x rate ⌝ }
 {
-    let a = leg_count(days, kinds, amounts);
+    let a = yield_counts(settlement.code, days, kinds, amounts);
     let Check::Passed = a else {
         return a;
     };
-    let b = yield_days(settlement, days, kinds);
+    let b = yield_days(settlement.day, days, kinds);
     let Check::Passed = b else {
         return b;
     };
@@ -110,7 +124,7 @@ fn yield_checks(
     let Check::Passed = c else {
         return c;
     };
-    let d = any_paid(settlement, days);
+    let d = any_paid(settlement.day, days);
     let Check::Passed = d else {
         return d;
     };
@@ -119,7 +133,7 @@ fn yield_checks(
 
 // What price from yield checks.
 pub fn price_checks(
-    settlement: u32,
+    settlement: Settlement,
     days: &[u32],
     kinds: &[u8],
     amounts: &[f64],
@@ -133,7 +147,7 @@ pub fn price_checks(
 
 // What yield from price checks.
 pub fn target_checks(
-    settlement: u32,
+    settlement: Settlement,
     days: &[u32],
     kinds: &[u8],
     amounts: &[f64],
@@ -148,7 +162,7 @@ pub fn target_checks(
 // What the tree value and spread from price check, with the limit of the spread or the target.
 fn market_checks(
     limit: f64,
-    settlement: u32,
+    settlement: Settlement,
     days: &[u32],
     kinds: &[u8],
     amounts: &[f64],
@@ -164,7 +178,9 @@ fn market_checks(
     x: f64,
     pillars: &[u32],
     factors: &[f64],
+    curve_times: &[f64],
 ) -> Check
+    requires { ⌜ CurveTimes settlement (now pillars) (now «curve_times») ⌝ }
     ensures { λ r. ⌜ r ≡ marketChecks limit
         (marketIn settlement (legIn days kinds amounts) units yearly maximum alpha (sigmaIn times sigmas) x (pillarsIn pillars factors))
         (callsIn starts ends strikes) ⌝ }
@@ -172,6 +188,7 @@ fn market_checks(
     let a = tree_counts(
         yearly,
         maximum,
+        settlement.code,
         days,
         kinds,
         amounts,
@@ -186,7 +203,7 @@ fn market_checks(
     let Check::Passed = a else {
         return a;
     };
-    let b = tree_days(settlement, days, kinds, starts, ends, pillars);
+    let b = tree_days(settlement.day, days, kinds, starts, ends, pillars);
     let Check::Passed = b else {
         return b;
     };
@@ -204,16 +221,16 @@ fn market_checks(
     let Check::Passed = c else {
         return c;
     };
-    let d = tree_orders(settlement, days, starts, ends, times);
+    let d = tree_orders(settlement.day, days, starts, ends, times);
     let Check::Passed = d else {
         return d;
     };
-    late_checks(settlement, days, pillars, factors)
+    late_checks(settlement, days, pillars, curve_times, factors)
 }
 
 // What the tree value checks.
 pub fn tree_checks(
-    settlement: u32,
+    settlement: Settlement,
     days: &[u32],
     kinds: &[u8],
     amounts: &[f64],
@@ -229,7 +246,9 @@ pub fn tree_checks(
     spread: f64,
     pillars: &[u32],
     factors: &[f64],
+    curve_times: &[f64],
 ) -> Check
+    requires { ⌜ CurveTimes settlement (now pillars) (now «curve_times») ⌝ }
     ensures { λ r. ⌜ r ≡ treeChecks
         (marketIn settlement (legIn days kinds amounts) units yearly maximum alpha (sigmaIn times sigmas) spread (pillarsIn pillars factors))
         (callsIn starts ends strikes) ⌝ }
@@ -252,12 +271,13 @@ pub fn tree_checks(
         spread,
         pillars,
         factors,
+        curve_times,
     )
 }
 
 // What spread from price checks: a target stands where the spread stood.
 pub fn spread_checks(
-    settlement: u32,
+    settlement: Settlement,
     days: &[u32],
     kinds: &[u8],
     amounts: &[f64],
@@ -273,7 +293,9 @@ pub fn spread_checks(
     target: f64,
     pillars: &[u32],
     factors: &[f64],
+    curve_times: &[f64],
 ) -> Check
+    requires { ⌜ CurveTimes settlement (now pillars) (now «curve_times») ⌝ }
     ensures { λ r. ⌜ r ≡ spreadChecks
         (marketIn settlement (legIn days kinds amounts) units yearly maximum alpha (sigmaIn times sigmas) target (pillarsIn pillars factors))
         (callsIn starts ends strikes) ⌝ }
@@ -296,5 +318,6 @@ pub fn spread_checks(
         target,
         pillars,
         factors,
+        curve_times,
     )
 }

@@ -1,13 +1,16 @@
 // The checks of the grid, in stages: each stage is one number, or two that belong together.
 
 use terms::Check;
+use terms::Settlement;
 use terms::calls::call_days;
 use terms::calls::call_order;
 use terms::calls::strike_range;
 use terms::cashflows::any_paid;
 use terms::cashflows::leg_days;
+use terms::cashflows::maturity_apart;
 use terms::counts::call_count;
 use terms::counts::leg_count;
+use terms::fields::day_count;
 use terms::fields::settings;
 use terms::fields::settlement_day;
 use terms::fields::units_range;
@@ -25,10 +28,11 @@ ghost use Rattle.terms.specs.laws.TermChecks.{LegCounted};
 ghost use Rattle.terms.specs.laws.CallChecks.{CallCounted};
 ghost use Rattle.terms.specs.Slices.{legIn, callsIn};
 
-// 1 and 2: settings and counts.
+// 1, 33 and 2: settings, day count and counts.
 pub fn grid_counts(
     yearly: u32,
     maximum: u32,
+    code: u32,
     days: &[u32],
     kinds: &[u8],
     amounts: &[f64],
@@ -37,16 +41,20 @@ pub fn grid_counts(
     strikes: &[f64],
 ) -> Check
     ensures { λ r. ⌜ Tells r
-        (firstOf (settingChecks (record { perYear = yearly; maximum = maximum }) ++ gridCounts (legIn days kinds amounts) (callsIn starts ends strikes)))
+        (firstOf (settingChecks (record { perYear = yearly; maximum = maximum }) code ++ gridCounts (legIn days kinds amounts) (callsIn starts ends strikes)))
         (LegCounted (legIn days kinds amounts) × CallCounted (callsIn starts ends strikes)) ⌝ }
 {
     let a = settings(yearly, maximum);
     let Check::Passed = a else {
         return a;
     };
-    let b = leg_count(days, kinds, amounts);
+    let b = day_count(code);
     let Check::Passed = b else {
         return b;
+    };
+    let c = leg_count(days, kinds, amounts);
+    let Check::Passed = c else {
+        return c;
     };
     call_count(starts, ends, strikes)
 }
@@ -100,8 +108,8 @@ pub fn grid_numbers(units: f64, amounts: &[f64], strikes: &[f64]) -> Check
     list_numbers(amounts, strikes)
 }
 
-// 5 and 7: a call that ends before it starts, and nothing paid.
-pub fn grid_orders(settlement: u32, days: &[u32], starts: &[u32], ends: &[u32]) -> Check
+// 5, 7 and 35: a call that ends before it starts, nothing paid, and a maturity whose time is 0.
+pub fn grid_orders(settlement: Settlement, days: &[u32], starts: &[u32], ends: &[u32]) -> Check
     requires { ⌜ length (now starts) ≤ 64 ⌝ }
     requires { ⌜ length (now ends) ≡ length (now starts) ⌝ }
     ensures { λ r. ⌜ r ≡ firstOf
@@ -112,5 +120,9 @@ pub fn grid_orders(settlement: u32, days: &[u32], starts: &[u32], ends: &[u32]) 
     let Check::Passed = a else {
         return a;
     };
-    any_paid(settlement, days)
+    let b = any_paid(settlement.day, days);
+    let Check::Passed = b else {
+        return b;
+    };
+    maturity_apart(settlement, days)
 }

@@ -40,10 +40,11 @@ fn model_counts(times: &[f64], sigmas: &[f64], pillars: &[u32], factors: &[f64])
     pillar_count(pillars, factors)
 }
 
-// 1 and 2: the grid's settings and counts, then those of sigma and pillars.
+// 1, 33 and 2: the grid's settings, day count and counts, then those of sigma and pillars.
 pub fn tree_counts(
     yearly: u32,
     maximum: u32,
+    code: u32,
     days: &[u32],
     kinds: &[u8],
     amounts: &[f64],
@@ -57,11 +58,21 @@ pub fn tree_counts(
 ) -> Check
     ensures { λ r. ⌜ Tells r
         (firstOf
-        (settingChecks (record { perYear = yearly; maximum = maximum }) ++ treeCounts (legIn days kinds amounts) (callsIn starts ends strikes) (sigmaIn times sigmas) (pillarsIn pillars factors)))
+        (settingChecks (record { perYear = yearly; maximum = maximum }) code ++ treeCounts (legIn days kinds amounts) (callsIn starts ends strikes) (sigmaIn times sigmas) (pillarsIn pillars factors)))
         ((LegCounted (legIn days kinds amounts) × CallCounted (callsIn starts ends strikes)) ×
         (SigmaCounted (sigmaIn times sigmas) × PillarsCounted (pillarsIn pillars factors))) ⌝ }
 {
-    let a = grid_counts(yearly, maximum, days, kinds, amounts, starts, ends, strikes);
+    let a = grid_counts(
+        yearly,
+        maximum,
+        code,
+        days,
+        kinds,
+        amounts,
+        starts,
+        ends,
+        strikes,
+    );
     let Check::Passed = a else {
         return a;
     };

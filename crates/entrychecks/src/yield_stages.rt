@@ -2,6 +2,8 @@
 
 use terms::Check;
 use terms::cashflows::leg_days;
+use terms::counts::leg_count;
+use terms::fields::day_count;
 use terms::fields::settlement_day;
 use terms::fields::within;
 use terms::limits::Cashflows;
@@ -12,7 +14,21 @@ ghost use Prim.Native.Nat.{_≤_};
 ghost use lib.ListN.{length};
 ghost use Rattle.terms.specs.Terms.{Leg};
 ghost use Rattle.terms.specs.Checks.{firstOf};
-ghost use Rattle.terms.specs.Entries.{yieldDays, yieldNumbers};
+ghost use Rattle.terms.specs.Entries.{yieldCounts, yieldDays, yieldNumbers};
+ghost use Rattle.terms.specs.laws.Stages.{Tells};
+ghost use Rattle.terms.specs.laws.TermChecks.{LegCounted};
+ghost use Rattle.terms.specs.Slices.{legIn};
+
+// 33 and 2: day count and counts.
+pub fn yield_counts(code: u32, days: &[u32], kinds: &[u8], amounts: &[f64]) -> Check
+    ensures { λ r. ⌜ Tells r (firstOf (yieldCounts code (legIn days kinds amounts))) (LegCounted (legIn days kinds amounts)) ⌝ }
+{
+    let a = day_count(code);
+    let Check::Passed = a else {
+        return a;
+    };
+    leg_count(days, kinds, amounts)
+}
 
 // 3: days and kinds.
 pub fn yield_days(settlement: u32, days: &[u32], kinds: &[u8]) -> Check

@@ -1,6 +1,7 @@
 // The cashflows of each step.
 
 use bondevents::steps::step_of;
+use terms::Epoch;
 ghost use mathlib.Core.Path.{_≡_};
 ghost use Prim.Native.Nat.{_≤_};
 ghost use lib.ListN.{length, replicate};
@@ -10,7 +11,7 @@ ghost use Rattle.bondevents.specs.Steps.{paidInto};
 
 // Paid amounts, added into their step in list order. Those on or before settlement aren't paid.
 pub fn paid_into(
-    settlement: u32,
+    settlement: Epoch,
     maturity: f64,
     steps: usize,
     days: &[u32],
@@ -26,7 +27,7 @@ pub fn paid_into(
         let day = days[i];
         let amount = amounts[i];
         i += 1;
-        if settlement < day {
+        if settlement.day < day {
             let step = step_of(settlement, maturity, steps, day);
             row[step] = row[step] + amount;
         }

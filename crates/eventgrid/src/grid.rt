@@ -10,8 +10,10 @@ use bondevents::steps::steps_of;
 use entrychecks::entries::grid_checks;
 use floats::Refusal;
 use terms::Check;
+use terms::Settlement;
 use terms::lists::last_day;
-use terms::time::year_fraction;
+use terms::time::epoch_of;
+use terms::time::time_from;
 ghost use mathlib.Core.Path.{_≡_};
 ghost use Prim.Native.Nat.{_≤_};
 ghost use lib.ListN.{length};
@@ -35,7 +37,7 @@ fn zero_grid() -> BondEventGrid
 
 // The grid of terms that are checked, or 20 or 27 beside a grid that is all zero.
 pub fn event_grid(
-    settlement: u32,
+    settlement: Settlement,
     days: &[u32],
     kinds: &[u8],
     amounts: &[f64],
@@ -51,10 +53,11 @@ pub fn event_grid(
     requires { ⌜ (length (now ends) ≡ length (now starts)) × (length (now strikes) ≡ length (now starts)) ⌝ }
     ensures { λ r. ⌜ r ≡ gridOutcome (eventGrid settlement (bondOf (now (days .entry)) (now (kinds .entry)) (now (amounts .entry)) units) (record { starts = now (starts .entry); ends = now (ends .entry); strikes = now (strikes .entry) }) (record { perYear = yearly; maximum = maximum })) ⌝ }
 {
-    let maturity = year_fraction(settlement, last_day(days));
+    let epoch = epoch_of(settlement);
+    let maturity = time_from(epoch, last_day(days));
     let steps = steps_of(maturity, yearly, maximum);
     let answer = call_steps(
-        settlement,
+        epoch,
         maturity,
         steps,
         days,
@@ -72,7 +75,7 @@ pub fn event_grid(
             grid: zero_grid(),
         };
     };
-    let cashflows = paid_into(settlement, maturity, steps, days, amounts);
+    let cashflows = paid_into(epoch, maturity, steps, days, amounts);
     let calls = answer.calls;
     EventGrid {
         check: Check::Passed,
@@ -100,7 +103,7 @@ fn refusal_in(check: Check) -> Refusal
 
 // The grid entry: the input checks, then the grid.
 pub fn bond_event_grid(
-    settlement: u32,
+    settlement: Settlement,
     cashflow_days: &[u32],
     cashflow_kinds: &[u8],
     cashflow_amounts: &[f64],

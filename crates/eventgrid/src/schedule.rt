@@ -5,6 +5,7 @@ use bondevents::calls::no_calls;
 use bondevents::calls::with_entry;
 use bondevents::principal::window_principals;
 use terms::Check;
+use terms::Epoch;
 ghost use mathlib.Core.Path.{_≡_};
 ghost use mathlib.Core.Bool.{false};
 ghost use Prim.Native.Nat.{ℕ, _≤_, _<_};
@@ -29,7 +30,7 @@ fn any_window(starts: &[u32], ends: &[u32]) -> bool
 
 // Entry 0 over all its steps, then entry 1.
 fn over_entries(
-    settlement: u32,
+    settlement: Epoch,
     maturity: f64,
     steps: usize,
     days: &[u32],
@@ -81,7 +82,7 @@ fn over_entries(
 
 // The call price of each step. The principals of windows are worked out where there is a window.
 pub fn call_steps(
-    settlement: u32,
+    settlement: Epoch,
     maturity: f64,
     steps: usize,
     days: &[u32],

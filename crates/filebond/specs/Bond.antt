@@ -44,11 +44,11 @@ pillarsOf text =
       factors = map (λ e. firstNumber (e .entry)) (firstOfKind 256 9 text);
     }
 
--- All that the tree value takes but the calls. 1: settlement, 2: units, 3: steps, 4: alpha, 5: spread.
+-- All that the tree value takes but the calls, its times by Actual/365. 1: settlement, 2: units, 3: steps, 4: alpha, 5: spread.
 abbrev pub marketOf : List ℕ → Market
 marketOf text =
     record {
-      settlement = firstWhole (fieldOf 1 text);
+      settlement = record { day = firstWhole (fieldOf 1 text); code = 0 };
       bond = record { leg = legOf text; units = firstNumber (fieldOf 2 text) };
       controls = record { perYear = firstWhole (fieldOf 3 text); maximum = secondWhole (fieldOf 3 text) };
       model = record { alpha = firstNumber (fieldOf 4 text); sigma = sigmaOf text };

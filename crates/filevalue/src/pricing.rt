@@ -9,6 +9,7 @@ use filebond::parts::bytes_of;
 use filebond::parts::days_of;
 use filebond::parts::numbers_of;
 use floats::Answer;
+use terms::Settlement;
 ghost use mathlib.Core.Path.{_≡_};
 ghost use Rattle.filevalue.specs.Values.{straightOf, yieldOf};
 
@@ -26,7 +27,10 @@ pub fn straight(text: &[u8]) -> Answer
     let points = pillars_of(text, &mut pillars, &mut factors, &mut lines);
     let f = fields_of(text);
     straight_value(
-        f.settlement,
+        Settlement {
+            day: f.settlement,
+            code: 0,
+        },
         days_of(&days, flows),
         bytes_of(&kinds, flows),
         numbers_of(&amounts, flows),
@@ -47,7 +51,10 @@ pub fn yielded(text: &[u8], price: f64, compounding: u32, frequency: u32) -> Roo
     let n = cashflows_of(text, &mut days, &mut kinds, &mut amounts, &mut lines);
     let f = fields_of(text);
     yield_from_price(
-        f.settlement,
+        Settlement {
+            day: f.settlement,
+            code: 0,
+        },
         days_of(&days, n),
         bytes_of(&kinds, n),
         numbers_of(&amounts, n),

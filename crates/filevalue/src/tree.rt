@@ -12,6 +12,7 @@ use filebond::parts::bytes_of;
 use filebond::parts::days_of;
 use filebond::parts::numbers_of;
 use spreads::spreads::spread_from_price;
+use terms::Settlement;
 use treebasedbondpricer::TreeValue;
 use treevalue::tree::tree_value;
 ghost use mathlib.Core.Path.{_≡_};
@@ -67,7 +68,10 @@ fn answered(
     let f = fields_of(text);
     match ask {
         Ask::Value => of_value(tree_value(
-            f.settlement,
+            Settlement {
+                day: f.settlement,
+                code: 0,
+            },
             days,
             kinds,
             amounts,
@@ -106,7 +110,10 @@ fn answered(
             second,
         ),
         Ask::Spread(target) => of_spread(spread_from_price(
-            f.settlement,
+            Settlement {
+                day: f.settlement,
+                code: 0,
+            },
             days,
             kinds,
             amounts,

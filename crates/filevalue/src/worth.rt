@@ -5,6 +5,7 @@ use filebond::parts::days_of;
 use filebond::parts::numbers_of;
 use floats::finite::not_finite;
 use floats::refusals::overflow_refusal;
+use terms::Settlement;
 use treebasedbondpricer::TreeValue;
 use treevalue::tree::tree_value;
 ghost use mathlib.Core.Path.{_≡_};
@@ -63,7 +64,10 @@ pub fn of_calls(
         (lentOut nodes probabilities first second) ⌝ }
 {
     let called = tree_value(
-        f.settlement,
+        Settlement {
+            day: f.settlement,
+            code: 0,
+        },
         days,
         kinds,
         amounts,
@@ -85,7 +89,10 @@ pub fn of_calls(
         second,
     );
     let uncalled = tree_value(
-        f.settlement,
+        Settlement {
+            day: f.settlement,
+            code: 0,
+        },
         days,
         kinds,
         amounts,

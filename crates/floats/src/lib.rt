@@ -37,6 +37,12 @@ impl Refusal {
     pub const PILLAR_ORDER: u32 = 8;
     // A compounding code unknown, or a frequency unusable.
     pub const RATE: u32 = 9;
+    // A day-count code that is unknown.
+    pub const DAY_COUNT: u32 = 33;
+    // Two pillars at one time.
+    pub const SAME_TIME: u32 = 34;
+    // A maturity whose time is 0.
+    pub const NO_TIME: u32 = 35;
     // More than 256 call notices.
     pub const NOTICE_COUNT: u32 = 41;
     // A notice's series, version or action out of range.

@@ -11,6 +11,7 @@ use crate::grids::hand_grid;
 use crate::handing::hand_over;
 use crate::handing::hand_price;
 use crate::handing::hand_root;
+use terms::Settlement;
 ghost use Rattle.host.specs.Handed.{Handed, HandedGrid, HandedPrice, HandedRoot};
 ghost use Rattle.bondpricer.specs.Straight.{straightValue};
 ghost use Rattle.bondanalytics.specs.Yields.{priceFromYield, yieldFromPrice};
@@ -23,6 +24,7 @@ ghost use Rattle.elementary.specs.Power.{powfAlone};
 ghost use Rattle.rounded.specs.Fused.{mulAddAlone};
 ghost use Rattle.floats.specs.Middle.{midpointAlone};
 ghost use Rattle.bondevents.specs.Grid.{gridAnswer};
+ghost use Rattle.terms.specs.declared.Settlement.{Settlement};
 ghost use Rattle.terms.specs.Slices.{legIn, callsIn, pillarsIn};
 
 // The correctly rounded root; below 0 refused with 26.
@@ -117,6 +119,7 @@ pub extern "C" fn gutirapeo_midpoint(a: f64, b: f64, place: &mut u32, value: &mu
 #[no_mangle]
 pub extern "C" fn gutirapeo_grid(
     settlement: u32,
+    code: u32,
     days: &[u32],
     kinds: &[u8],
     amounts: &[f64],
@@ -134,14 +137,17 @@ pub extern "C" fn gutirapeo_grid(
     prices: &mut [f64; 513],
 ) -> u32
     ensures { λ r. ⌜ HandedGrid
-        (gridAnswer settlement
+        (gridAnswer (record { day = settlement; code = code })
         (record { leg = legIn days kinds amounts; units = units })
         (callsIn starts ends strikes)
         (record { perYear = yearly; maximum = maximum }))
         r (now (place .exit)) (now (maturity .exit)) (now (steps .exit)) (now (cashflows .exit)) (now (marks .exit)) (now (prices .exit)) ⌝ }
 {
     let answer = eventgrid::grid::bond_event_grid(
-        settlement,
+        Settlement {
+            day: settlement,
+            code,
+        },
         days,
         kinds,
         amounts,
@@ -159,6 +165,7 @@ pub extern "C" fn gutirapeo_grid(
 #[no_mangle]
 pub extern "C" fn gutirapeo_straight_value(
     settlement: u32,
+    code: u32,
     days: &[u32],
     kinds: &[u8],
     amounts: &[f64],
@@ -169,14 +176,17 @@ pub extern "C" fn gutirapeo_straight_value(
     value: &mut f64,
 ) -> u32
     ensures { λ r. ⌜ Handed
-        (straightValue settlement
+        (straightValue (record { day = settlement; code = code })
         (legIn days kinds amounts)
         spread
         (pillarsIn pillars factors))
         r (now (place .exit)) (now (value .exit)) ⌝ }
 {
     let answer = bondpricer::straight_value(
-        settlement,
+        Settlement {
+            day: settlement,
+            code,
+        },
         days,
         kinds,
         amounts,
@@ -191,6 +201,7 @@ pub extern "C" fn gutirapeo_straight_value(
 #[no_mangle]
 pub extern "C" fn gutirapeo_price_from_yield(
     settlement: u32,
+    code: u32,
     days: &[u32],
     kinds: &[u8],
     amounts: &[f64],
@@ -202,13 +213,16 @@ pub extern "C" fn gutirapeo_price_from_yield(
     derivative: &mut f64,
 ) -> u32
     ensures { λ r. ⌜ HandedPrice
-        (priceFromYield settlement
+        (priceFromYield (record { day = settlement; code = code })
         (legIn days kinds amounts)
         compounding frequency given)
         r (now (place .exit)) (now (price .exit)) (now (derivative .exit)) ⌝ }
 {
     let answer = bondanalytics::yields::price_from_yield(
-        settlement,
+        Settlement {
+            day: settlement,
+            code,
+        },
         days,
         kinds,
         amounts,
@@ -223,6 +237,7 @@ pub extern "C" fn gutirapeo_price_from_yield(
 #[no_mangle]
 pub extern "C" fn gutirapeo_yield_from_price(
     settlement: u32,
+    code: u32,
     days: &[u32],
     kinds: &[u8],
     amounts: &[f64],
@@ -234,13 +249,16 @@ pub extern "C" fn gutirapeo_yield_from_price(
     evaluations: &mut u32,
 ) -> u32
     ensures { λ r. ⌜ HandedRoot
-        (yieldFromPrice settlement
+        (yieldFromPrice (record { day = settlement; code = code })
         (legIn days kinds amounts)
         compounding frequency target)
         r (now (place .exit)) (now (value .exit)) (now (evaluations .exit)) ⌝ }
 {
     let answer = bondanalytics::yields::yield_from_price(
-        settlement,
+        Settlement {
+            day: settlement,
+            code,
+        },
         days,
         kinds,
         amounts,

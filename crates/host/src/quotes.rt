@@ -1,7 +1,9 @@
 // Spread from price for a C caller: the answer is handed over, and the lent slices are left as the search leaves them.
 
 use crate::handing::hand_root;
+use terms::Settlement;
 ghost use Rattle.host.specs.Handed.{HandedSpread};
+ghost use Rattle.terms.specs.declared.Settlement.{Settlement};
 ghost use Rattle.terms.specs.Slices.{legIn, callsIn, sigmaIn, pillarsIn};
 ghost use Rattle.spreads.specs.Spreads.{quotedIn};
 ghost use Rattle.treebasedbondpricer.specs.Slices.{lentIn, lentOut};
@@ -10,6 +12,7 @@ ghost use Rattle.treebasedbondpricer.specs.Slices.{lentIn, lentOut};
 #[no_mangle]
 pub extern "C" fn gutirapeo_spread_from_price(
     settlement: u32,
+    code: u32,
     cashflow_days: &[u32],
     cashflow_kinds: &[u8],
     cashflow_amounts: &[f64],
@@ -34,7 +37,7 @@ pub extern "C" fn gutirapeo_spread_from_price(
     tried: &mut u32,
 ) -> u32
     ensures { λ r. ⌜ HandedSpread
-        (quotedIn settlement (legIn «cashflow_days» «cashflow_kinds» «cashflow_amounts») units «steps_per_year» «max_steps» alpha
+        (quotedIn (record { day = settlement; code = code }) (legIn «cashflow_days» «cashflow_kinds» «cashflow_amounts») units «steps_per_year» «max_steps» alpha
         (sigmaIn «sigma_times» sigmas) target (pillarsIn «pillar_days» «pillar_factors»))
         (callsIn «call_starts» «call_ends» «call_strikes»)
         (lentIn nodes probabilities «first_row» «second_row»)
@@ -42,7 +45,10 @@ pub extern "C" fn gutirapeo_spread_from_price(
         r (now (place .exit)) (now (spread .exit)) (now (tried .exit)) ⌝ }
 {
     let answer = spreads::spreads::spread_from_price(
-        settlement,
+        Settlement {
+            day: settlement,
+            code,
+        },
         cashflow_days,
         cashflow_kinds,
         cashflow_amounts,

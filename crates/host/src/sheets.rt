@@ -2,7 +2,9 @@
 
 use closingsheet::ClosingLine;
 use closingsheet::entry::closing_line;
+use terms::Settlement;
 ghost use Rattle.host.specs.Sheets.{HandedLine, HandedSheet};
+ghost use Rattle.terms.specs.declared.Settlement.{Settlement};
 ghost use Rattle.terms.specs.Slices.{legIn, callsIn, sigmaIn, pillarsIn, marketIn};
 ghost use Rattle.treebasedbondpricer.specs.Slices.{lentIn, lentOut};
 
@@ -21,6 +23,7 @@ fn hand_line(answer: ClosingLine, place: &mut u32, line: &mut [u8; 35]) -> u32
 pub extern "C" fn gutirapeo_closing_line(
     bond: u32,
     settlement: u32,
+    code: u32,
     cashflow_days: &[u32],
     cashflow_kinds: &[u8],
     cashflow_amounts: &[f64],
@@ -45,7 +48,7 @@ pub extern "C" fn gutirapeo_closing_line(
 ) -> u32
     ensures { λ r. ⌜ HandedSheet
         bond
-        (marketIn settlement (legIn «cashflow_days» «cashflow_kinds» «cashflow_amounts») units «steps_per_year» «max_steps» alpha
+        (marketIn (record { day = settlement; code = code }) (legIn «cashflow_days» «cashflow_kinds» «cashflow_amounts») units «steps_per_year» «max_steps» alpha
         (sigmaIn «sigma_times» sigmas) spread (pillarsIn «pillar_days» «pillar_factors»))
         (callsIn «call_starts» «call_ends» «call_strikes»)
         (lentIn nodes probabilities «first_row» «second_row»)
@@ -54,7 +57,10 @@ pub extern "C" fn gutirapeo_closing_line(
 {
     let answer = closing_line(
         bond,
-        settlement,
+        Settlement {
+            day: settlement,
+            code,
+        },
         cashflow_days,
         cashflow_kinds,
         cashflow_amounts,

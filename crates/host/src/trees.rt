@@ -1,7 +1,9 @@
 // The tree value for a C caller: the answer is handed over, and the lent slices are left as the tree value leaves them.
 
 use crate::handing::hand_value;
+use terms::Settlement;
 ghost use Rattle.host.specs.Handed.{HandedTree};
+ghost use Rattle.terms.specs.declared.Settlement.{Settlement};
 ghost use Rattle.terms.specs.Slices.{legIn, callsIn, sigmaIn, pillarsIn, marketIn};
 ghost use Rattle.treebasedbondpricer.specs.Slices.{lentIn, lentOut};
 
@@ -9,6 +11,7 @@ ghost use Rattle.treebasedbondpricer.specs.Slices.{lentIn, lentOut};
 #[no_mangle]
 pub extern "C" fn gutirapeo_tree_value(
     settlement: u32,
+    code: u32,
     cashflow_days: &[u32],
     cashflow_kinds: &[u8],
     cashflow_amounts: &[f64],
@@ -33,7 +36,7 @@ pub extern "C" fn gutirapeo_tree_value(
     node_count: &mut u64,
 ) -> u32
     ensures { λ r. ⌜ HandedTree
-        (marketIn settlement (legIn «cashflow_days» «cashflow_kinds» «cashflow_amounts») units «steps_per_year» «max_steps» alpha
+        (marketIn (record { day = settlement; code = code }) (legIn «cashflow_days» «cashflow_kinds» «cashflow_amounts») units «steps_per_year» «max_steps» alpha
         (sigmaIn «sigma_times» sigmas) spread (pillarsIn «pillar_days» «pillar_factors»))
         (callsIn «call_starts» «call_ends» «call_strikes»)
         (lentIn nodes probabilities «first_row» «second_row»)
@@ -41,7 +44,10 @@ pub extern "C" fn gutirapeo_tree_value(
         r (now (place .exit)) (now (value .exit)) (now («node_count» .exit)) ⌝ }
 {
     let answer = treevalue::tree::tree_value(
-        settlement,
+        Settlement {
+            day: settlement,
+            code,
+        },
         cashflow_days,
         cashflow_kinds,
         cashflow_amounts,

@@ -10,8 +10,9 @@ use Rattle.floats.specs.Answers.{plusZero, one, onAnswer, notFinite}
 use Rattle.elementary.specs.Exponential.{expAt}
 use Rattle.elementary.specs.Power.{powfAt}
 use Rattle.rounded.specs.Fused.{mulAddAt, mulAdd}
+use Rattle.terms.specs.declared.Epoch.{Epoch}
 use Rattle.terms.specs.Terms.{Leg}
-use Rattle.terms.specs.Times.{yearFraction}
+use Rattle.terms.specs.Times.{timeFrom}
 use Rattle.interestrate.specs.declared.Frequency.{Frequency}
 use Rattle.interestrate.specs.declared.Compounding.{Compounding}
 use Rattle.interestrate.specs.declared.Compounding.the-variants.{Simple, Compounded, Continuous, SimpleThenCompounded, CompoundedThenSimple}
@@ -83,23 +84,23 @@ discountAndDerivative rate time (CompoundedThenSimple f) =
     cond (lt (period f) time) (simply rate time) (compoundly rate time (frequencyFloat f))
 
 -- One flow: both are worked out, and each joins its sum by mul_add.
-unfoldable pub withFlow : Float → Compounding → ℕ → ℕ → Float → Float → Float → YieldPrice
-unfolding discountAndDerivative yearFraction mulAdd
+unfoldable pub withFlow : Float → Compounding → Epoch → ℕ → Float → Float → Float → YieldPrice
+unfolding discountAndDerivative timeFrom mulAdd
 withFlow rate compounding settlement day amount price derivative =
-    fromPrice (discountAndDerivative rate (yearFraction settlement day) compounding) λ discount slope.
+    fromPrice (discountAndDerivative rate (timeFrom settlement day) compounding) λ discount slope.
     fromAnswer (mulAddAt amount discount price 0) λ price.
     fromAnswer (mulAddAt amount slope derivative 0) λ derivative. Price price derivative
 
 -- Flow by flow, the paid ones in list order.
-unfoldable pub flows : Float → Compounding → ℕ → List ℕ → List Float → Float → Float → YieldPrice
+unfoldable pub flows : Float → Compounding → Epoch → List ℕ → List Float → Float → Float → YieldPrice
 unfolding withFlow
 flows rate compounding settlement (day ∷ days) (amount ∷ amounts) price derivative =
     fromPrice
-    (cond (ltb settlement day) (withFlow rate compounding settlement day amount price derivative) (Price price derivative))
+    (cond (ltb (settlement .day) day) (withFlow rate compounding settlement day amount price derivative) (Price price derivative))
     λ price derivative. flows rate compounding settlement days amounts price derivative
 flows rate compounding settlement (day ∷ days) [] price derivative = Price price derivative
 flows rate compounding settlement [] amounts price derivative = Price price derivative
 
 -- yield_price_and_derivative
-abbrev pub priceAndDerivative : ℕ → Leg → RateDefinition → Float → YieldPrice
+abbrev pub priceAndDerivative : Epoch → Leg → RateDefinition → Float → YieldPrice
 priceAndDerivative settlement leg rate y = flows y (rate .compounding) settlement (leg .days) (leg .amounts) plusZero plusZero

@@ -10,7 +10,8 @@ use floats::Refusal;
 use floats::finite::not_finite;
 use floats::refusals::refusal_of;
 use rounded::mul_add::mul_add_at;
-use terms::time::year_fraction;
+use terms::Epoch;
+use terms::time::time_from;
 ghost use mathlib.Core.Path.{_≡_};
 ghost use lib.ListN.{length};
 ghost use Rattle.floats.specs.Answers.{plusZero};
@@ -131,7 +132,7 @@ pub fn yield_discount_and_derivative(rate: f64, time: f64, compounding: Compound
 fn with_flow(
     rate: f64,
     compounding: Compounding,
-    settlement: u32,
+    settlement: Epoch,
     day: u32,
     amount: f64,
     price: f64,
@@ -139,7 +140,7 @@ fn with_flow(
 ) -> YieldPrice
     ensures { λ r. ⌜ r ≡ withFlow rate compounding settlement day amount price derivative ⌝ }
 {
-    let time = year_fraction(settlement, day);
+    let time = time_from(settlement, day);
     let a = yield_discount_and_derivative(rate, time, compounding);
     let YieldPrice::Price(discount, slope) = a else {
         return a;
@@ -157,7 +158,7 @@ fn with_flow(
 
 // The price of the paid cashflows and its derivative, flow by flow.
 pub fn yield_price_and_derivative(
-    settlement: u32,
+    settlement: Epoch,
     days: &[u32],
     amounts: &[f64],
     rate: RateDefinition,
@@ -174,7 +175,7 @@ pub fn yield_price_and_derivative(
         let day = days[i];
         let amount = amounts[i];
         i += 1;
-        if settlement < day {
+        if settlement.day < day {
             let a = with_flow(y, compounding, settlement, day, amount, price, derivative);
             let YieldPrice::Price(p, d) = a else {
                 return a;

@@ -1,19 +1,20 @@
 -- Definitions only. The checks that look at each entry of a market, and whose entry a refusal is about.
 use Prim.Native.Nat.{ℕ}
 use mathlib.Core.Bool.{cond}
+use mathlib.Core.List.{List, [], _∷_, _++_}
 use lib.Dec.{eqb}
 use Rattle.floats.specs.declared.Refusal.{Refusal}
 use Rattle.terms.specs.declared.Check.{Check}
 use Rattle.terms.specs.declared.Check.the-variants.{Passed}
 use Rattle.terms.specs.Numbers.{float}
 use Rattle.terms.specs.Terms.{CallSchedule, Market}
-use Rattle.terms.specs.Checks.{firstOf, settings, settlementDay, legDays, callDays, pillarDays, unitsRange, within, amountRange, strikeRange, sigmaRange, factorRange, callOrder, sigmaOrder, anyPaid}
-use Rattle.terms.specs.Entries.{lateChecks}
+use Rattle.terms.specs.Checks.{firstOf, settings, dayCount, settlementDay, legDays, callDays, pillarDays, unitsRange, within, amountRange, strikeRange, sigmaRange, factorRange, callOrder, sigmaOrder, anyPaid, maturityApart, positiveFactors}
+use Rattle.terms.specs.Entries.{curveOrders}
 use Rattle.places.specs.declared.Whose.{Whose}
 use Rattle.places.specs.declared.Whose.the-variants.{Nobody, Steps, Settlement, Units, Alpha, Spread, Cashflow, Call, Sigma, Pillar}
 use Rattle.places.specs.Places.{whoseDay, whoseField, whoseNumber, whoseOrder}
 
--- Of days, 3; of numbers, 4; of orders, 1 and 5 to 8, with 44 beside 8.
+-- Of days, 3; of numbers, 4; of orders, 1 and 5 to 8, with 33 and 35 beside 7, 34 and 44 beside 8.
 pub record Looks : Type 0 where
   pub day : Check
   pub number : Check
@@ -22,20 +23,26 @@ pub record Looks : Type 0 where
 abbrev pub looks : Check → Check → Check → Looks
 looks day number order = record { day = day; number = number; order = order }
 
+-- 33, 7 and 35.
+abbrev pub settlementOrders : Market → List Check
+settlementOrders m = dayCount (m .settlement .code) ∷ anyPaid (m .settlement .day) (m .bond .leg) ∷ maturityApart (m .settlement) (m .bond .leg) ∷ []
+
+-- 8, 34 and 44.
+abbrev pub pillarOrders : Market → List Check
+pillarOrders m = curveOrders (m .settlement) (m .bond .leg) (m .pillars) ++ positiveFactors (m .pillars) ∷ []
+
 -- Passed where there is no such check.
 unfoldable pub checksOf : Market → CallSchedule → Whose → Looks
 checksOf m calls Nobody = looks Passed Passed Passed
 checksOf m calls Steps = looks Passed Passed (settings (m .controls))
-checksOf m calls Settlement = looks (settlementDay (m .settlement)) Passed (anyPaid (m .settlement) (m .bond .leg))
+checksOf m calls Settlement = looks (settlementDay (m .settlement .day)) Passed (firstOf (settlementOrders m))
 checksOf m calls Units = looks Passed (unitsRange (m .bond .units)) Passed
 checksOf m calls Alpha = looks Passed (within (float 10) (m .model .alpha)) Passed
 checksOf m calls Spread = looks Passed (within (float 1) (m .spread)) Passed
 checksOf m calls Cashflow = looks (legDays (m .bond .leg)) (amountRange (m .bond .leg)) Passed
 checksOf m calls Call = looks (callDays calls) (strikeRange calls) (callOrder calls)
 checksOf m calls Sigma = looks Passed (sigmaRange (m .model .sigma)) (sigmaOrder (m .model .sigma))
-checksOf m calls Pillar =
-    looks (pillarDays (m .pillars)) (factorRange (m .pillars))
-    (firstOf (lateChecks (m .settlement) (m .bond .leg) (m .pillars)))
+checksOf m calls Pillar = looks (pillarDays (m .pillars)) (factorRange (m .pillars)) (firstOf (pillarOrders m))
 
 abbrev pub dayCheck : Market → CallSchedule → Whose → Check
 dayCheck m calls w = checksOf m calls w .day
@@ -50,7 +57,7 @@ orderCheck m calls w = checksOf m calls w .order
 
 abbrev pub blamedDay : Market → CallSchedule → ℕ → Whose
 blamedDay m calls place =
-    whoseDay place (m .settlement) (m .bond .leg .days) (m .bond .leg .kinds) (calls .starts) (calls .ends)
+    whoseDay place (m .settlement .day) (m .bond .leg .days) (m .bond .leg .kinds) (calls .starts) (calls .ends)
 
 -- The first, or the second where the first is nobody.
 unfoldable pub orElse : Whose → Whose → Whose

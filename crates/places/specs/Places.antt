@@ -76,4 +76,7 @@ whoseOrder number =
     (cond (eqb number 6) Sigma
     (cond (eqb number 7) Settlement
     (cond (eqb number 8) Pillar
-    (cond (eqb number 44) Pillar Nobody)))))
+    (cond (eqb number 33) Settlement
+    (cond (eqb number 34) Pillar
+    (cond (eqb number 35) Settlement
+    (cond (eqb number 44) Pillar Nobody))))))))

@@ -4,6 +4,7 @@ use mathlib.Core.Path.{_≡_}
 use lib.Ieee.{Float}
 use Rattle.floats.specs.declared.Refusal.{Refusal}
 use Rattle.terms.specs.declared.Check.the-variants.{Refused}
+use Rattle.terms.specs.declared.Settlement.{Settlement}
 use Rattle.terms.specs.Terms.{Leg, CallSchedule}
 use Rattle.terms.specs.Entries.{targetChecks}
 use Rattle.lattice.specs.Layers.{Room}
@@ -13,7 +14,7 @@ use Rattle.bondanalytics.specs.Yields.{yieldFromPrice}
 use Rattle.spreads.specs.Spreads.{Quoted, quotedChecks, spreadFromPrice}
 
 -- Objective evaluations are reported, at most 386, on refusals too (0 where the input is refused): of yield from price.
-pub record YieldEvaluations (settlement : ℕ) (leg : Leg) (compounding frequency : ℕ) (target : Float) : Type 0 where
+pub record YieldEvaluations (settlement : Settlement) (leg : Leg) (compounding frequency : ℕ) (target : Float) : Type 0 where
   pub at-most-386 : evaluationsOf (yieldFromPrice settlement leg compounding frequency target) ≤ 386
   pub none : (r : Refusal) → targetChecks settlement leg target (rateCheck compounding frequency) ≡ Refused r → evaluationsOf (yieldFromPrice settlement leg compounding frequency target) ≡ 0
 
@@ -24,7 +25,7 @@ pub record SpreadTries (asked : Quoted) (calls : CallSchedule) (room : Room) : T
 
 -- Of every input.
 abbrev pub EveryYield : Type 0
-EveryYield = (settlement : ℕ) (leg : Leg) (compounding frequency : ℕ) (target : Float) → YieldEvaluations settlement leg compounding frequency target
+EveryYield = (settlement : Settlement) (leg : Leg) (compounding frequency : ℕ) (target : Float) → YieldEvaluations settlement leg compounding frequency target
 
 abbrev pub EverySpread : Type 0
 EverySpread = (asked : Quoted) (calls : CallSchedule) (room : Room) → SpreadTries asked calls room

@@ -15,6 +15,7 @@ use Rattle.rounded.specs.Root.{sqrtAt}
 use Rattle.elementary.specs.Exponential.{expAlone, expAt}
 use Rattle.elementary.specs.Logarithm.{lnAlone, lnAt}
 use Rattle.rounded.specs.Fused.{mulAddAlone, mulAdd}
+use Rattle.terms.specs.declared.Settlement.{Settlement}
 use Rattle.terms.specs.Terms.{Leg, CallSchedule, SigmaSchedule, Pillars, Bond, TimeGrid, HullWhite, Market}
 use Rattle.terms.specs.Numbers.{float, epsilon}
 use Rattle.terms.specs.Checks.{lowest, onCheck}
@@ -60,6 +61,10 @@ bondOn day =
       units = float 100;
     }
 
+-- Day 0, times by Actual/365.
+abbrev pub settled : Settlement
+settled = record { day = 0; code = 0 }
+
 abbrev pub noCalls : CallSchedule
 noCalls = record { starts = []; ends = []; strikes = [] }
 
@@ -70,10 +75,10 @@ abbrev pub steps : ℕ → ℕ → TimeGrid
 steps perYear maximum = record { perYear = perYear; maximum = maximum }
 
 abbrev pub stepsFor : ℕ → TimeGrid → ℕ
-stepsFor day controls = gridAnswer 0 (bondOn day) noCalls controls .grid .steps
+stepsFor day controls = gridAnswer settled (bondOn day) noCalls controls .grid .steps
 
 abbrev pub yearAxis : Axis
-yearAxis = axisOf 0 (bondOn 365 .leg) (steps 12 512)
+yearAxis = axisOf settled (bondOn 365 .leg) (steps 12 512)
 
 abbrev pub model : List Float → List Float → HullWhite
 model times sigmas = record { alpha = plusZero; sigma = record { times = times; sigmas = sigmas } }
@@ -87,7 +92,7 @@ nodesOf (refused r) = []
 abbrev pub marketOn : ℕ → TimeGrid → HullWhite → Market
 marketOn day controls m =
     record {
-      settlement = 0;
+      settlement = settled;
       bond = bondOn day;
       controls = controls;
       model = m;
@@ -117,8 +122,8 @@ pub record Starred : Type 0 where
   pub day-15 : stepOf yearAxis 15 ≡ 1
   pub day-46 : stepOf yearAxis 46 ≡ 2
   -- One step, discrete call between: no call price anywhere.
-  pub call-between : gridAnswer 0 (bondOn 365) (callFrom 100 100) (steps 1 512) .grid .calls ≡ replicate 513 newStep
-  pub call-accepted : gridAnswer 0 (bondOn 365) (callFrom 100 100) (steps 1 512) .refusal .number ≡ 0
+  pub call-between : gridAnswer settled (bondOn 365) (callFrom 100 100) (steps 1 512) .grid .calls ≡ replicate 513 newStep
+  pub call-accepted : gridAnswer settled (bondOn 365) (callFrom 100 100) (steps 1 512) .refusal .number ≡ 0
   -- Alpha 0, sigma (0.5, 0.5), (1.0, 1.0), from 0 to 1.25: 0.5.
   pub variance : piecewiseVariance (model (half ∷ one ∷ []) (half ∷ one ∷ [])) plusZero (ofBits binary64 0x3ff4_0000_0000_0000) 0 ≡ answer.Value half
   -- Variance 2^−52 on every step: one node per layer.

@@ -1,5 +1,7 @@
 pub mod Examples
 pub mod Tried
+pub mod DayCounts
+pub mod MonthEnds
 pub mod Rooms
 pub mod RefusalNumbers
 pub mod Probabilities

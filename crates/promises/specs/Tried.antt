@@ -11,6 +11,8 @@ use Rattle.floats.specs.Whole.{rounded}
 use Rattle.rounded.specs.Root.{sqrtAt}
 use Rattle.elementary.specs.Exponential.{expAt, expM1At}
 use Rattle.elementary.specs.Logarithm.{lnAt}
+use Rattle.calendar.specs.Calendar.{thirties}
+use Rattle.terms.specs.declared.Settlement.{Settlement}
 use Rattle.terms.specs.Terms.{Leg, CallSchedule, Pillars, TimeGrid, Market}
 use Rattle.terms.specs.Numbers.{float}
 use Rattle.terms.specs.Checks.{lowest, onCheck}
@@ -45,8 +47,12 @@ steps perYear maximum = record { perYear = perYear; maximum = maximum }
 abbrev room : ℕ → ℕ → ℕ → ℕ → Room
 room nodes probabilities first second = record { nodes = nodes; probabilities = probabilities; first = first; second = second }
 
-abbrev market : ℕ → Leg → Float → TimeGrid → Float → List Float → List Float → Float → Pillars → Market
-market settlement leg units controls alpha times sigmas spread pillars =
+-- A settlement day, its times by Actual/365.
+abbrev on : ℕ → Settlement
+on day = record { day = day; code = 0 }
+
+abbrev marketBy : Settlement → Leg → Float → TimeGrid → Float → List Float → List Float → Float → Pillars → Market
+marketBy settlement leg units controls alpha times sigmas spread pillars =
     record {
       settlement = settlement;
       bond = record { leg = leg; units = units };
@@ -55,6 +61,13 @@ market settlement leg units controls alpha times sigmas spread pillars =
       spread = spread;
       pillars = pillars;
     }
+
+abbrev market : ℕ → Leg → Float → TimeGrid → Float → List Float → List Float → Float → Pillars → Market
+market day = marketBy (on day)
+
+-- 30E/360.
+abbrev thirty : ℕ → Settlement
+thirty day = record { day = day; code = 2 }
 
 abbrev quoted : ℕ → Leg → Float → TimeGrid → Float → List Float → List Float → Float → Pillars → Quoted
 quoted settlement leg units controls alpha times sigmas target pillars = quoting (market settlement leg units controls alpha times sigmas (float 0) pillars) target
@@ -143,6 +156,21 @@ pub number-27 : treeValue (market 100 (leg (465 ∷ 830 ∷ 830 ∷ []) (0 ∷ 0
 unfolding treeValue paidInto rawStep curveOver expAt expM1At lnAt sqrtAt onOutcome onCheck lowest onAnswer rounded ieee.ofBits ieee.add ieee.sub ieee.mul ieee.div ieee.neg ieee.lt ieee.le ieee.ofInt ieee.toSigned
 number-27 = refl
 
+-- No day count has the code 3.
+pub number-33 : treeValue (marketBy (record { day = 100; code = 3 }) (leg (465 ∷ []) (1 ∷ []) ((float 100) ∷ [])) (float 100) (steps 2 512) (ofBits binary64 0x3fb999999999999a) ((float 0) ∷ []) ((ofBits binary64 0x3f847ae147ae147b) ∷ []) (float 0) (pillars (100 ∷ 465 ∷ []) ((float 1) ∷ (float 1) ∷ []))) (calls [] [] []) (room 64 96 9 9) ≡ tree.Refused (record { number = 33; place = 0 })
+unfolding treeValue paidInto rawStep curveOver onOutcome onCheck lowest onAnswer rounded thirties ieee.ofBits ieee.add ieee.sub ieee.mul ieee.div ieee.neg ieee.lt ieee.le ieee.eq ieee.ofInt ieee.toSigned
+number-33 = refl
+
+-- By 30E/360 the pillars of 30 and 31 January 1900 are at one time.
+pub number-34 : treeValue (marketBy (thirty 19) (leg (400 ∷ []) (1 ∷ []) ((float 100) ∷ [])) (float 100) (steps 2 512) (ofBits binary64 0x3fb999999999999a) ((float 0) ∷ []) ((ofBits binary64 0x3f847ae147ae147b) ∷ []) (float 0) (pillars (19 ∷ 29 ∷ 30 ∷ 400 ∷ []) ((float 1) ∷ (float 1) ∷ (float 1) ∷ (float 1) ∷ []))) (calls [] [] []) (room 64 96 9 9) ≡ tree.Refused (record { number = 34; place = 2 })
+unfolding treeValue paidInto rawStep curveOver onOutcome onCheck lowest onAnswer rounded thirties ieee.ofBits ieee.add ieee.sub ieee.mul ieee.div ieee.neg ieee.lt ieee.le ieee.eq ieee.ofInt ieee.toSigned
+number-34 = refl
+
+-- Settled on 30 January 1900, and all paid on the 31st.
+pub number-35 : treeValue (marketBy (thirty 29) (leg (30 ∷ []) (1 ∷ []) ((float 100) ∷ [])) (float 100) (steps 2 512) (ofBits binary64 0x3fb999999999999a) ((float 0) ∷ []) ((ofBits binary64 0x3f847ae147ae147b) ∷ []) (float 0) (pillars (29 ∷ 40 ∷ []) ((float 1) ∷ (float 1) ∷ []))) (calls [] [] []) (room 64 96 9 9) ≡ tree.Refused (record { number = 35; place = 0 })
+unfolding treeValue paidInto rawStep curveOver onOutcome onCheck lowest onAnswer rounded thirties ieee.ofBits ieee.add ieee.sub ieee.mul ieee.div ieee.neg ieee.lt ieee.le ieee.eq ieee.ofInt ieee.toSigned
+number-35 = refl
+
 pub number-44 : treeValue (market 100 (leg (465 ∷ 830 ∷ 830 ∷ []) (0 ∷ 0 ∷ 1 ∷ []) ((float 5) ∷ (float 5) ∷ (float 100) ∷ [])) (float 100) (steps 2 512) (ofBits binary64 0x3fb999999999999a) ((float 0) ∷ (float 1) ∷ []) ((ofBits binary64 0x3f847ae147ae147b) ∷ (ofBits binary64 0x3f889374bc6a7efa) ∷ []) (ofBits binary64 0x3f747ae147ae147b) (pillars (100 ∷ 465 ∷ 900 ∷ []) ((float 1) ∷ (ofBits binary64 0x3fef0a3d70a3d70a) ∷ (ofBits binary64 0xbfedc28f5c28f5c3) ∷ []))) (calls (465 ∷ []) (465 ∷ []) ((float 101) ∷ [])) (room 64 96 9 9) ≡ tree.Refused (record { number = 44; place = 2 })
 unfolding treeValue paidInto rawStep curveOver expAt expM1At lnAt sqrtAt onOutcome onCheck lowest onAnswer rounded ieee.ofBits ieee.add ieee.sub ieee.mul ieee.div ieee.neg ieee.lt ieee.le ieee.ofInt ieee.toSigned
 number-44 = refl
@@ -174,89 +202,89 @@ kept : treeValue (market 0 (leg (1095 ∷ []) (1 ∷ []) ((ofBits binary64 0x426
 unfolding treeValue paidInto rawStep curveOver expAt expM1At lnAt sqrtAt onOutcome onCheck lowest onAnswer rounded ieee.ofBits ieee.add ieee.sub ieee.mul ieee.div ieee.neg ieee.lt ieee.le ieee.ofInt ieee.toSigned
 kept = refl
 
-straight : straightValue 100 (leg (465 ∷ 830 ∷ 830 ∷ []) (0 ∷ 0 ∷ 1 ∷ []) ((float 5) ∷ (float 5) ∷ (float 100) ∷ [])) (ofBits binary64 0x3f747ae147ae147b) (pillars (100 ∷ 465 ∷ 900 ∷ []) ((float 1) ∷ (ofBits binary64 0x3fef0a3d70a3d70a) ∷ (ofBits binary64 0x3fedc28f5c28f5c3) ∷ [])) ≡ answer.Value (ofBits binary64 0x40598a56cf612a92)
+straight : straightValue (on 100) (leg (465 ∷ 830 ∷ 830 ∷ []) (0 ∷ 0 ∷ 1 ∷ []) ((float 5) ∷ (float 5) ∷ (float 100) ∷ [])) (ofBits binary64 0x3f747ae147ae147b) (pillars (100 ∷ 465 ∷ 900 ∷ []) ((float 1) ∷ (ofBits binary64 0x3fef0a3d70a3d70a) ∷ (ofBits binary64 0x3fedc28f5c28f5c3) ∷ [])) ≡ answer.Value (ofBits binary64 0x40598a56cf612a92)
 unfolding straightValue curveOver expAt lnAt onCheck lowest onAnswer rounded ieee.ofBits ieee.add ieee.sub ieee.mul ieee.div ieee.neg ieee.lt ieee.le ieee.ofInt ieee.toSigned
 straight = refl
 
-straight-25 : straightValue 100 (leg (465 ∷ 830 ∷ 830 ∷ []) (0 ∷ 0 ∷ 1 ∷ []) ((float 5) ∷ (float 5) ∷ (float 100) ∷ [])) (ofBits binary64 0x3f747ae147ae147b) (pillars (100 ∷ 465 ∷ 900 ∷ []) ((ofBits binary64 0x9c16c5c5253575) ∷ (ofBits binary64 0x3fef0a3d70a3d70a) ∷ (ofBits binary64 0x3fedc28f5c28f5c3) ∷ [])) ≡ answer.Refused (record { number = 25; place = 0 })
+straight-25 : straightValue (on 100) (leg (465 ∷ 830 ∷ 830 ∷ []) (0 ∷ 0 ∷ 1 ∷ []) ((float 5) ∷ (float 5) ∷ (float 100) ∷ [])) (ofBits binary64 0x3f747ae147ae147b) (pillars (100 ∷ 465 ∷ 900 ∷ []) ((ofBits binary64 0x9c16c5c5253575) ∷ (ofBits binary64 0x3fef0a3d70a3d70a) ∷ (ofBits binary64 0x3fedc28f5c28f5c3) ∷ [])) ≡ answer.Refused (record { number = 25; place = 0 })
 unfolding straightValue curveOver expAt lnAt onCheck lowest onAnswer rounded ieee.ofBits ieee.add ieee.sub ieee.mul ieee.div ieee.neg ieee.lt ieee.le ieee.ofInt ieee.toSigned
 straight-25 = refl
 
-straight-26 : straightValue 100 (leg (465 ∷ 830 ∷ 830 ∷ []) (0 ∷ 0 ∷ 1 ∷ []) ((float 5) ∷ (float 5) ∷ (float 100) ∷ [])) (ofBits binary64 0x3f747ae147ae147b) (pillars (100 ∷ 465 ∷ 900 ∷ []) ((ofBits binary64 0x1) ∷ (ofBits binary64 0x3fef0a3d70a3d70a) ∷ (float 1000) ∷ [])) ≡ answer.Refused (record { number = 26; place = 0 })
+straight-26 : straightValue (on 100) (leg (465 ∷ 830 ∷ 830 ∷ []) (0 ∷ 0 ∷ 1 ∷ []) ((float 5) ∷ (float 5) ∷ (float 100) ∷ [])) (ofBits binary64 0x3f747ae147ae147b) (pillars (100 ∷ 465 ∷ 900 ∷ []) ((ofBits binary64 0x1) ∷ (ofBits binary64 0x3fef0a3d70a3d70a) ∷ (float 1000) ∷ [])) ≡ answer.Refused (record { number = 26; place = 0 })
 unfolding straightValue curveOver expAt lnAt onCheck lowest onAnswer rounded ieee.ofBits ieee.add ieee.sub ieee.mul ieee.div ieee.neg ieee.lt ieee.le ieee.ofInt ieee.toSigned
 straight-26 = refl
 
-straight-27 : straightValue 100 (leg (465 ∷ 830 ∷ 830 ∷ []) (0 ∷ 0 ∷ 1 ∷ []) ((float 5) ∷ (float 5) ∷ (ofBits binary64 0x426d1a94a2000000) ∷ [])) (ofBits binary64 0x3f747ae147ae147b) (pillars (100 ∷ 465 ∷ 900 ∷ []) ((ofBits binary64 0x1a56e1fc2f8f359) ∷ (ofBits binary64 0x3fef0a3d70a3d70a) ∷ (float 1000) ∷ [])) ≡ answer.Refused (record { number = 27; place = 0 })
+straight-27 : straightValue (on 100) (leg (465 ∷ 830 ∷ 830 ∷ []) (0 ∷ 0 ∷ 1 ∷ []) ((float 5) ∷ (float 5) ∷ (ofBits binary64 0x426d1a94a2000000) ∷ [])) (ofBits binary64 0x3f747ae147ae147b) (pillars (100 ∷ 465 ∷ 900 ∷ []) ((ofBits binary64 0x1a56e1fc2f8f359) ∷ (ofBits binary64 0x3fef0a3d70a3d70a) ∷ (float 1000) ∷ [])) ≡ answer.Refused (record { number = 27; place = 0 })
 unfolding straightValue curveOver expAt lnAt onCheck lowest onAnswer rounded ieee.ofBits ieee.add ieee.sub ieee.mul ieee.div ieee.neg ieee.lt ieee.le ieee.ofInt ieee.toSigned
 straight-27 = refl
 
-straight-44 : straightValue 100 (leg (465 ∷ 830 ∷ 830 ∷ []) (0 ∷ 0 ∷ 1 ∷ []) ((float 5) ∷ (float 5) ∷ (float 100) ∷ [])) (ofBits binary64 0x3f747ae147ae147b) (pillars (100 ∷ 465 ∷ 900 ∷ []) ((float 0) ∷ (ofBits binary64 0x3fef0a3d70a3d70a) ∷ (ofBits binary64 0x3fedc28f5c28f5c3) ∷ [])) ≡ answer.Refused (record { number = 44; place = 0 })
+straight-44 : straightValue (on 100) (leg (465 ∷ 830 ∷ 830 ∷ []) (0 ∷ 0 ∷ 1 ∷ []) ((float 5) ∷ (float 5) ∷ (float 100) ∷ [])) (ofBits binary64 0x3f747ae147ae147b) (pillars (100 ∷ 465 ∷ 900 ∷ []) ((float 0) ∷ (ofBits binary64 0x3fef0a3d70a3d70a) ∷ (ofBits binary64 0x3fedc28f5c28f5c3) ∷ [])) ≡ answer.Refused (record { number = 44; place = 0 })
 unfolding straightValue curveOver expAt lnAt onCheck lowest onAnswer rounded ieee.ofBits ieee.add ieee.sub ieee.mul ieee.div ieee.neg ieee.lt ieee.le ieee.ofInt ieee.toSigned
 straight-44 = refl
 
 -- The factor at an inner pillar is exp of its ln, one bit below 0.3; at the last pillar it is 0.3 itself.
-inner-pillar : straightValue 0 (leg (365 ∷ []) (1 ∷ []) ((float 1) ∷ [])) (float 0) (pillars (0 ∷ 365 ∷ 730 ∷ []) ((float 1) ∷ (ofBits binary64 0x3fd3333333333333) ∷ (ofBits binary64 0x3fb999999999999a) ∷ [])) ≡ answer.Value (ofBits binary64 0x3fd3333333333332)
+inner-pillar : straightValue (on 0) (leg (365 ∷ []) (1 ∷ []) ((float 1) ∷ [])) (float 0) (pillars (0 ∷ 365 ∷ 730 ∷ []) ((float 1) ∷ (ofBits binary64 0x3fd3333333333333) ∷ (ofBits binary64 0x3fb999999999999a) ∷ [])) ≡ answer.Value (ofBits binary64 0x3fd3333333333332)
 unfolding straightValue curveOver expAt lnAt onCheck lowest onAnswer rounded ieee.ofBits ieee.add ieee.sub ieee.mul ieee.div ieee.neg ieee.lt ieee.le ieee.ofInt ieee.toSigned
 inner-pillar = refl
 
-last-pillar : straightValue 0 (leg (365 ∷ []) (1 ∷ []) ((float 1) ∷ [])) (float 0) (pillars (0 ∷ 365 ∷ []) ((float 1) ∷ (ofBits binary64 0x3fd3333333333333) ∷ [])) ≡ answer.Value (ofBits binary64 0x3fd3333333333333)
+last-pillar : straightValue (on 0) (leg (365 ∷ []) (1 ∷ []) ((float 1) ∷ [])) (float 0) (pillars (0 ∷ 365 ∷ []) ((float 1) ∷ (ofBits binary64 0x3fd3333333333333) ∷ [])) ≡ answer.Value (ofBits binary64 0x3fd3333333333333)
 unfolding straightValue curveOver expAt lnAt onCheck lowest onAnswer rounded ieee.ofBits ieee.add ieee.sub ieee.mul ieee.div ieee.neg ieee.lt ieee.le ieee.ofInt ieee.toSigned
 last-pillar = refl
 
 -- Only settlement's factor is tested for 25.
-sunk : straightValue 0 (leg (365 ∷ []) (1 ∷ []) ((float 1) ∷ [])) (float 0) (pillars (0 ∷ 365 ∷ 730 ∷ []) ((float 1) ∷ (ofBits binary64 0x9c16c5c5253575) ∷ (float 1) ∷ [])) ≡ answer.Value (float 0)
+sunk : straightValue (on 0) (leg (365 ∷ []) (1 ∷ []) ((float 1) ∷ [])) (float 0) (pillars (0 ∷ 365 ∷ 730 ∷ []) ((float 1) ∷ (ofBits binary64 0x9c16c5c5253575) ∷ (float 1) ∷ [])) ≡ answer.Value (float 0)
 unfolding straightValue curveOver expAt lnAt onCheck lowest onAnswer rounded ieee.ofBits ieee.add ieee.sub ieee.mul ieee.div ieee.neg ieee.lt ieee.le ieee.ofInt ieee.toSigned
 sunk = refl
 
-compounding-0 : priceFromYield 100 (leg (465 ∷ 830 ∷ 830 ∷ []) (0 ∷ 0 ∷ 1 ∷ []) ((float 5) ∷ (float 5) ∷ (float 100) ∷ [])) 0 7 (ofBits binary64 0x3fa5c28f5c28f5c3) ≡ price.Price (ofBits binary64 0x40596480b90b44a9) (ofBits binary64 0xc066df8f5453f2a9)
+compounding-0 : priceFromYield (on 100) (leg (465 ∷ 830 ∷ 830 ∷ []) (0 ∷ 0 ∷ 1 ∷ []) ((float 5) ∷ (float 5) ∷ (float 100) ∷ [])) 0 7 (ofBits binary64 0x3fa5c28f5c28f5c3) ≡ price.Price (ofBits binary64 0x40596480b90b44a9) (ofBits binary64 0xc066df8f5453f2a9)
 unfolding priceFromYield withCode onPrice expAt onOutcome onCheck lowest onAnswer rounded ieee.ofBits ieee.add ieee.sub ieee.mul ieee.div ieee.neg ieee.lt ieee.le ieee.ofInt ieee.toSigned
 compounding-0 = refl
 
-compounding-1 : priceFromYield 100 (leg (465 ∷ 830 ∷ 830 ∷ []) (0 ∷ 0 ∷ 1 ∷ []) ((float 5) ∷ (float 5) ∷ (float 100) ∷ [])) 1 2 (ofBits binary64 0x3fa5c28f5c28f5c3) ≡ price.Price (ofBits binary64 0x405954b9270fd2af) (ofBits binary64 0xc0683792539b00a3)
+compounding-1 : priceFromYield (on 100) (leg (465 ∷ 830 ∷ 830 ∷ []) (0 ∷ 0 ∷ 1 ∷ []) ((float 5) ∷ (float 5) ∷ (float 100) ∷ [])) 1 2 (ofBits binary64 0x3fa5c28f5c28f5c3) ≡ price.Price (ofBits binary64 0x405954b9270fd2af) (ofBits binary64 0xc0683792539b00a3)
 unfolding priceFromYield withCode onPrice expAt onOutcome onCheck lowest onAnswer rounded ieee.ofBits ieee.add ieee.sub ieee.mul ieee.div ieee.neg ieee.lt ieee.le ieee.ofInt ieee.toSigned
 compounding-1 = refl
 
-compounding-2 : priceFromYield 100 (leg (465 ∷ 830 ∷ 830 ∷ []) (0 ∷ 0 ∷ 1 ∷ []) ((float 5) ∷ (float 5) ∷ (float 100) ∷ [])) 2 0 (ofBits binary64 0x3fa5c28f5c28f5c3) ≡ price.Price (ofBits binary64 0x40594f166668d302) (ofBits binary64 0xc068b5beba00714d)
+compounding-2 : priceFromYield (on 100) (leg (465 ∷ 830 ∷ 830 ∷ []) (0 ∷ 0 ∷ 1 ∷ []) ((float 5) ∷ (float 5) ∷ (float 100) ∷ [])) 2 0 (ofBits binary64 0x3fa5c28f5c28f5c3) ≡ price.Price (ofBits binary64 0x40594f166668d302) (ofBits binary64 0xc068b5beba00714d)
 unfolding priceFromYield withCode onPrice expAt onOutcome onCheck lowest onAnswer rounded ieee.ofBits ieee.add ieee.sub ieee.mul ieee.div ieee.neg ieee.lt ieee.le ieee.ofInt ieee.toSigned
 compounding-2 = refl
 
-compounding-3 : priceFromYield 100 (leg (465 ∷ 830 ∷ 830 ∷ []) (0 ∷ 0 ∷ 1 ∷ []) ((float 5) ∷ (float 5) ∷ (float 100) ∷ [])) 3 1 (ofBits binary64 0x3fa5c28f5c28f5c3) ≡ price.Price (ofBits binary64 0x40595a3592d00376) (ofBits binary64 0xc067be6669bea9d0)
+compounding-3 : priceFromYield (on 100) (leg (465 ∷ 830 ∷ 830 ∷ []) (0 ∷ 0 ∷ 1 ∷ []) ((float 5) ∷ (float 5) ∷ (float 100) ∷ [])) 3 1 (ofBits binary64 0x3fa5c28f5c28f5c3) ≡ price.Price (ofBits binary64 0x40595a3592d00376) (ofBits binary64 0xc067be6669bea9d0)
 unfolding priceFromYield withCode onPrice expAt onOutcome onCheck lowest onAnswer rounded ieee.ofBits ieee.add ieee.sub ieee.mul ieee.div ieee.neg ieee.lt ieee.le ieee.ofInt ieee.toSigned
 compounding-3 = refl
 
-compounding-4 : priceFromYield 100 (leg (465 ∷ 830 ∷ 830 ∷ []) (0 ∷ 0 ∷ 1 ∷ []) ((float 5) ∷ (float 5) ∷ (float 100) ∷ [])) 4 1 (ofBits binary64 0x3fa5c28f5c28f5c3) ≡ price.Price (ofBits binary64 0x40596480b90b44a9) (ofBits binary64 0xc066df8f5453f2a9)
+compounding-4 : priceFromYield (on 100) (leg (465 ∷ 830 ∷ 830 ∷ []) (0 ∷ 0 ∷ 1 ∷ []) ((float 5) ∷ (float 5) ∷ (float 100) ∷ [])) 4 1 (ofBits binary64 0x3fa5c28f5c28f5c3) ≡ price.Price (ofBits binary64 0x40596480b90b44a9) (ofBits binary64 0xc066df8f5453f2a9)
 unfolding priceFromYield withCode onPrice expAt onOutcome onCheck lowest onAnswer rounded ieee.ofBits ieee.add ieee.sub ieee.mul ieee.div ieee.neg ieee.lt ieee.le ieee.ofInt ieee.toSigned
 compounding-4 = refl
 
-price-9 : priceFromYield 100 (leg (465 ∷ 830 ∷ 830 ∷ []) (0 ∷ 0 ∷ 1 ∷ []) ((float 5) ∷ (float 5) ∷ (float 100) ∷ [])) 3 5 (ofBits binary64 0x3fa47ae147ae147b) ≡ price.Refused (record { number = 9; place = 0 })
+price-9 : priceFromYield (on 100) (leg (465 ∷ 830 ∷ 830 ∷ []) (0 ∷ 0 ∷ 1 ∷ []) ((float 5) ∷ (float 5) ∷ (float 100) ∷ [])) 3 5 (ofBits binary64 0x3fa47ae147ae147b) ≡ price.Refused (record { number = 9; place = 0 })
 unfolding priceFromYield withCode onPrice expAt onOutcome onCheck lowest onAnswer rounded ieee.ofBits ieee.add ieee.sub ieee.mul ieee.div ieee.neg ieee.lt ieee.le ieee.ofInt ieee.toSigned
 price-9 = refl
 
-price-9-code : priceFromYield 100 (leg (465 ∷ 830 ∷ 830 ∷ []) (0 ∷ 0 ∷ 1 ∷ []) ((float 5) ∷ (float 5) ∷ (float 100) ∷ [])) 5 1 (ofBits binary64 0x3fa47ae147ae147b) ≡ price.Refused (record { number = 9; place = 0 })
+price-9-code : priceFromYield (on 100) (leg (465 ∷ 830 ∷ 830 ∷ []) (0 ∷ 0 ∷ 1 ∷ []) ((float 5) ∷ (float 5) ∷ (float 100) ∷ [])) 5 1 (ofBits binary64 0x3fa47ae147ae147b) ≡ price.Refused (record { number = 9; place = 0 })
 unfolding priceFromYield withCode onPrice expAt onOutcome onCheck lowest onAnswer rounded ieee.ofBits ieee.add ieee.sub ieee.mul ieee.div ieee.neg ieee.lt ieee.le ieee.ofInt ieee.toSigned
 price-9-code = refl
 
-price-4 : priceFromYield 100 (leg (465 ∷ 830 ∷ 830 ∷ []) (0 ∷ 0 ∷ 1 ∷ []) ((float 5) ∷ (float 5) ∷ (float 100) ∷ [])) 0 1 (float 1000001) ≡ price.Refused (record { number = 4; place = 0 })
+price-4 : priceFromYield (on 100) (leg (465 ∷ 830 ∷ 830 ∷ []) (0 ∷ 0 ∷ 1 ∷ []) ((float 5) ∷ (float 5) ∷ (float 100) ∷ [])) 0 1 (float 1000001) ≡ price.Refused (record { number = 4; place = 0 })
 unfolding priceFromYield withCode onPrice expAt onOutcome onCheck lowest onAnswer rounded ieee.ofBits ieee.add ieee.sub ieee.mul ieee.div ieee.neg ieee.lt ieee.le ieee.ofInt ieee.toSigned
 price-4 = refl
 
-price-28 : priceFromYield 100 (leg (465 ∷ 830 ∷ 830 ∷ []) (0 ∷ 0 ∷ 1 ∷ []) ((float 5) ∷ (float 5) ∷ (float 100) ∷ [])) 1 2 (ofBits binary64 0xc000000000000000) ≡ price.Refused (record { number = 28; place = 0 })
+price-28 : priceFromYield (on 100) (leg (465 ∷ 830 ∷ 830 ∷ []) (0 ∷ 0 ∷ 1 ∷ []) ((float 5) ∷ (float 5) ∷ (float 100) ∷ [])) 1 2 (ofBits binary64 0xc000000000000000) ≡ price.Refused (record { number = 28; place = 0 })
 unfolding priceFromYield withCode onPrice expAt onOutcome onCheck lowest onAnswer rounded ieee.ofBits ieee.add ieee.sub ieee.mul ieee.div ieee.neg ieee.lt ieee.le ieee.ofInt ieee.toSigned
 price-28 = refl
 
-yield : yieldFromPrice 100 (leg (465 ∷ 830 ∷ 830 ∷ []) (0 ∷ 0 ∷ 1 ∷ []) ((float 5) ∷ (float 5) ∷ (float 100) ∷ [])) 0 1 (ofBits binary64 0x4059e00000000000) ≡ root.Found (ofBits binary64 0x3fa07669e83d199b) 42
+yield : yieldFromPrice (on 100) (leg (465 ∷ 830 ∷ 830 ∷ []) (0 ∷ 0 ∷ 1 ∷ []) ((float 5) ∷ (float 5) ∷ (float 100) ∷ [])) 0 1 (ofBits binary64 0x4059e00000000000) ≡ root.Found (ofBits binary64 0x3fa07669e83d199b) 42
 unfolding yieldFromPrice withCode onPrice expAt onOutcome onCheck lowest onAnswer rounded ieee.ofBits ieee.add ieee.sub ieee.mul ieee.div ieee.neg ieee.lt ieee.le ieee.ofInt ieee.toSigned
 yield = refl
 
-yield-29 : yieldFromPrice 0 (leg (365 ∷ []) (1 ∷ []) ((float 1) ∷ [])) 0 1 (ofBits binary64 0xbff0000000000000) ≡ root.Refused (record { number = 29; place = 0 }) 66
+yield-29 : yieldFromPrice (on 0) (leg (365 ∷ []) (1 ∷ []) ((float 1) ∷ [])) 0 1 (ofBits binary64 0xbff0000000000000) ≡ root.Refused (record { number = 29; place = 0 }) 66
 unfolding yieldFromPrice withCode onPrice expAt onOutcome onCheck lowest onAnswer rounded ieee.ofBits ieee.add ieee.sub ieee.mul ieee.div ieee.neg ieee.lt ieee.le ieee.ofInt ieee.toSigned
 yield-29 = refl
 
-yield-28 : yieldFromPrice 0 (leg (365 ∷ []) (1 ∷ []) ((float 1) ∷ [])) 0 1 (float 1000000) ≡ root.Refused (record { number = 28; place = 0 }) 7
+yield-28 : yieldFromPrice (on 0) (leg (365 ∷ []) (1 ∷ []) ((float 1) ∷ [])) 0 1 (float 1000000) ≡ root.Refused (record { number = 28; place = 0 }) 7
 unfolding yieldFromPrice withCode onPrice expAt onOutcome onCheck lowest onAnswer rounded ieee.ofBits ieee.add ieee.sub ieee.mul ieee.div ieee.neg ieee.lt ieee.le ieee.ofInt ieee.toSigned
 yield-28 = refl
 
-yield-28-first : yieldFromPrice 0 (leg (10950 ∷ []) (1 ∷ []) ((float 1) ∷ [])) 0 1 (float 1) ≡ root.Refused (record { number = 28; place = 0 }) 1
+yield-28-first : yieldFromPrice (on 0) (leg (10950 ∷ []) (1 ∷ []) ((float 1) ∷ [])) 0 1 (float 1) ≡ root.Refused (record { number = 28; place = 0 }) 1
 unfolding yieldFromPrice withCode onPrice expAt onOutcome onCheck lowest onAnswer rounded ieee.ofBits ieee.add ieee.sub ieee.mul ieee.div ieee.neg ieee.lt ieee.le ieee.ofInt ieee.toSigned
 yield-28-first = refl
 
@@ -267,7 +295,7 @@ yield-30 :
 unfolding bracketedRoot onAnswer ieee.ofBits ieee.add ieee.lt ieee.div ieee.ofInt
 yield-30 = refl
 
-yield-4 : yieldFromPrice 0 (leg (365 ∷ 701 ∷ []) (0 ∷ 1 ∷ []) ((ofBits binary64 0x426d1a94a2000000) ∷ (ofBits binary64 0x42645f680b000000) ∷ [])) 0 1 (ofBits binary64 0x431c6bf526340000) ≡ root.Refused (record { number = 4; place = 0 }) 0
+yield-4 : yieldFromPrice (on 0) (leg (365 ∷ 701 ∷ []) (0 ∷ 1 ∷ []) ((ofBits binary64 0x426d1a94a2000000) ∷ (ofBits binary64 0x42645f680b000000) ∷ [])) 0 1 (ofBits binary64 0x431c6bf526340000) ≡ root.Refused (record { number = 4; place = 0 }) 0
 unfolding yieldFromPrice withCode onPrice expAt onOutcome onCheck lowest onAnswer rounded ieee.ofBits ieee.add ieee.sub ieee.mul ieee.div ieee.neg ieee.lt ieee.le ieee.ofInt ieee.toSigned
 yield-4 = refl
 

@@ -5,6 +5,7 @@ use crate::lists::eight_floats;
 use crate::lists::eight_numbers;
 use crate::record::float;
 use crate::record::number;
+use crate::record::settlement_of;
 use bondevents::GridAnswer;
 
 // Whether a step is what the record holds of it.
@@ -51,31 +52,31 @@ fn same_grid(answer: GridAnswer, record: &[u8; 1280]) -> bool {
 
 // The inputs that a record holds: of the lists the first `flows` and the first `entries` count.
 pub(crate) fn same(record: &[u8; 1280]) -> bool {
-    let flows = number(record, 2) as usize;
-    let entries = number(record, 28) as usize;
+    let flows = number(record, 3) as usize;
+    let entries = number(record, 29) as usize;
     if flows > 8 {
         return false;
     }
     if entries > 4 {
         return false;
     }
-    let days = eight_numbers(record, 3);
-    let kinds = eight_bytes(record, 11);
-    let amounts = eight_floats(record, 19);
-    let starts = eight_numbers(record, 29);
-    let ends = eight_numbers(record, 33);
-    let strikes = eight_floats(record, 37);
+    let days = eight_numbers(record, 4);
+    let kinds = eight_bytes(record, 12);
+    let amounts = eight_floats(record, 20);
+    let starts = eight_numbers(record, 30);
+    let ends = eight_numbers(record, 34);
+    let strikes = eight_floats(record, 38);
     let answer = eventgrid::grid::bond_event_grid(
-        number(record, 1),
+        settlement_of(record),
         &days[..flows],
         &kinds[..flows],
         &amounts[..flows],
-        float(record, 27),
+        float(record, 28),
         &starts[..entries],
         &ends[..entries],
         &strikes[..entries],
-        number(record, 41),
         number(record, 42),
+        number(record, 43),
     );
     same_grid(answer, record)
 }

@@ -1,5 +1,6 @@
 // A record of the sample: 160 words of 64 bits, little-endian. A word past the end is 0.
 ghost use Prim.Native.Nat.{_<_};
+use terms::Settlement;
 
 fn wide(byte: u8) -> u64
     ensures { λ r. ⌜ r < 256 ⌝ }
@@ -37,6 +38,14 @@ pub(crate) fn number(record: &[u8; 1280], at: usize) -> u32 {
         return 4294967295;
     }
     n as u32
+}
+
+// The settlement day and the day count's code, the first two words behind the kind.
+pub(crate) fn settlement_of(record: &[u8; 1280]) -> Settlement {
+    Settlement {
+        day: number(record, 1),
+        code: number(record, 2),
+    }
 }
 
 // A word as a byte, the greatest where it does not fit.

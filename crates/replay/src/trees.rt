@@ -7,6 +7,7 @@ use crate::lists::eight_numbers;
 use crate::quotes;
 use crate::record::float;
 use crate::record::number;
+use crate::record::settlement_of;
 use crate::record::word;
 use treebasedbondpricer::TreeValue;
 
@@ -43,9 +44,15 @@ fn all_floats(xs: &[f64], x: f64) -> bool {
     true
 }
 
-// Whether a refusal is the input's: 1 to 8, or 44.
+// Whether a refusal is the input's: 1 to 8, 33 to 35, or 44.
 fn of_input(refused: u32) -> bool {
-    refused > 0 && (refused < 9 || refused == 44)
+    if refused > 0 && refused < 9 {
+        return true;
+    }
+    if refused > 32 && refused < 36 {
+        return true;
+    }
+    refused == 44
 }
 
 // Whether the slices, filled with 7, are still so after a refusal of the input, and else all zero.
@@ -76,10 +83,10 @@ fn answered(
     first: &mut [f64],
     second: &mut [f64],
 ) -> bool {
-    let flows = number(record, 2) as usize;
-    let entries = number(record, 28) as usize;
-    let levels = number(record, 44) as usize;
-    let points = number(record, 54) as usize;
+    let flows = number(record, 3) as usize;
+    let entries = number(record, 29) as usize;
+    let levels = number(record, 45) as usize;
+    let points = number(record, 55) as usize;
     if flows > 8 {
         return false;
     }
@@ -92,31 +99,31 @@ fn answered(
     if points > 8 {
         return false;
     }
-    let days = eight_numbers(record, 3);
-    let kinds = eight_bytes(record, 11);
-    let amounts = eight_floats(record, 19);
-    let starts = eight_numbers(record, 29);
-    let ends = eight_numbers(record, 33);
-    let strikes = eight_floats(record, 37);
-    let times = eight_floats(record, 45);
-    let sigmas = eight_floats(record, 49);
-    let pillars = eight_numbers(record, 55);
-    let factors = eight_floats(record, 63);
+    let days = eight_numbers(record, 4);
+    let kinds = eight_bytes(record, 12);
+    let amounts = eight_floats(record, 20);
+    let starts = eight_numbers(record, 30);
+    let ends = eight_numbers(record, 34);
+    let strikes = eight_floats(record, 38);
+    let times = eight_floats(record, 46);
+    let sigmas = eight_floats(record, 50);
+    let pillars = eight_numbers(record, 56);
+    let factors = eight_floats(record, 64);
     let answer = treevalue::tree::tree_value(
-        number(record, 1),
+        settlement_of(record),
         &days[..flows],
         &kinds[..flows],
         &amounts[..flows],
-        float(record, 27),
+        float(record, 28),
         &starts[..entries],
         &ends[..entries],
         &strikes[..entries],
-        number(record, 41),
         number(record, 42),
-        float(record, 43),
+        number(record, 43),
+        float(record, 44),
         &times[..levels],
         &sigmas[..levels],
-        float(record, 53),
+        float(record, 54),
         &pillars[..points],
         &factors[..points],
         nodes,

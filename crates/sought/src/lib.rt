@@ -1,5 +1,6 @@
 // What bracketed_root evaluates: a yield's price or a spread's tree value, less the target.
 use interestrate::RateDefinition;
+use terms::Epoch;
 
 pub mod objectives;
 
@@ -13,7 +14,7 @@ pub enum Priced {
 pub struct Sought {
     pub priced: Priced,
     pub rate: RateDefinition,
-    pub settlement: u32,
+    pub settlement: Epoch,
     pub target: f64,
     pub dt: f64,
     pub flat: bool,

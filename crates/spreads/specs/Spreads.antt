@@ -8,6 +8,7 @@ use Rattle.floats.specs.declared.Answer.{Answer}
 use Rattle.floats.specs.declared.Answer.the-variants as answer
 use Rattle.floats.specs.Answers.{one, refusal, tested}
 use Rattle.terms.specs.declared.Check.{Check}
+use Rattle.terms.specs.declared.Settlement.{Settlement}
 use Rattle.terms.specs.Terms.{Leg, CallSchedule, SigmaSchedule, Pillars, Bond, TimeGrid, HullWhite, Market}
 use Rattle.terms.specs.Checks.{onCheck}
 use Rattle.terms.specs.Entries.{spreadChecks}
@@ -29,7 +30,7 @@ onTreeValue (tree.Refused r) f g = f r
 
 -- What spread from price takes, but for the call entries and the lent slices: the tree value's terms, with a target in place of a spread.
 pub record Quoted : Type 0 where
-  pub settlement : ℕ
+  pub settlement : Settlement
   pub bond : Bond
   pub controls : TimeGrid
   pub model : HullWhite
@@ -93,7 +94,7 @@ pub record Solved (q : Quoted) (calls : CallSchedule) (answer : Root) (before af
   pub slices : after ≡ lentAfter q calls before
 
 -- What a call brings, gathered.
-abbrev pub quotedIn : ℕ → Leg → Float → ℕ → ℕ → Float → SigmaSchedule → Float → Pillars → Quoted
+abbrev pub quotedIn : Settlement → Leg → Float → ℕ → ℕ → Float → SigmaSchedule → Float → Pillars → Quoted
 quotedIn settlement leg units yearly maximum alpha sigma target pillars =
     record {
       settlement = settlement;

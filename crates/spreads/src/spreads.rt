@@ -11,7 +11,10 @@ use interestrate::RateDefinition;
 use sought::Priced;
 use sought::Sought;
 use terms::Check;
+use terms::Epoch;
+use terms::Settlement;
 use terms::curve::pillar_times;
+use terms::curve::timed_pillars;
 use treebasedbondpricer::fitted::FittedTree;
 use treebasedbondpricer::fitted::fitted_tree;
 use treebasedbondpricer::zero::zero_floats;
@@ -21,7 +24,7 @@ ghost use Prim.Native.Nat.{_+_, _<_, _≤_};
 ghost use lib.ListN.{length};
 ghost use lib.Ieee.{binary64, div};
 ghost use Rattle.terms.specs.Numbers.{float};
-ghost use Rattle.terms.specs.Curve.{curveOver};
+ghost use Rattle.terms.specs.Curve.{curveOver, pillarTimes};
 ghost use Rattle.terms.specs.Outcomes.{finiteThen};
 ghost use Rattle.hullwhite.specs.laws.Filled.{modelOf};
 ghost use Rattle.backwardinduction.specs.laws.WalkMore.{callsOf};
@@ -86,7 +89,11 @@ fn solve_over(
         rate: RateDefinition {
             compounding: Compounding::Simple,
         },
-        settlement: 0,
+        settlement: Epoch {
+            day: 0,
+            code: 0,
+            count: 0,
+        },
         target,
         dt,
         flat,
@@ -167,7 +174,7 @@ fn solve_grid(
 
 // The grid of checked terms, then the root.
 fn checked_spread(
-    settlement: u32,
+    settlement: Settlement,
     days: &[u32],
     kinds: &[u8],
     amounts: &[f64],
@@ -183,6 +190,7 @@ fn checked_spread(
     target: f64,
     pillars: &[u32],
     factors: &[f64],
+    curve_times: &[f64],
     nodes: &mut [i32],
     probabilities: &mut [f64],
     first: &mut [f64],
@@ -191,7 +199,7 @@ fn checked_spread(
     requires { ⌜ (1 ≤ maximum) × (maximum ≤ 512) ⌝ }
     requires { ⌜ (length (now days) ≤ 256) × (length (now kinds) ≡ length (now days)) × (length (now amounts) ≡ length (now days)) ⌝ }
     requires { ⌜ (length (now ends) ≡ length (now starts)) × (length (now strikes) ≡ length (now starts)) ⌝ }
-    requires { ⌜ length (now pillars) ≤ 256 ⌝ }
+    requires { ⌜ now «curve_times» ≡ pillarTimes settlement (now pillars) ⌝ }
     ensures { λ r. ⌜ r ≡ foundFor
         (quotedIn settlement (legIn days kinds amounts) units yearly maximum alpha (sigmaIn times sigmas) target (pillarsIn pillars factors))
         (callsIn starts ends strikes)
@@ -214,14 +222,13 @@ fn checked_spread(
         return Root::Refused(refusal, 1);
     }
     let grid = answer.grid;
-    let curve_times = pillar_times(settlement, pillars);
     solve_grid(
         grid,
         alpha,
         times,
         sigmas,
         target,
-        &curve_times[..pillars.len()],
+        curve_times,
         factors,
         nodes,
         probabilities,
@@ -232,7 +239,7 @@ fn checked_spread(
 
 // The spread at which the tree value is the target, and the number of spreads tried. The lent slices are untouched after an input refusal, else all zero.
 pub fn spread_from_price(
-    settlement: u32,
+    settlement: Settlement,
     cashflow_days: &[u32],
     cashflow_kinds: &[u8],
     cashflow_amounts: &[f64],
@@ -261,6 +268,8 @@ pub fn spread_from_price(
         (lentIn nodes probabilities «first_row» «second_row»)
         (lentOut nodes probabilities «first_row» «second_row») ⌝ }
 {
+    let table = pillar_times(settlement, pillar_days);
+    let count = timed_pillars(pillar_days);
     let check = spread_checks(
         settlement,
         cashflow_days,
@@ -278,6 +287,7 @@ pub fn spread_from_price(
         target,
         pillar_days,
         pillar_factors,
+        &table[..count],
     );
     if let Check::Refused(refusal) = check {
         return Root::Refused(refusal, 0);
@@ -299,6 +309,7 @@ pub fn spread_from_price(
         target,
         pillar_days,
         pillar_factors,
+        &table[..count],
         nodes,
         probabilities,
         first_row,

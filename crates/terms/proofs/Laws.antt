@@ -9,12 +9,13 @@ use lib.Dec.{ltb, leb·suc-zero}
 use borrow.Author.Needs.{needs}
 use borrow.Author.Tests.{lt-ltb, le-ltb, le-leb, lt-leb, eq-eqb, ne-eqb}
 use Rattle.floats.specs.declared.Refusal.{Refusal}
+use Rattle.terms.specs.declared.Settlement.{Settlement}
 use Rattle.terms.specs.declared.Check.{Check}
 use Rattle.terms.specs.declared.Check.the-variants.{Passed, Refused}
-use Rattle.terms.specs.Checks.{onCheck, firstOf, single, outside, legCount, anyPaid}
+use Rattle.terms.specs.Checks.{onCheck, firstOf, single, outside, anyPaid}
 use lib.Ieee.{Float}
 use Rattle.terms.specs.Terms.{Leg, CallSchedule, Pillars, Bond, TimeGrid, Market}
-use Rattle.terms.specs.Entries.{settingChecks, gridCounts, gridDays, gridNumbers, gridOrders, gridChecks, treeCounts, treeDays, treeNumbers, treeOrders, lateChecks, marketChecks, straightCounts, straightDays, straightNumbers, straightOrders, straightChecks, yieldDays, yieldNumbers, yieldChecks}
+use Rattle.terms.specs.Entries.{settingChecks, gridCounts, gridDays, gridNumbers, gridOrders, gridChecks, treeCounts, treeDays, treeNumbers, treeOrders, lateChecks, marketChecks, straightCounts, straightDays, straightNumbers, straightOrders, straightChecks, yieldCounts, yieldDays, yieldNumbers, yieldChecks}
 use Rattle.terms.specs.laws.Sequence.{passes-of-first, first-after}
 use Rattle.terms.specs.laws.Stages.{first-stopped, grid-in-stages, market-in-stages, straight-in-stages, yield-in-stages}
 use Rattle.floats.proofs.Laws.{taken, left}
@@ -111,14 +112,14 @@ pub ruleset sequence = (passed-first, refused-first, only-one, needs)
 
 -- ---- an entry's checks by their stages
 
-pub as-grid : {r : Check} (d : ℕ) (b : Bond) (k : CallSchedule) (g : TimeGrid) → r ≡ firstOf (firstOf (settingChecks g ++ gridCounts (b .leg) k) ∷ firstOf (gridDays d (b .leg) k) ∷ firstOf (gridNumbers (b .units) (b .leg) k) ∷ firstOf (gridOrders d (b .leg) k) ∷ []) → r ≡ gridChecks d b k g
-as-grid d b k g p = p ∙ sym (grid-in-stages d b k g)
+pub as-grid : {r : Check} (s : Settlement) (b : Bond) (k : CallSchedule) (g : TimeGrid) → r ≡ firstOf (firstOf (settingChecks g (s .code) ++ gridCounts (b .leg) k) ∷ firstOf (gridDays (s .day) (b .leg) k) ∷ firstOf (gridNumbers (b .units) (b .leg) k) ∷ firstOf (gridOrders s (b .leg) k) ∷ []) → r ≡ gridChecks s b k g
+as-grid s b k g p = p ∙ sym (grid-in-stages s b k g)
 
-pub as-market : {r : Check} (limit : Float) (m : Market) (k : CallSchedule) → r ≡ firstOf (firstOf (settingChecks (m .controls) ++ treeCounts (m .bond .leg) k (m .model .sigma) (m .pillars)) ∷ firstOf (treeDays (m .settlement) (m .bond .leg) k (m .pillars)) ∷ firstOf (treeNumbers limit (m .bond .units) (m .model .alpha) (m .spread) (m .bond .leg) k (m .model .sigma) (m .pillars)) ∷ firstOf (treeOrders (m .settlement) (m .bond .leg) k (m .model .sigma)) ∷ firstOf (lateChecks (m .settlement) (m .bond .leg) (m .pillars)) ∷ []) → r ≡ marketChecks limit m k
+pub as-market : {r : Check} (limit : Float) (m : Market) (k : CallSchedule) → r ≡ firstOf (firstOf (settingChecks (m .controls) (m .settlement .code) ++ treeCounts (m .bond .leg) k (m .model .sigma) (m .pillars)) ∷ firstOf (treeDays (m .settlement .day) (m .bond .leg) k (m .pillars)) ∷ firstOf (treeNumbers limit (m .bond .units) (m .model .alpha) (m .spread) (m .bond .leg) k (m .model .sigma) (m .pillars)) ∷ firstOf (treeOrders (m .settlement .day) (m .bond .leg) k (m .model .sigma)) ∷ firstOf (lateChecks (m .settlement) (m .bond .leg) (m .pillars)) ∷ []) → r ≡ marketChecks limit m k
 as-market limit m k p = p ∙ sym (market-in-stages limit m k)
 
-pub as-straight : {r : Check} (d : ℕ) (l : Leg) (spread : Float) (q : Pillars) → r ≡ firstOf (firstOf (straightCounts l q) ∷ firstOf (straightDays d l q) ∷ firstOf (straightNumbers spread l q) ∷ firstOf (straightOrders d l q) ∷ []) → r ≡ straightChecks d l spread q
-as-straight d l spread q p = p ∙ sym (straight-in-stages d l spread q)
+pub as-straight : {r : Check} (s : Settlement) (l : Leg) (spread : Float) (q : Pillars) → r ≡ firstOf (firstOf (straightCounts (s .code) l q) ∷ firstOf (straightDays (s .day) l q) ∷ firstOf (straightNumbers spread l q) ∷ firstOf (straightOrders s l q) ∷ []) → r ≡ straightChecks s l spread q
+as-straight s l spread q p = p ∙ sym (straight-in-stages s l spread q)
 
-pub as-yield : {r : Check} (limit : Float) (d : ℕ) (l : Leg) (x : Float) (rate : Check) → r ≡ firstOf (legCount l ∷ firstOf (yieldDays d l) ∷ firstOf (yieldNumbers limit x l) ∷ anyPaid d l ∷ rate ∷ []) → r ≡ yieldChecks limit d l x rate
-as-yield limit d l x rate p = p ∙ sym (yield-in-stages limit d l x rate)
+pub as-yield : {r : Check} (limit : Float) (s : Settlement) (l : Leg) (x : Float) (rate : Check) → r ≡ firstOf (firstOf (yieldCounts (s .code) l) ∷ firstOf (yieldDays (s .day) l) ∷ firstOf (yieldNumbers limit x l) ∷ anyPaid (s .day) l ∷ rate ∷ []) → r ≡ yieldChecks limit s l x rate
+as-yield limit s l x rate p = p ∙ sym (yield-in-stages limit s l x rate)

@@ -4,14 +4,17 @@ use mathlib.Core.Bool.{Bool, true, false, not, cond, _&&_, _||_}
 use mathlib.Core.List.{List, [], _∷_}
 use lib.ListN.{length, getD}
 use lib.Dec.{eqb, ltb, leb}
-use lib.Ieee.{Float, neg, lt, le}
+use lib.Ieee.{Float, neg, lt, le, eq}
 use Rattle.floats.specs.declared.Refusal.{Refusal}
 use Rattle.floats.specs.declared.Answer.{Answer}
 use Rattle.floats.specs.Answers.{plusZero, onAnswer, notFinite}
+use Rattle.terms.specs.declared.Settlement.{Settlement}
 use Rattle.terms.specs.declared.Check.{Check}
 use Rattle.terms.specs.declared.Check.the-variants.{Passed, Refused}
 use Rattle.terms.specs.Numbers.{float, amountLimit, million}
 use Rattle.terms.specs.Terms.{Leg, CallSchedule, SigmaSchedule, Pillars, TimeGrid}
+use Rattle.terms.specs.Times.{yearFraction}
+use Rattle.terms.specs.Curve.{pillarTimes}
 
 -- ---- how checks follow one another
 
@@ -68,6 +71,12 @@ notUpTo limit x = notFinite x || (lt x plusZero || lt limit x)
 -- Steps per year 1 to 366, maximum steps 1 to 512.
 abbrev pub settings : TimeGrid → Check
 settings g = single 1 0 (outside 1 366 (g .perYear) || outside 1 512 (g .maximum))
+
+-- ---- 33: a day-count code that is unknown
+
+-- 0 Actual/365, 1 Actual/360, 2 30E/360.
+abbrev pub dayCount : ℕ → Check
+dayCount code = single 33 0 (ltb 2 code)
 
 -- ---- 2: a list's count outside its limits, or parallel slices of unequal length
 
@@ -167,6 +176,20 @@ pillarOrder settlement maturity p =
     (leb (getD (p .days) i 0) (getD (p .days) (i - 1) 0)
     || (eqb i (length (p .days) - 1) && ltb (getD (p .days) i 0) maturity)))
     (p .days)
+
+-- ---- 34: two pillars at one time
+
+-- The later one is the place. Times never fall where 8 passed, so two at one time are neighbours.
+abbrev pub sameTimes : List Float → Check
+sameTimes times = indexed 34 (λ i. ltb 0 i && eq (getD times (i - 1) plusZero) (getD times i plusZero)) times
+
+abbrev pub pillarsApart : Settlement → Pillars → Check
+pillarsApart settlement p = sameTimes (pillarTimes settlement (p .days))
+
+-- ---- 35: a maturity whose time is 0
+
+abbrev pub maturityApart : Settlement → Leg → Check
+maturityApart settlement l = single 35 0 (eq (yearFraction settlement (lastDay (l .days))) plusZero)
 
 -- ---- 44: a pillar factor that isn't positive
 

@@ -1,15 +1,19 @@
 -- Definitions only. The discount curve.
-use Prim.Native.Nat.{ℕ}
+use Prim.Native.Nat.{ℕ, _≤_}
+use mathlib.Core.Path.{_≡_}
 use mathlib.Core.Bool.{cond}
 use mathlib.Core.List.{List, [], _∷_, map}
+use lib.ListN.{length}
 use lib.Ieee.{Float, binary64, add, sub, mul, div, lt}
 use Rattle.floats.specs.declared.Answer.{Answer}
 use Rattle.floats.specs.declared.Answer.the-variants.{Value}
 use Rattle.floats.specs.Answers.{plusZero, andThen, tested, whenFinite}
 use Rattle.elementary.specs.Exponential.{expAt}
 use Rattle.elementary.specs.Logarithm.{lnAt}
+use Rattle.terms.specs.declared.Settlement.{Settlement}
+use Rattle.terms.specs.declared.Epoch.{Epoch}
 use Rattle.terms.specs.Terms.{Pillars}
-use Rattle.terms.specs.Times.{yearFraction}
+use Rattle.terms.specs.Times.{timeFrom, yearFraction}
 
 -- The linear rule: l0 + (l1 − l0) × ((t − t0)/(t1 − t0)).
 abbrev pub onLine : Float → Float → Float → Float → Float → ℕ → Answer
@@ -38,13 +42,17 @@ curveOver (t0 ∷ times) [] t place = Value plusZero
 curveOver [] factors t place = Value plusZero
 
 -- The pillars' times.
-abbrev pub pillarTimes : ℕ → List ℕ → List Float
+abbrev pub pillarTimes : Settlement → List ℕ → List Float
 pillarTimes settlement days = map (yearFraction settlement) days
 
+-- These are the pillars' times, where there are no more pillars than a curve has.
+pub record CurveTimes (settlement : Settlement) (days : List ℕ) (times : List Float) : Type 0 where
+  pub timed : length days ≤ 256 → times ≡ pillarTimes settlement days
+
 -- The curve at time t.
-abbrev pub curveAt : ℕ → Pillars → Float → ℕ → Answer
+abbrev pub curveAt : Settlement → Pillars → Float → ℕ → Answer
 curveAt settlement p = curveOver (pillarTimes settlement (p .days)) (p .factors)
 
 -- A day's factor is the curve's at the day's time.
-abbrev pub factorOf : (Float → ℕ → Answer) → ℕ → ℕ → ℕ → Answer
-factorOf curve settlement day place = curve (yearFraction settlement day) place
+abbrev pub factorOf : (Float → ℕ → Answer) → Epoch → ℕ → ℕ → Answer
+factorOf curve settlement day place = curve (timeFrom settlement day) place

@@ -3,16 +3,17 @@
 use Prim.Native.Nat.{ℕ}
 use mathlib.Core.List.{List, [], _∷_, _++_}
 use lib.Ieee.{Float}
+use Rattle.terms.specs.declared.Settlement.{Settlement}
 use Rattle.terms.specs.declared.Check.{Check}
 use Rattle.terms.specs.Numbers.{float, million, targetLimit}
 use Rattle.terms.specs.Terms.{Leg, CallSchedule, SigmaSchedule, Pillars, Bond, TimeGrid, HullWhite, Market}
-use Rattle.terms.specs.Checks.{firstOf, settings, legCount, callCount, sigmaCount, pillarCount, settlementDay, legDays, callDays, pillarDays, unitsRange, within, amountRange, strikeRange, sigmaRange, factorRange, callOrder, sigmaOrder, lastDay, anyPaid, pillarOrder, positiveFactors}
+use Rattle.terms.specs.Checks.{firstOf, settings, dayCount, legCount, callCount, sigmaCount, pillarCount, settlementDay, legDays, callDays, pillarDays, unitsRange, within, amountRange, strikeRange, sigmaRange, factorRange, callOrder, sigmaOrder, lastDay, anyPaid, pillarOrder, pillarsApart, maturityApart, positiveFactors}
 
 -- ---- the grid: settlement, cashflows, units, calls and the two step settings
 
--- 1.
-abbrev pub settingChecks : TimeGrid → List Check
-settingChecks controls = settings controls ∷ []
+-- 1 and 33.
+abbrev pub settingChecks : TimeGrid → ℕ → List Check
+settingChecks controls code = settings controls ∷ dayCount code ∷ []
 
 -- 2.
 abbrev pub gridCounts : Leg → CallSchedule → List Check
@@ -34,17 +35,17 @@ gridNumbers units leg calls = unitsRange units ∷ listNumbers leg calls
 abbrev pub callOrders : CallSchedule → List Check
 callOrders calls = callOrder calls ∷ []
 
--- 5 and 7.
-abbrev pub gridOrders : ℕ → Leg → CallSchedule → List Check
-gridOrders settlement leg calls = callOrders calls ++ anyPaid settlement leg ∷ []
+-- 5, 7 and 35.
+abbrev pub gridOrders : Settlement → Leg → CallSchedule → List Check
+gridOrders settlement leg calls = callOrders calls ++ anyPaid (settlement .day) leg ∷ maturityApart settlement leg ∷ []
 
-unfoldable pub gridChecks : ℕ → Bond → CallSchedule → TimeGrid → Check
+unfoldable pub gridChecks : Settlement → Bond → CallSchedule → TimeGrid → Check
 unfolding firstOf
 gridChecks settlement bond calls controls =
     firstOf
-    (settingChecks controls
+    (settingChecks controls (settlement .code)
     ++ gridCounts (bond .leg) calls
-    ++ gridDays settlement (bond .leg) calls
+    ++ gridDays (settlement .day) (bond .leg) calls
     ++ gridNumbers (bond .units) (bond .leg) calls
     ++ gridOrders settlement (bond .leg) calls)
 
@@ -78,19 +79,23 @@ treeNumbers limit units alpha spread leg calls sigma pillars =
 abbrev pub treeOrders : ℕ → Leg → CallSchedule → SigmaSchedule → List Check
 treeOrders settlement leg calls sigma = callOrders calls ++ sigmaOrder sigma ∷ anyPaid settlement leg ∷ []
 
--- 8, and last of all 44.
-abbrev pub lateChecks : ℕ → Leg → Pillars → List Check
-lateChecks settlement leg pillars = pillarOrder settlement (lastDay (leg .days)) pillars ∷ positiveFactors pillars ∷ []
+-- 8 and 34.
+abbrev pub curveOrders : Settlement → Leg → Pillars → List Check
+curveOrders settlement leg pillars = pillarOrder (settlement .day) (lastDay (leg .days)) pillars ∷ pillarsApart settlement pillars ∷ []
+
+-- 8, 34, 35, and last of all 44.
+abbrev pub lateChecks : Settlement → Leg → Pillars → List Check
+lateChecks settlement leg pillars = curveOrders settlement leg pillars ++ maturityApart settlement leg ∷ positiveFactors pillars ∷ []
 
 unfoldable pub marketChecks : Float → Market → CallSchedule → Check
 unfolding firstOf
 marketChecks limit m calls =
     firstOf
-    (settingChecks (m .controls)
+    (settingChecks (m .controls) (m .settlement .code)
     ++ treeCounts (m .bond .leg) calls (m .model .sigma) (m .pillars)
-    ++ treeDays (m .settlement) (m .bond .leg) calls (m .pillars)
+    ++ treeDays (m .settlement .day) (m .bond .leg) calls (m .pillars)
     ++ treeNumbers limit (m .bond .units) (m .model .alpha) (m .spread) (m .bond .leg) calls (m .model .sigma) (m .pillars)
-    ++ treeOrders (m .settlement) (m .bond .leg) calls (m .model .sigma)
+    ++ treeOrders (m .settlement .day) (m .bond .leg) calls (m .model .sigma)
     ++ lateChecks (m .settlement) (m .bond .leg) (m .pillars))
 
 -- Spread within ±1.
@@ -105,9 +110,9 @@ spreadChecks m calls = marketChecks targetLimit m calls
 
 -- ---- the straight value: settlement, cashflows, spread and pillars
 
--- 2.
-abbrev pub straightCounts : Leg → Pillars → List Check
-straightCounts leg pillars = legCount leg ∷ pillarCount pillars ∷ []
+-- 33 and 2.
+abbrev pub straightCounts : ℕ → Leg → Pillars → List Check
+straightCounts code leg pillars = dayCount code ∷ legCount leg ∷ pillarCount pillars ∷ []
 
 -- 3.
 abbrev pub straightDays : ℕ → Leg → Pillars → List Check
@@ -117,20 +122,24 @@ straightDays settlement leg pillars = settlementDay settlement ∷ legDays leg �
 abbrev pub straightNumbers : Float → Leg → Pillars → List Check
 straightNumbers spread leg pillars = within (float 1) spread ∷ amountRange leg ∷ factorRange pillars ∷ []
 
--- 7, 8 and 44.
-abbrev pub straightOrders : ℕ → Leg → Pillars → List Check
-straightOrders settlement leg pillars = anyPaid settlement leg ∷ lateChecks settlement leg pillars
+-- 7, 8, 34 and 44.
+abbrev pub straightOrders : Settlement → Leg → Pillars → List Check
+straightOrders settlement leg pillars = anyPaid (settlement .day) leg ∷ curveOrders settlement leg pillars ++ positiveFactors pillars ∷ []
 
-unfoldable pub straightChecks : ℕ → Leg → Float → Pillars → Check
+unfoldable pub straightChecks : Settlement → Leg → Float → Pillars → Check
 unfolding firstOf
 straightChecks settlement leg spread pillars =
     firstOf
-    (straightCounts leg pillars
-    ++ straightDays settlement leg pillars
+    (straightCounts (settlement .code) leg pillars
+    ++ straightDays (settlement .day) leg pillars
     ++ straightNumbers spread leg pillars
     ++ straightOrders settlement leg pillars)
 
 -- ---- the yield entries: settlement, cashflows, a rate definition and a yield or a target
+
+-- 33 and 2.
+abbrev pub yieldCounts : ℕ → Leg → List Check
+yieldCounts code leg = dayCount code ∷ legCount leg ∷ []
 
 -- 3.
 abbrev pub yieldDays : ℕ → Leg → List Check
@@ -141,13 +150,17 @@ abbrev pub yieldNumbers : Float → Float → Leg → List Check
 yieldNumbers limit x leg = within limit x ∷ amountRange leg ∷ []
 
 -- 9, the rate definition's, comes last.
-unfoldable pub yieldChecks : Float → ℕ → Leg → Float → Check → Check
+unfoldable pub yieldChecks : Float → Settlement → Leg → Float → Check → Check
 unfolding firstOf
 yieldChecks limit settlement leg x rate =
-    firstOf (legCount leg ∷ [] ++ yieldDays settlement leg ++ yieldNumbers limit x leg ++ anyPaid settlement leg ∷ rate ∷ [])
+    firstOf
+    (yieldCounts (settlement .code) leg
+    ++ yieldDays (settlement .day) leg
+    ++ yieldNumbers limit x leg
+    ++ anyPaid (settlement .day) leg ∷ rate ∷ [])
 
-abbrev pub priceChecks : ℕ → Leg → Float → Check → Check
+abbrev pub priceChecks : Settlement → Leg → Float → Check → Check
 priceChecks = yieldChecks million
 
-abbrev pub targetChecks : ℕ → Leg → Float → Check → Check
+abbrev pub targetChecks : Settlement → Leg → Float → Check → Check
 targetChecks = yieldChecks targetLimit

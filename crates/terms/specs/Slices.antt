@@ -4,6 +4,7 @@ use mathlib.Core.List.{List}
 use lib.Ieee.{Float}
 use denote.Ref.{RefT, now}
 use denote.Triple.Both.{Both}
+use Rattle.terms.specs.declared.Settlement.{Settlement}
 use Rattle.terms.specs.Terms.{Leg, CallSchedule, SigmaSchedule, Pillars, Market}
 
 abbrev pub legIn : {X Y Z : Type 0} → Both (RefT (List ℕ)) X → Both (RefT (List ℕ)) Y → Both (RefT (List Float)) Z → Leg
@@ -19,7 +20,7 @@ abbrev pub pillarsIn : {X Y : Type 0} → Both (RefT (List ℕ)) X → Both (Ref
 pillarsIn days factors = record { days = now (days .entry); factors = now (factors .entry) }
 
 -- What the tree value takes, but for the call entries and the lent slices.
-abbrev pub marketIn : ℕ → Leg → Float → ℕ → ℕ → Float → SigmaSchedule → Float → Pillars → Market
+abbrev pub marketIn : Settlement → Leg → Float → ℕ → ℕ → Float → SigmaSchedule → Float → Pillars → Market
 marketIn settlement leg units yearly maximum alpha sigma spread pillars =
     record {
       settlement = settlement;

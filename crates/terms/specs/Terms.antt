@@ -2,6 +2,7 @@
 use Prim.Native.Nat.{ℕ}
 use mathlib.Core.List.{List}
 use lib.Ieee.{Float}
+use Rattle.terms.specs.declared.Settlement.{Settlement}
 
 -- Cashflows: day, kind (0 coupon, 1 redemption), amount.
 pub record Leg : Type 0 where
@@ -42,7 +43,7 @@ pub record HullWhite : Type 0 where
 
 -- What the tree value takes, but for the call entries and the lent slices.
 pub record Market : Type 0 where
-  pub settlement : ℕ
+  pub settlement : Settlement
   pub bond : Bond
   pub controls : TimeGrid
   pub model : HullWhite

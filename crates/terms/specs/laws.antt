@@ -14,3 +14,4 @@ pub mod MadeLists
 pub mod TermChecks
 pub mod Numbered
 pub mod Stages
+pub mod Later

@@ -1,11 +1,13 @@
 // The checks of the cashflows.
 
 use crate::Check;
+use crate::Settlement;
 use crate::limits::Cashflows;
 use crate::lists::last_day;
 use crate::ranges::no_day;
 use crate::refusing::refused_at;
 use crate::refusing::single;
+use crate::time::year_fraction;
 use floats::Refusal;
 ghost use mathlib.Core.Path.{_≡_};
 ghost use mathlib.Core.Bool.{_||_};
@@ -14,7 +16,7 @@ ghost use Prim.Native.Nat.{_<_, _≤_};
 ghost use lib.Dec.{ltb};
 ghost use lib.ListN.{length, getD};
 ghost use Rattle.terms.specs.Terms.{Leg};
-ghost use Rattle.terms.specs.Checks.{noDay, falls, legDays, anyPaid};
+ghost use Rattle.terms.specs.Checks.{noDay, falls, legDays, anyPaid, maturityApart};
 
 // 3: a day out of range, days falling, or a kind that isn't 0 or 1, at an index.
 fn cashflow_wrong(days: &[u32], kinds: &[u8], i: usize) -> bool
@@ -55,4 +57,12 @@ pub fn any_paid(settlement: u32, days: &[u32]) -> Check
     ensures { λ r. ⌜ r ≡ anyPaid settlement (record { days = now (days .entry); kinds = []; amounts = [] }) ⌝ }
 {
     single(Refusal::NOTHING_PAID, last_day(days) <= settlement)
+}
+
+// 35: a maturity whose time is 0.
+pub fn maturity_apart(settlement: Settlement, days: &[u32]) -> Check
+    ensures { λ r. ⌜ r ≡ maturityApart settlement (record { days = now (days .entry); kinds = []; amounts = [] }) ⌝ }
+{
+    let time = year_fraction(settlement, last_day(days));
+    single(Refusal::NO_TIME, time == 0.0)
 }

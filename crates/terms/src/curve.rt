@@ -1,18 +1,21 @@
 // The discount curve: straight lines in the logarithm of the factor between the pillars around a time, and from the last pillar on its factor.
 
+use crate::Settlement;
+use crate::limits::PillarEntries;
 use crate::lists::number_at;
-use crate::time::year_fraction;
+use crate::time::epoch_of;
+use crate::time::time_from;
 use elementary::exp::exp_at;
 use elementary::ln::ln_at;
 use floats::Answer;
 use floats::finite::not_finite;
 use floats::refusals::overflow;
 ghost use mathlib.Core.Path.{_≡_};
-ghost use Prim.Native.Nat.{_+_, _<_, _≤_};
+ghost use Prim.Native.Nat.{_+_, _<_, _≤_, min};
 ghost use lib.Ieee.{lt};
 ghost use lib.ListN.{length, getD, take};
 ghost use Rattle.floats.specs.Answers.{plusZero};
-ghost use Rattle.terms.specs.Curve.{onLine, between, curveOver, pillarTimes};
+ghost use Rattle.terms.specs.Curve.{onLine, between, curveOver, CurveTimes};
 
 // The linear rule: l0 + (l1 − l0) × ((t − t0)/(t1 − t0)).
 fn on_line(t: f64, t0: f64, l0: f64, t1: f64, l1: f64, place: u32) -> Answer
@@ -108,15 +111,28 @@ pub fn curve_at(times: &[f64], factors: &[f64], t: f64, place: u32) -> Answer
     Answer::Value(number_at(factors, i))
 }
 
+// How many pillars the table of their times is made for.
+pub fn timed_pillars(days: &[u32]) -> usize
+    ensures { λ r. ⌜ r ≡ min 256 (length (now (days .entry))) ⌝ }
+{
+    if PillarEntries::MOST < days.len() {
+        return PillarEntries::MOST;
+    }
+    days.len()
+}
+
 // The time of each pillar, worked out once: at the front of a table that has room for the most pillars.
-pub fn pillar_times(settlement: u32, days: &[u32]) -> [f64; 256]
-    requires { ⌜ length (now days) ≤ 256 ⌝ }
-    ensures { λ r. ⌜ take (length (now (days .entry))) r ≡ pillarTimes settlement (now (days .entry)) ⌝ }
+pub fn pillar_times(settlement: Settlement, days: &[u32]) -> [f64; 256]
+    ensures { λ r. ⌜ CurveTimes settlement (now (days .entry)) (take (min 256 (length (now (days .entry)))) r) ⌝ }
 {
     let mut times = [0.0; 256];
+    if PillarEntries::MOST < days.len() {
+        return times;
+    }
+    let epoch = epoch_of(settlement);
     let mut i = 0;
     while i < days.len() {
-        let time = year_fraction(settlement, days[i]);
+        let time = time_from(epoch, days[i]);
         times[i] = time;
         i += 1;
     }

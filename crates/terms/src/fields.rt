@@ -2,6 +2,7 @@
 
 use crate::Check;
 use crate::limits::Alpha;
+use crate::limits::DayCounts;
 use crate::limits::GridSettings;
 use crate::limits::Spread;
 use crate::limits::Units;
@@ -32,6 +33,13 @@ pub fn settings(yearly: u32, maximum: u32) -> Check
     ensures { λ r. ⌜ r ≡ checks.settings (record { perYear = yearly; maximum = maximum }) ⌝ }
 {
     single(Refusal::SETTING, setting_wrong(yearly, maximum))
+}
+
+// 33: the day-count code.
+pub fn day_count(code: u32) -> Check
+    ensures { λ r. ⌜ r ≡ checks.dayCount code ⌝ }
+{
+    single(Refusal::DAY_COUNT, DayCounts::LAST < code)
 }
 
 // 3: the settlement day.

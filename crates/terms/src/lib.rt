@@ -15,6 +15,19 @@ pub mod refusing;
 pub mod sigma;
 pub mod time;
 
+// The settlement day, and the day-count code by which every time from it is counted.
+pub struct Settlement {
+    pub day: u32,
+    pub code: u32,
+}
+
+// Settlement and its own count, from which the times of all days are worked out.
+pub struct Epoch {
+    pub day: u32,
+    pub code: u32,
+    pub count: u32,
+}
+
 // What an input check finds.
 pub enum Check {
     Passed,

@@ -7,6 +7,13 @@ impl Day {
     pub const LAST: u32 = 200_000;
 }
 
+// Day-count codes: 0 Actual/365, 1 Actual/360, 2 30E/360.
+pub struct DayCounts;
+
+impl DayCounts {
+    pub const LAST: u32 = 2;
+}
+
 // Steps per year 1 to 366, maximum steps 1 to 512.
 pub struct GridSettings;
 

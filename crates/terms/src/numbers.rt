@@ -9,7 +9,7 @@ use crate::refusing::refused_at;
 use floats::Refusal;
 ghost use mathlib.Core.Path.{_≡_};
 ghost use Prim.Native.Nat.{_-_, _<_, _≤_};
-ghost use lib.Ieee.{lt, le};
+ghost use lib.Ieee.{lt, le, eq};
 ghost use lib.ListN.{length, getD};
 ghost use Rattle.floats.specs.Answers.{plusZero};
 ghost use Rattle.terms.specs.Checks.{beyond, notAbove, notUpTo, indexed};
@@ -53,6 +53,15 @@ pub fn rises_at(xs: &[f64], i: usize) -> bool
     ensures { λ r. ⌜ r ≡ lt (getD (now (xs .entry)) (i - 1) plusZero) (getD (now (xs .entry)) i plusZero) ⌝ }
 {
     number_at(xs, i - 1) < number_at(xs, i)
+}
+
+// The same as the number before it.
+pub fn stays_at(xs: &[f64], i: usize) -> bool
+    requires { ⌜ 0 < i ⌝ }
+    requires { ⌜ i < length (now xs) ⌝ }
+    ensures { λ r. ⌜ r ≡ eq (getD (now (xs .entry)) (i - 1) plusZero) (getD (now (xs .entry)) i plusZero) ⌝ }
+{
+    number_at(xs, i - 1) == number_at(xs, i)
 }
 
 // 4: numbers within ±limit.

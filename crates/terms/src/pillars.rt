@@ -5,6 +5,7 @@ use crate::limits::PillarEntries;
 use crate::lists::last_day;
 use crate::numbers::all_within;
 use crate::numbers::not_positive_at;
+use crate::numbers::stays_at;
 use crate::ranges::no_day;
 use crate::refusing::refused_at;
 use floats::Refusal;
@@ -13,9 +14,11 @@ ghost use mathlib.Core.Bool.{not, cond, _&&_, _||_};
 ghost use mathlib.Core.List.{[]};
 ghost use Prim.Native.Nat.{_-_, _<_, _≤_};
 ghost use lib.Dec.{eqb, ltb, leb};
+ghost use lib.Ieee.{eq};
 ghost use lib.ListN.{length, getD};
+ghost use Rattle.floats.specs.Answers.{plusZero};
 ghost use Rattle.terms.specs.Terms.{Pillars};
-ghost use Rattle.terms.specs.Checks.{pillarDays, factorRange, lastDay, pillarOrder, positiveFactors};
+ghost use Rattle.terms.specs.Checks.{pillarDays, factorRange, lastDay, pillarOrder, sameTimes, positiveFactors};
 
 // 3: pillar days.
 pub fn pillar_days(days: &[u32]) -> Check
@@ -78,6 +81,32 @@ pub fn pillars_to_maturity(settlement: u32, days: &[u32], pillars: &[u32]) -> Ch
     ensures { λ r. ⌜ r ≡ pillarOrder settlement (lastDay (now (days .entry))) (record { days = now (pillars .entry); factors = [] }) ⌝ }
 {
     pillar_order(settlement, last_day(days), pillars)
+}
+
+// A pillar at the time of the one before it, at an index.
+fn same_time(times: &[f64], i: usize) -> bool
+    requires { ⌜ i < length (now times) ⌝ }
+    ensures { λ r. ⌜ r ≡ (ltb 0 i && eq (getD (now (times .entry)) (i - 1) plusZero) (getD (now (times .entry)) i plusZero)) ⌝ }
+{
+    if 0 < i {
+        return stays_at(times, i);
+    }
+    false
+}
+
+// 34: two pillars at one time.
+pub fn same_times(times: &[f64]) -> Check
+    requires { ⌜ length (now times) ≤ 256 ⌝ }
+    ensures { λ r. ⌜ r ≡ sameTimes (now (times .entry)) ⌝ }
+{
+    let mut i = 0;
+    while i < times.len() {
+        if same_time(times, i) {
+            return refused_at(Refusal::SAME_TIME, i);
+        }
+        i += 1;
+    }
+    Check::Passed
 }
 
 // 44: a factor that isn't positive.

@@ -10,7 +10,7 @@ use Rattle.floats.specs.Answers.{plusZero}
 use Rattle.terms.specs.declared.Check.{Check}
 use Rattle.terms.specs.Numbers.{float}
 use Rattle.terms.specs.Terms.{CallSchedule, Market}
-use Rattle.terms.specs.Times.{yearFraction}
+use Rattle.terms.specs.Times.{timeFrom}
 use Rattle.terms.specs.Curve.{curveAt, curveOver}
 use Rattle.terms.specs.Checks.{onCheck}
 use Rattle.terms.specs.Entries.{treeChecks}
@@ -75,7 +75,7 @@ abbrev pub latticeValue : Market → Room → BondEventGrid → Outcome TreeValu
 latticeValue m = latticeValueOver (curveOf m) m
 
 unfoldable pub treeValue : Market → CallSchedule → Room → TreeValue
-unfolding treeValueOver curveOver yearFraction
+unfolding treeValueOver curveOver timeFrom
 treeValue m = treeValueOver (curveOf m) m
 
 -- ---- lent slices

@@ -4,13 +4,16 @@ use entrychecks::entries::tree_checks;
 use eventgrid::grid::event_grid;
 use latticevalue::value::lattice_value;
 use terms::Check;
+use terms::Settlement;
 use terms::curve::pillar_times;
+use terms::curve::timed_pillars;
 use treebasedbondpricer::TreeValue;
 use treebasedbondpricer::zero::zero_floats;
 use treebasedbondpricer::zero::zero_numbers;
 ghost use mathlib.Core.Path.{_≡_};
 ghost use Prim.Native.Nat.{_≤_};
 ghost use lib.ListN.{length};
+ghost use Rattle.terms.specs.Curve.{pillarTimes};
 ghost use Rattle.treebasedbondpricer.specs.Entry.{Entered};
 ghost use Rattle.treebasedbondpricer.specs.laws.Entered.{valueOn};
 ghost use Rattle.terms.specs.Slices.{legIn, callsIn, sigmaIn, pillarsIn, marketIn};
@@ -18,7 +21,7 @@ ghost use Rattle.treebasedbondpricer.specs.Slices.{lentIn, lentOut, roomIn};
 
 // The grid of checked terms, then the tree.
 pub fn checked_value(
-    settlement: u32,
+    settlement: Settlement,
     days: &[u32],
     kinds: &[u8],
     amounts: &[f64],
@@ -34,6 +37,7 @@ pub fn checked_value(
     spread: f64,
     pillars: &[u32],
     factors: &[f64],
+    curve_times: &[f64],
     nodes: &mut [i32],
     probabilities: &mut [f64],
     first: &mut [f64],
@@ -42,7 +46,7 @@ pub fn checked_value(
     requires { ⌜ (1 ≤ maximum) × (maximum ≤ 512) ⌝ }
     requires { ⌜ (length (now days) ≤ 256) × (length (now kinds) ≡ length (now days)) × (length (now amounts) ≡ length (now days)) ⌝ }
     requires { ⌜ (length (now ends) ≡ length (now starts)) × (length (now strikes) ≡ length (now starts)) ⌝ }
-    requires { ⌜ length (now pillars) ≤ 256 ⌝ }
+    requires { ⌜ now «curve_times» ≡ pillarTimes settlement (now pillars) ⌝ }
     ensures { λ r. ⌜ r ≡ valueOn
         (marketIn settlement (legIn days kinds amounts) units yearly maximum alpha (sigmaIn times sigmas) spread (pillarsIn pillars factors))
         (callsIn starts ends strikes)
@@ -65,14 +69,13 @@ pub fn checked_value(
         return TreeValue::Refused(refusal);
     }
     let grid = answer.grid;
-    let curve_times = pillar_times(settlement, pillars);
     lattice_value(
         grid,
         alpha,
         times,
         sigmas,
         spread,
-        &curve_times[..pillars.len()],
+        curve_times,
         factors,
         nodes,
         probabilities,
@@ -83,7 +86,7 @@ pub fn checked_value(
 
 // What the bond is worth with its calls, and the nodes of the tree. The lent slices are untouched after an input refusal, else all zero.
 pub fn tree_value(
-    settlement: u32,
+    settlement: Settlement,
     cashflow_days: &[u32],
     cashflow_kinds: &[u8],
     cashflow_amounts: &[f64],
@@ -112,6 +115,8 @@ pub fn tree_value(
         (lentIn nodes probabilities «first_row» «second_row»)
         (lentOut nodes probabilities «first_row» «second_row») ⌝ }
 {
+    let table = pillar_times(settlement, pillar_days);
+    let count = timed_pillars(pillar_days);
     let check = tree_checks(
         settlement,
         cashflow_days,
@@ -129,6 +134,7 @@ pub fn tree_value(
         spread,
         pillar_days,
         pillar_factors,
+        &table[..count],
     );
     if let Check::Refused(refusal) = check {
         return TreeValue::Refused(refusal);
@@ -150,6 +156,7 @@ pub fn tree_value(
         spread,
         pillar_days,
         pillar_factors,
+        &table[..count],
         nodes,
         probabilities,
         first_row,

@@ -8,6 +8,7 @@ use lib.Ieee.{Float, lt}
 use Rattle.floats.specs.Answers.{plusZero}
 use Rattle.terms.specs.declared.Check.{Check}
 use Rattle.terms.specs.declared.Check.the-variants.{Passed, Refused}
+use Rattle.terms.specs.declared.Settlement.{Settlement}
 use Rattle.terms.specs.Terms.{CallSchedule, Bond, TimeGrid}
 use Rattle.terms.specs.CallLists.{Entries, MadeFrom, Reordered, size, strikeOf}
 use Rattle.terms.specs.Checks.{onCheck, unitsRange}
@@ -42,12 +43,12 @@ strikes-above calls k i l = accepted-strike calls k i l .above-zero
 -- ---- accepted
 
 -- The checks are passed, and the grid is given.
-pub record Accepted (settlement : ℕ) (bond : Bond) (calls : CallSchedule) (controls : TimeGrid) : Type 0 where
+pub record Accepted (settlement : Settlement) (bond : Bond) (calls : CallSchedule) (controls : TimeGrid) : Type 0 where
   pub checked : gridChecks settlement bond calls controls ≡ Passed
   pub grid : BondEventGrid
   pub has-grid : eventGrid settlement bond calls controls ≡ given grid
 
-module _ (settlement : ℕ) (bond : Bond) (calls : CallSchedule) (controls : TimeGrid) where
+module _ (settlement : Settlement) (bond : Bond) (calls : CallSchedule) (controls : TimeGrid) where
   answer-is : (c : Check) (o : Outcome BondEventGrid) → gridChecks settlement bond calls controls ≡ c → eventGrid settlement bond calls controls ≡ o
       → gridAnswer settlement bond calls controls ≡ onCheck c refusedGrid (onOutcome o refusedGrid acceptedGrid)
   unfolding gridAnswer
@@ -73,7 +74,7 @@ module _ (settlement : ℕ) (bond : Bond) (calls : CallSchedule) (controls : Tim
 
 -- ---- of two lists
 
-module _ (settlement : ℕ) (bond : Bond) (first second : CallSchedule) (controls : TimeGrid) where
+module _ (settlement : Settlement) (bond : Bond) (first second : CallSchedule) (controls : TimeGrid) where
   -- Calls dropped and strikes raised: the grid of terms that pass the checks.
   pub checked-no-lower : gridChecks settlement bond first controls ≡ Passed → MadeFrom first second → (g : BondEventGrid) → eventGrid settlement bond first controls ≡ given g → GivenOr27 (NoLowerGrid g) (eventGrid settlement bond second controls)
   checked-no-lower h m g e =

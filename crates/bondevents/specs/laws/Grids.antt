@@ -8,6 +8,7 @@ use lib.Dec.{T}
 use lib.Ieee.{lt}
 use Rattle.floats.specs.declared.Refusal.{Refusal}
 use Rattle.floats.specs.Answers.{plusZero}
+use Rattle.terms.specs.declared.Settlement.{Settlement}
 use Rattle.terms.specs.Terms.{Leg, CallSchedule, Bond, TimeGrid}
 use Rattle.terms.specs.CallLists.{Entries, MadeFrom, Reordered, size, strikeOf}
 use Rattle.terms.specs.Outcomes.{given, refused, follow}
@@ -28,7 +29,7 @@ use Rattle.bondevents.specs.laws.Reordering.{reordered-same}
 abbrev pub gridOf : Axis → Bond → List CallStep → BondEventGrid
 gridOf a bond cs = record { «maturity_time» = a .maturity; steps = a .steps; cashflows = stepCashflows a (bond .leg); calls = cs }
 
-pub grid-is : (settlement : ℕ) (bond : Bond) (calls : CallSchedule) (controls : TimeGrid)
+pub grid-is : (settlement : Settlement) (bond : Bond) (calls : CallSchedule) (controls : TimeGrid)
     → eventGrid settlement bond calls controls
     ≡ follow (callSteps (axisOf settlement (bond .leg) controls) bond calls) (λ cs. given (gridOf (axisOf settlement (bond .leg) controls) bond cs))
 grid-is settlement bond calls controls = unfold eventGrid in refl
@@ -36,17 +37,17 @@ grid-is settlement bond calls controls = unfold eventGrid in refl
 -- ---- the steps
 
 -- There is one step at least, and every step has a place in the grid.
-pub steps-some : (settlement : ℕ) (leg : Leg) (controls : TimeGrid) → 0 < axisOf settlement leg controls .steps
+pub steps-some : (settlement : Settlement) (leg : Leg) (controls : TimeGrid) → 0 < axisOf settlement leg controls .steps
 unfolding axisOf
 steps-some settlement leg controls = omega arith
 
-pub steps-placed : (settlement : ℕ) (leg : Leg) (controls : TimeGrid) → controls .maximum ≤ 512 → axisOf settlement leg controls .steps ≤ 512
+pub steps-placed : (settlement : Settlement) (leg : Leg) (controls : TimeGrid) → controls .maximum ≤ 512 → axisOf settlement leg controls .steps ≤ 512
 unfolding axisOf
 steps-placed settlement leg controls h = omega arith
 
 -- ---- the grid and its call steps
 
-module _ (settlement : ℕ) (bond : Bond) (calls : CallSchedule) (controls : TimeGrid) where
+module _ (settlement : Settlement) (bond : Bond) (calls : CallSchedule) (controls : TimeGrid) where
   -- Call steps that are given make the grid.
   pub grid-of-steps : (cs : List CallStep) → callSteps (axisOf settlement (bond .leg) controls) bond calls ≡ given cs
       → eventGrid settlement bond calls controls ≡ given (gridOf (axisOf settlement (bond .leg) controls) bond cs)
@@ -87,7 +88,7 @@ module _ (settlement : ℕ) (bond : Bond) (calls : CallSchedule) (controls : Tim
 
 -- ---- calls dropped or strikes raised
 
-module _ (settlement : ℕ) (bond : Bond) (first second : CallSchedule) (controls : TimeGrid) (n : Entries first) (u : Above (bond .units)) (g : BondEventGrid) (h : eventGrid settlement bond first controls ≡ given g) where
+module _ (settlement : Settlement) (bond : Bond) (first second : CallSchedule) (controls : TimeGrid) (n : Entries first) (u : Above (bond .units)) (g : BondEventGrid) (h : eventGrid settlement bond first controls ≡ given g) where
   -- The second list's grid: given, with no call price lowered and all else the same, or refused with 27.
   pub grid-no-lower : MadeFrom first second → GivenOr27 (NoLowerGrid g) (eventGrid settlement bond second controls)
   grid-no-lower m = go (made-no-lower a bond first second n u (g .calls) (s .0) m)

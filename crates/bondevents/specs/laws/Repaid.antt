@@ -12,6 +12,7 @@ use lib.Ieee.{Float, binary64, add}
 use Rattle.floats.specs.declared.Refusal.{Refusal}
 use Rattle.floats.specs.Answers.{plusZero}
 use Rattle.floats.specs.laws.Order.{T-of, T-of-not}
+use Rattle.terms.specs.declared.Settlement.{Settlement}
 use Rattle.terms.specs.Terms.{Leg, CallSchedule, Bond, TimeGrid}
 use Rattle.terms.specs.Checks.{lastDay}
 use Rattle.terms.specs.Outcomes.{Outcome, given, refused, follow}
@@ -215,11 +216,11 @@ unrepaid-last settlement (day ∷ next ∷ days) (kind ∷ kinds) k h =
 
 -- ---- the grid
 
-unrepaid-axis : (settlement : ℕ) (leg other : Leg) (controls : TimeGrid) → lastDay (other .days) ≡ lastDay (leg .days) → axisOf settlement other controls ≡ axisOf settlement leg controls
+unrepaid-axis : (settlement : Settlement) (leg other : Leg) (controls : TimeGrid) → lastDay (other .days) ≡ lastDay (leg .days) → axisOf settlement other controls ≡ axisOf settlement leg controls
 unfolding axisOf
 unrepaid-axis settlement leg other controls h = rw h
 
-settled : (settlement : ℕ) (leg : Leg) (controls : TimeGrid) → axisOf settlement leg controls .settlement ≡ settlement
+settled : (settlement : Settlement) (leg : Leg) (controls : TimeGrid) → axisOf settlement leg controls .settlement ≡ settlement .day
 unfolding axisOf
 settled settlement leg controls = refl
 
@@ -237,9 +238,9 @@ pub repaid-nowhere : RepaidNowhere
 repaid-nowhere settlement bond calls controls h =
     let passed = grid-terms settlement bond calls controls h .leg in
     let n = leg-counted (bond .leg) (passed .counted) in
-    let other = withoutRepaid settlement bond in
+    let other = withoutRepaid (settlement .day) bond in
     let a = axisOf settlement (bond .leg) controls in
-    let last = unrepaid-last settlement (bond .leg .days) (bond .leg .kinds) (n .kinds-too) (paid-passed (bond .leg) settlement (passed .paid)) in
+    let last = unrepaid-last (settlement .day) (bond .leg .days) (bond .leg .kinds) (n .kinds-too) (paid-passed (bond .leg) (settlement .day) (passed .paid)) in
     let same : follow (callSteps a other calls) (λ cs. given (gridOf a other cs)) ≡ follow (callSteps a bond calls) (λ cs. given (gridOf a bond cs))
     = subst (λ (s : ℕ). follow (callSteps a (withoutRepaid s bond) calls) (λ cs. given (gridOf a (withoutRepaid s bond) cs)) ≡ follow (callSteps a bond calls) (λ cs. given (gridOf a bond cs)))
     (settled settlement (bond .leg) controls) (unrepaid-grid a bond calls (n .kinds-too) (n .amounts-too)) in

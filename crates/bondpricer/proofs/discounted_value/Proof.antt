@@ -4,8 +4,8 @@ use Rattle.floats.proofs.Laws.{answers}
 use Rattle.bondpricer.proofs.discounted_value.Statement.{statement}
 use Rattle.bondpricer.proofs.discounted_value.Tie as tie
 
-year-fraction-requires : tie.Need-year-fraction-requires
-year-fraction-requires c κs = search answers
+time-from-requires : tie.Need-time-from-requires
+time-from-requires c κs = search answers
 
 curve-at-requires : tie.Need-curve-at-requires
 curve-at-requires c κs = search answers
@@ -32,7 +32,7 @@ pub discounted-value-spec : {M : Type 1} → statement M
 discounted-value-spec =
     tie.close
     (tie.spec
-    year-fraction-requires
+    time-from-requires
     curve-at-requires
     enum-known-a
     enum-told

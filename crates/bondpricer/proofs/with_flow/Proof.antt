@@ -4,8 +4,8 @@ use Rattle.floats.proofs.Laws.{answers}
 use Rattle.bondpricer.proofs.with_flow.Statement.{statement}
 use Rattle.bondpricer.proofs.with_flow.Tie as tie
 
-year-fraction-requires : tie.Need-year-fraction-requires
-year-fraction-requires c κs = search answers
+time-from-requires : tie.Need-time-from-requires
+time-from-requires c κs = search answers
 
 curve-at-requires : tie.Need-curve-at-requires
 curve-at-requires c κs = search answers
@@ -65,7 +65,7 @@ overflow-requires-4 : tie.Need-overflow-requires-4
 overflow-requires-4 c κs = search answers
 
 returns-6 : tie.Need-returns-6
-returns-6 c = search (answers, at-time, c .before .before .before .before .before .before .before .before .before .before .before .before .before .before .before .before .before .year-fraction .ensures, c .before .before .before .before .before .before .before .before .before .before .before .before .before .before .before .before .curve-at .ensures, c .before .before .before .before .before .before .before .before .before .before .before .before .before .before .a .given .1, c .before .before .before .before .before .before .before .before .before .before .before .before .not-finite .ensures, c .before .before .before .before .before .before .before .before .before .before .before .if1 .left, c .before .before .before .before .before .before .before .before .before .before .not-finite2 .ensures, c .before .before .before .before .before .before .before .before .before .if2 .left, c .before .before .before .before .before .before .before .before .exp-at .ensures, c .before .before .before .before .before .before .e .given .1, c .before .before .before .before .not-finite3 .ensures, c .before .before .before .if3 .left, c .before .before .not-finite4 .ensures, c .before .if4 .taken, c .overflow4 .ensures) depth 30 fits 4000
+returns-6 c = search (answers, at-time, c .before .before .before .before .before .before .before .before .before .before .before .before .before .before .before .before .before .time-from .ensures, c .before .before .before .before .before .before .before .before .before .before .before .before .before .before .before .before .curve-at .ensures, c .before .before .before .before .before .before .before .before .before .before .before .before .before .before .a .given .1, c .before .before .before .before .before .before .before .before .before .before .before .before .not-finite .ensures, c .before .before .before .before .before .before .before .before .before .before .before .if1 .left, c .before .before .before .before .before .before .before .before .before .before .not-finite2 .ensures, c .before .before .before .before .before .before .before .before .before .if2 .left, c .before .before .before .before .before .before .before .before .exp-at .ensures, c .before .before .before .before .before .before .e .given .1, c .before .before .before .before .not-finite3 .ensures, c .before .before .before .if3 .left, c .before .before .not-finite4 .ensures, c .before .if4 .taken, c .overflow4 .ensures) depth 30 fits 4000
 
 not-finite-requires-5 : tie.Need-not-finite-requires-5
 not-finite-requires-5 c κs = search answers
@@ -74,16 +74,16 @@ overflow-requires-5 : tie.Need-overflow-requires-5
 overflow-requires-5 c κs = search answers
 
 returns-7 : tie.Need-returns-7
-returns-7 c = search (answers, at-time, c .before .before .before .before .before .before .before .before .before .before .before .before .before .before .before .before .before .before .before .year-fraction .ensures, c .before .before .before .before .before .before .before .before .before .before .before .before .before .before .before .before .before .before .curve-at .ensures, c .before .before .before .before .before .before .before .before .before .before .before .before .before .before .before .before .a .given .1, c .before .before .before .before .before .before .before .before .before .before .before .before .before .before .not-finite .ensures, c .before .before .before .before .before .before .before .before .before .before .before .before .before .if1 .left, c .before .before .before .before .before .before .before .before .before .before .before .before .not-finite2 .ensures, c .before .before .before .before .before .before .before .before .before .before .before .if2 .left, c .before .before .before .before .before .before .before .before .before .before .exp-at .ensures, c .before .before .before .before .before .before .before .before .e .given .1, c .before .before .before .before .before .before .not-finite3 .ensures, c .before .before .before .before .before .if3 .left, c .before .before .before .before .not-finite4 .ensures, c .before .before .before .if4 .left, c .before .before .not-finite5 .ensures, c .before .if5 .taken, c .overflow5 .ensures) depth 30 fits 4000
+returns-7 c = search (answers, at-time, c .before .before .before .before .before .before .before .before .before .before .before .before .before .before .before .before .before .before .before .time-from .ensures, c .before .before .before .before .before .before .before .before .before .before .before .before .before .before .before .before .before .before .curve-at .ensures, c .before .before .before .before .before .before .before .before .before .before .before .before .before .before .before .before .a .given .1, c .before .before .before .before .before .before .before .before .before .before .before .before .before .before .not-finite .ensures, c .before .before .before .before .before .before .before .before .before .before .before .before .before .if1 .left, c .before .before .before .before .before .before .before .before .before .before .before .before .not-finite2 .ensures, c .before .before .before .before .before .before .before .before .before .before .before .if2 .left, c .before .before .before .before .before .before .before .before .before .before .exp-at .ensures, c .before .before .before .before .before .before .before .before .e .given .1, c .before .before .before .before .before .before .not-finite3 .ensures, c .before .before .before .before .before .if3 .left, c .before .before .before .before .not-finite4 .ensures, c .before .before .before .if4 .left, c .before .before .not-finite5 .ensures, c .before .if5 .taken, c .overflow5 .ensures) depth 30 fits 4000
 
 returns-8 : tie.Need-returns-8
-returns-8 c = search (answers, at-time, c .before .before .before .before .before .before .before .before .before .before .before .before .before .before .before .before .before .before .year-fraction .ensures, c .before .before .before .before .before .before .before .before .before .before .before .before .before .before .before .before .before .curve-at .ensures, c .before .before .before .before .before .before .before .before .before .before .before .before .before .before .before .a .given .1, c .before .before .before .before .before .before .before .before .before .before .before .before .before .not-finite .ensures, c .before .before .before .before .before .before .before .before .before .before .before .before .if1 .left, c .before .before .before .before .before .before .before .before .before .before .before .not-finite2 .ensures, c .before .before .before .before .before .before .before .before .before .before .if2 .left, c .before .before .before .before .before .before .before .before .before .exp-at .ensures, c .before .before .before .before .before .before .before .e .given .1, c .before .before .before .before .before .not-finite3 .ensures, c .before .before .before .before .if3 .left, c .before .before .before .not-finite4 .ensures, c .before .before .if4 .left, c .before .not-finite5 .ensures, c .if5 .left) depth 30 fits 4000
+returns-8 c = search (answers, at-time, c .before .before .before .before .before .before .before .before .before .before .before .before .before .before .before .before .before .before .time-from .ensures, c .before .before .before .before .before .before .before .before .before .before .before .before .before .before .before .before .before .curve-at .ensures, c .before .before .before .before .before .before .before .before .before .before .before .before .before .before .before .a .given .1, c .before .before .before .before .before .before .before .before .before .before .before .before .before .not-finite .ensures, c .before .before .before .before .before .before .before .before .before .before .before .before .if1 .left, c .before .before .before .before .before .before .before .before .before .before .before .not-finite2 .ensures, c .before .before .before .before .before .before .before .before .before .before .if2 .left, c .before .before .before .before .before .before .before .before .before .exp-at .ensures, c .before .before .before .before .before .before .before .e .given .1, c .before .before .before .before .before .not-finite3 .ensures, c .before .before .before .before .if3 .left, c .before .before .before .not-finite4 .ensures, c .before .before .if4 .left, c .before .not-finite5 .ensures, c .if5 .left) depth 30 fits 4000
 
 pub with-flow-spec : {M : Type 1} → statement M
 with-flow-spec =
     tie.close
     (tie.spec
-    year-fraction-requires
+    time-from-requires
     curve-at-requires
     enum-known-a
     enum-told

@@ -7,7 +7,7 @@ use Rattle.bondfile.specs.declared.Fields.{Fields}
 abbrev pub marketAt : Fields → Leg → SigmaSchedule → Pillars → Float → Market
 marketAt f leg sigma pillars spread =
     record {
-      settlement = f .settlement;
+      settlement = record { day = f .settlement; code = 0 };
       bond = record { leg = leg; units = f .units };
       controls = record { perYear = f .yearly; maximum = f .maximum };
       model = record { alpha = f .alpha; sigma = sigma };

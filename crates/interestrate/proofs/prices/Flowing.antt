@@ -12,12 +12,13 @@ use lib.Seq.{drop-cons}
 use lib.Ieee.{Float, nan}
 use Rattle.floats.specs.declared.Refusal.{Refusal}
 use Rattle.floats.specs.Answers.{plusZero}
+use Rattle.terms.specs.declared.Epoch.{Epoch}
 use Rattle.interestrate.specs.declared.Compounding.{Compounding}
 use Rattle.interestrate.specs.declared.YieldPrice.{YieldPrice}
 use Rattle.interestrate.specs.declared.YieldPrice.the-variants.{Price, Refused}
 use Rattle.interestrate.specs.Prices.{onPrice, fromPrice, withFlow, flows}
 
-module _ (y : Float) (compounding : Compounding) (settlement : ℕ) (days : List ℕ) (amounts : List Float) where
+module _ (y : Float) (compounding : Compounding) (settlement : Epoch) (days : List ℕ) (amounts : List Float) where
   pub record Going (i : ℕ) (price derivative : Float) : Type 0 where
     pub within : i ≤ length days
     pub rest :
@@ -32,7 +33,7 @@ module _ (y : Float) (compounding : Compounding) (settlement : ℕ) (days : List
     turn : i < length days
         → flows y compounding settlement (drop i days) (drop i amounts) price derivative
         ≡ fromPrice
-        (cond (ltb settlement (getD days i 0)) (withFlow y compounding settlement (getD days i 0) (getD amounts i nan) price derivative) (Price price derivative))
+        (cond (ltb (settlement .day) (getD days i 0)) (withFlow y compounding settlement (getD days i 0) (getD amounts i nan) price derivative) (Price price derivative))
         (λ p d. flows y compounding settlement (drop (i + 1) days) (drop (i + 1) amounts) p d)
     unfolding flows
     turn h =
@@ -42,28 +43,28 @@ module _ (y : Float) (compounding : Compounding) (settlement : ℕ) (days : List
     -- The same where the flow's own outcome is known.
     follows : {s : YieldPrice}
         → i < length days
-        → settlement < getD days i 0
+        → settlement .day < getD days i 0
         → s ≡ withFlow y compounding settlement (getD days i 0) (getD amounts i nan) price derivative
         → fromPrice s (λ p d. flows y compounding settlement (drop (i + 1) days) (drop (i + 1) amounts) p d)
         ≡ flows y compounding settlement days amounts plusZero plusZero
-    follows h u e = sym (rw (lt-ltb settlement (getD days i 0) u, ← e) at (turn h)) ∙ g .rest
+    follows h u e = sym (rw (lt-ltb (settlement .day) (getD days i 0) u, ← e) at (turn h)) ∙ g .rest
 
     pub paid : {s : YieldPrice} (p d : Float)
         → i < length days
-        → settlement < getD days i 0
+        → settlement .day < getD days i 0
         → s ≡ withFlow y compounding settlement (getD days i 0) (getD amounts i nan) price derivative
         → s ≡ Price p d
         → Going (i + 1) p d
     unfolding onPrice
     paid p d h u e v = record { within = omega arith; rest = rw v at (follows h u e) }
 
-    pub unpaid : i < length days → getD days i 0 ≤ settlement → Going (i + 1) price derivative
+    pub unpaid : i < length days → getD days i 0 ≤ settlement .day → Going (i + 1) price derivative
     unfolding onPrice
-    unpaid h u = record { within = omega arith; rest = sym (rw (le-ltb settlement (getD days i 0) u) at (turn h)) ∙ g .rest }
+    unpaid h u = record { within = omega arith; rest = sym (rw (le-ltb (settlement .day) (getD days i 0) u) at (turn h)) ∙ g .rest }
 
     pub stopped : {s : YieldPrice} {q : Refusal}
         → i < length days
-        → settlement < getD days i 0
+        → settlement .day < getD days i 0
         → s ≡ withFlow y compounding settlement (getD days i 0) (getD amounts i nan) price derivative
         → s ≡ Refused q
         → s ≡ flows y compounding settlement days amounts plusZero plusZero

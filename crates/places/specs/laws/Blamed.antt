@@ -15,9 +15,9 @@ use Rattle.terms.specs.declared.Check.{Check}
 use Rattle.terms.specs.declared.Check.the-variants.{Passed, Refused}
 use Rattle.terms.specs.Numbers.{float, amountLimit}
 use Rattle.terms.specs.Terms.{Leg, CallSchedule, SigmaSchedule, Market}
-use Rattle.terms.specs.Checks.{firstOf, single, indexed, noDay, falls, beyond, notAbove, settings, legDays, callDays, within, amountRange, strikeRange, sigmaRange, callOrder, sigmaOrder, lastDay, anyPaid, pillarOrder, positiveFactors}
-use Rattle.terms.specs.Entries.{settingChecks, marketChecks, treeChecks}
-use Rattle.terms.specs.laws.Sequence.{passed-not-refused, indexed-passed, indexed-refused}
+use Rattle.terms.specs.Checks.{firstOf, single, indexed, noDay, falls, beyond, notAbove, settings, dayCount, legDays, callDays, within, amountRange, strikeRange, sigmaRange, callOrder, sigmaOrder, lastDay, anyPaid, pillarOrder, pillarsApart, maturityApart, positiveFactors}
+use Rattle.terms.specs.Entries.{marketChecks, treeChecks}
+use Rattle.terms.specs.laws.Sequence.{passed-not-refused, passes-of-first, first-refusal, indexed-passed, indexed-refused}
 use Rattle.terms.specs.laws.Searching.{below-or-not}
 use Rattle.terms.specs.laws.TermChecks.{LegCounted, SigmaCounted}
 use Rattle.terms.specs.laws.CallChecks.{CallCounted}
@@ -25,7 +25,7 @@ use Rattle.places.specs.declared.Whose.{Whose}
 use Rattle.places.specs.declared.Whose.the-variants.{Nobody, Settlement, Units, Alpha, Spread, Cashflow, Call, Sigma, Pillar}
 use Rattle.places.specs.Places.{inside, cashflowDayWrong, callDayWrong, whoseDay, amountWrong, strikeWrong, upToWrong, sigmaWrong, whoseField, whoseNumber, whoseOrder}
 use Rattle.places.specs.Blame.{checksOf, dayCheck, numberCheck, orderCheck, blamedDay, orElse, blamedNumber, blamed, checkOf}
-use Rattle.places.specs.laws.Refusing.{Numbers, numbers, first-refused, none-refused, Counted, by-settings, by-counts, by-days, by-numbers, by-orders, refusing, dayChecks, numberChecks, orderChecks}
+use Rattle.places.specs.laws.Refusing.{Numbers, numbers, first-refused, none-refused, Counted, by-steps, by-code, by-counts, by-days, by-numbers, by-orders, refusing, stepsCheck, codeCheck, dayChecks, numberChecks, orderChecks}
 
 -- ---- a test that tells what a check says
 
@@ -108,7 +108,7 @@ module _ (m : Market) (calls : CallSchedule) (r : Refusal) where
   days-blamed : Counted m calls → firstOf (dayChecks m calls) ≡ Refused r → dayCheck m calls (blamedDay m calls (r .place)) ≡ Refused r
   unfolding checksOf whoseDay
   days-blamed k =
-      next (dayCheck m calls) r _ _ _ Settlement _ (single-tells r 3 0 (noDay (m .settlement))) refl
+      next (dayCheck m calls) r _ _ _ Settlement _ (single-tells r 3 0 (noDay (m .settlement .day))) refl
       (next (dayCheck m calls) r _ _ _ Cashflow _ (leg-tells r (m .bond .leg) (k .leg)) refl
       (next (dayCheck m calls) r _ _ _ Call _ (call-tells r calls (k .call)) refl
       (last (dayCheck m calls) r _ Pillar refl)))
@@ -137,9 +137,46 @@ module _ (m : Market) (calls : CallSchedule) (r : Refusal) where
   by-number : (n : ℕ) (c : Check) → Numbers n n c → orderCheck m calls (whoseOrder n) ≡ c → c ≡ Refused r → orderCheck m calls (whoseOrder (r .number)) ≡ Refused r
   by-number n c p e h = named n c p h (e ∙ h)
 
-  orders-blamed : firstOf (orderChecks m calls) ≡ Refused r → orderCheck m calls (whoseOrder (r .number)) ≡ Refused r
+  abbrev paid-check : Check
+  paid-check = anyPaid (m .settlement .day) (m .bond .leg)
+
+  abbrev apart-check : Check
+  apart-check = maturityApart (m .settlement) (m .bond .leg)
+
+  abbrev rising-check : Check
+  rising-check = pillarOrder (m .settlement .day) (lastDay (m .bond .leg .days)) (m .pillars)
+
+  abbrev timed-check : Check
+  timed-check = pillarsApart (m .settlement) (m .pillars)
+
+  abbrev positive-check : Check
+  positive-check = positiveFactors (m .pillars)
+
+  -- 8, 34, 35 and 44, where 33 and 7 passed.
+  late-blamed : dayCount (m .settlement .code) ≡ Passed → paid-check ≡ Passed → firstOf (rising-check ∷ timed-check ∷ apart-check ∷ positive-check ∷ []) ≡ Refused r → orderCheck m calls (whoseOrder (r .number)) ≡ Refused r
   unfolding checksOf whoseOrder
-  orders-blamed h =
+  late-blamed k p h =
+      elim (first-refused _ _ r h) [
+        | inl e ↦ named 8 rising-check (search numbers) e (first-refusal [] rising-check r (timed-check ∷ positive-check ∷ []) tt e)
+        | inr a ↦
+            elim (first-refused _ _ r (a .1)) [
+              | inl e ↦ named 34 timed-check (search numbers) e (first-refusal (rising-check ∷ []) timed-check r (positive-check ∷ []) (a .0, tt) e)
+              | inr b ↦
+                  elim (first-refused _ _ r (b .1)) [
+                    | inl e ↦ named 35 apart-check (search numbers) e (first-refusal (dayCount (m .settlement .code) ∷ paid-check ∷ []) apart-check r [] (k, (p, tt)) e)
+                    | inr c ↦
+                        elim (first-refused _ _ r (c .1)) [
+                          | inl e ↦ named 44 positive-check (search numbers) e (first-refusal (rising-check ∷ timed-check ∷ []) positive-check r [] (a .0, (b .0, tt)) e)
+                          | inr d ↦ absurd (none-refused r (d .1))
+                        ]
+                  ]
+            ]
+      ]
+
+  orders-blamed : firstOf (codeCheck m calls) ≡ Passed → firstOf (orderChecks m calls) ≡ Refused r → orderCheck m calls (whoseOrder (r .number)) ≡ Refused r
+  unfolding checksOf whoseOrder
+  orders-blamed k h =
+      let code = passes-of-first (codeCheck m calls) k .0 in
       elim (first-refused _ _ r h) [
         | inl e ↦ by-number 5 (callOrder calls) (search numbers) refl e
         | inr a ↦
@@ -147,25 +184,25 @@ module _ (m : Market) (calls : CallSchedule) (r : Refusal) where
               | inl e ↦ by-number 6 (sigmaOrder (m .model .sigma)) (search numbers) refl e
               | inr b ↦
                   elim (first-refused _ _ r (b .1)) [
-                    | inl e ↦ by-number 7 (anyPaid (m .settlement) (m .bond .leg)) (search numbers) refl e
-                    | inr c ↦
-                        elim (first-refused _ _ r (c .1)) [
-                          | inl e ↦ named 8 (pillarOrder (m .settlement) (lastDay (m .bond .leg .days)) (m .pillars)) (search numbers) e (c .1)
-                          | inr d ↦
-                              elim (first-refused _ _ r (d .1)) [
-                                | inl e ↦ named 44 (positiveFactors (m .pillars)) (search numbers) e (c .1)
-                                | inr f ↦ absurd (none-refused r (f .1))
-                              ]
-                        ]
+                    | inl e ↦ named 7 paid-check (search numbers) e (first-refusal (dayCount (m .settlement .code) ∷ []) paid-check r (apart-check ∷ []) (code, tt) e)
+                    | inr c ↦ late-blamed code (c .0) (c .1)
                   ]
             ]
       ]
 
-  settings-blamed : firstOf (settingChecks (m .controls)) ≡ Refused r → orderCheck m calls (whoseOrder (r .number)) ≡ Refused r
+  steps-blamed : firstOf (stepsCheck m calls) ≡ Refused r → orderCheck m calls (whoseOrder (r .number)) ≡ Refused r
   unfolding checksOf whoseOrder
-  settings-blamed h =
+  steps-blamed h =
       elim (first-refused _ _ r h) [
         | inl e ↦ by-number 1 (settings (m .controls)) (search numbers) refl e
+        | inr a ↦ absurd (none-refused r (a .1))
+      ]
+
+  code-blamed : firstOf (codeCheck m calls) ≡ Refused r → orderCheck m calls (whoseOrder (r .number)) ≡ Refused r
+  unfolding checksOf whoseOrder
+  code-blamed h =
+      elim (first-refused _ _ r h) [
+        | inl e ↦ named 33 (dayCount (m .settlement .code)) (search numbers) e (first-refusal [] (dayCount (m .settlement .code)) r (paid-check ∷ apart-check ∷ []) tt e)
         | inr a ↦ absurd (none-refused r (a .1))
       ]
 
@@ -174,33 +211,36 @@ module _ (limit : Float) (m : Market) (calls : CallSchedule) (r : Refusal) (h : 
   pub blamed-day : r .number ≡ 3 → dayCheck m calls (blamedDay m calls (r .place)) ≡ Refused r
   blamed-day n =
       elim (refusing m calls limit r h) [
-        | by-settings a e ↦ absurd (omega arith)
+        | by-steps a e ↦ absurd (omega arith)
+        | by-code a e ↦ absurd (omega arith)
         | by-counts a ↦ absurd (omega arith)
         | by-days a k e ↦ days-blamed m calls r k e
         | by-numbers a k e ↦ absurd (omega arith)
-        | by-orders a e ↦ absurd (omega arith)
+        | by-orders a k e ↦ absurd (omega arith)
       ]
 
   -- Any number but 2, 3 and 4: the steps, a call, a sigma entry, settlement or a pillar.
   pub blamed-order : (r .number ≡ 2 → ⊥) → (r .number ≡ 3 → ⊥) → (r .number ≡ 4 → ⊥) → orderCheck m calls (whoseOrder (r .number)) ≡ Refused r
   blamed-order not-2 not-3 not-4 =
       elim (refusing m calls limit r h) [
-        | by-settings a e ↦ settings-blamed m calls r e
+        | by-steps a e ↦ steps-blamed m calls r e
+        | by-code a e ↦ code-blamed m calls r e
         | by-counts a ↦ absurd (not-2 a)
         | by-days a k e ↦ absurd (not-3 a)
         | by-numbers a k e ↦ absurd (not-4 a)
-        | by-orders a e ↦ orders-blamed m calls r e
+        | by-orders a k e ↦ orders-blamed m calls r k e
       ]
 
 -- 4, where the spread's limit is 1: units, alpha, spread, a cashflow, a call, a sigma entry or a pillar.
 pub blamed-number : (m : Market) (calls : CallSchedule) (r : Refusal) → marketChecks (float 1) m calls ≡ Refused r → r .number ≡ 4 → numberCheck m calls (blamedNumber m calls (r .place)) ≡ Refused r
 blamed-number m calls r h n =
     elim (refusing m calls (float 1) r h) [
-      | by-settings a e ↦ absurd (omega arith)
+      | by-steps a e ↦ absurd (omega arith)
+      | by-code a e ↦ absurd (omega arith)
       | by-counts a ↦ absurd (omega arith)
       | by-days a k e ↦ absurd (omega arith)
       | by-numbers a k e ↦ numbers-blamed m calls r k e
-      | by-orders a e ↦ absurd (omega arith)
+      | by-orders a k e ↦ absurd (omega arith)
     ]
 
 -- The tree value's refusals, but for 2, the counts: as the line is found.
@@ -208,11 +248,12 @@ pub blamed-tree : (m : Market) (calls : CallSchedule) (r : Refusal) → treeChec
 unfolding treeChecks
 blamed-tree m calls r h not-2 =
     elim (refusing m calls (float 1) r h) [
-      | by-settings a e ↦ rw (ne-eqb (r .number) 3 (λ q. omega arith), ne-eqb (r .number) 4 (λ q. omega arith)) (settings-blamed m calls r e)
+      | by-steps a e ↦ rw (ne-eqb (r .number) 3 (λ q. omega arith), ne-eqb (r .number) 4 (λ q. omega arith)) (steps-blamed m calls r e)
+      | by-code a e ↦ rw (ne-eqb (r .number) 3 (λ q. omega arith), ne-eqb (r .number) 4 (λ q. omega arith)) (code-blamed m calls r e)
       | by-counts a ↦ absurd (not-2 a)
       | by-days a k e ↦ rw (eq-eqb (r .number) 3 a) (days-blamed m calls r k e)
       | by-numbers a k e ↦ rw (ne-eqb (r .number) 3 (λ q. omega arith), eq-eqb (r .number) 4 a) (numbers-blamed m calls r k e)
-      | by-orders a e ↦ rw (ne-eqb (r .number) 3 (λ q. omega arith), ne-eqb (r .number) 4 (λ q. omega arith)) (orders-blamed m calls r e)
+      | by-orders a k e ↦ rw (ne-eqb (r .number) 3 (λ q. omega arith), ne-eqb (r .number) 4 (λ q. omega arith)) (orders-blamed m calls r k e)
     ]
 
 -- Somebody is blamed.

@@ -11,8 +11,8 @@ use Rattle.floats.specs.declared.Refusal.{Refusal}
 use Rattle.terms.specs.declared.Check.{Check}
 use Rattle.terms.specs.declared.Check.the-variants.{Passed, Refused}
 use Rattle.terms.specs.Terms.{CallSchedule, Market}
-use Rattle.terms.specs.Checks.{onCheck, firstOf, single, lowest}
-use Rattle.terms.specs.Entries.{settingChecks, gridCounts, modelCounts, treeCounts, treeDays, treeNumbers, treeOrders, lateChecks, marketChecks}
+use Rattle.terms.specs.Checks.{onCheck, firstOf, single, lowest, settings, dayCount}
+use Rattle.terms.specs.Entries.{gridCounts, modelCounts, treeCounts, treeDays, treeNumbers, treeOrders, lateChecks, marketChecks}
 use Rattle.terms.specs.laws.Sequence.{passed-not-refused, groups-of-first, lowest-refused}
 use Rattle.terms.specs.laws.TermChecks.{LegCounted, leg-counted, SigmaCounted, sigma-counted}
 use Rattle.terms.specs.laws.CallChecks.{CallCounted, call-counted}
@@ -62,16 +62,26 @@ module _ (m : Market) (calls : CallSchedule) where
   countChecks = treeCounts (m .bond .leg) calls (m .model .sigma) (m .pillars)
 
   abbrev pub dayChecks : List Check
-  dayChecks = treeDays (m .settlement) (m .bond .leg) calls (m .pillars)
+  dayChecks = treeDays (m .settlement .day) (m .bond .leg) calls (m .pillars)
 
   abbrev pub numberChecks : Float → List Check
   numberChecks limit = treeNumbers limit (m .bond .units) (m .model .alpha) (m .spread) (m .bond .leg) calls (m .model .sigma) (m .pillars)
 
   abbrev pub orderChecks : List Check
-  orderChecks = treeOrders (m .settlement) (m .bond .leg) calls (m .model .sigma) ++ lateChecks (m .settlement) (m .bond .leg) (m .pillars)
+  orderChecks = treeOrders (m .settlement .day) (m .bond .leg) calls (m .model .sigma) ++ lateChecks (m .settlement) (m .bond .leg) (m .pillars)
 
-  setting-numbers : Numbers 1 1 (firstOf (settingChecks (m .controls)))
-  setting-numbers = search numbers
+  -- 1, and 33.
+  abbrev pub stepsCheck : List Check
+  stepsCheck = settings (m .controls) ∷ []
+
+  abbrev pub codeCheck : List Check
+  codeCheck = dayCount (m .settlement .code) ∷ []
+
+  steps-numbers : Numbers 1 1 (firstOf stepsCheck)
+  steps-numbers = search numbers
+
+  code-numbers : Numbers 33 33 (firstOf codeCheck)
+  code-numbers = search numbers
 
   count-numbers : Numbers 2 2 (firstOf countChecks)
   count-numbers = search numbers depth 24
@@ -102,36 +112,44 @@ module _ (m : Market) (calls : CallSchedule) where
 
   -- Which group a refusal came from; those before it passed.
   pub data Refusing (limit : Float) (r : Refusal) : Type 0 where
-    by-settings : r .number ≡ 1 → firstOf (settingChecks (m .controls)) ≡ Refused r → Refusing limit r
+    by-steps : r .number ≡ 1 → firstOf stepsCheck ≡ Refused r → Refusing limit r
+    by-code : r .number ≡ 33 → firstOf codeCheck ≡ Refused r → Refusing limit r
     by-counts : r .number ≡ 2 → Refusing limit r
     by-days : r .number ≡ 3 → Counted → firstOf dayChecks ≡ Refused r → Refusing limit r
     by-numbers : r .number ≡ 4 → Counted → firstOf (numberChecks limit) ≡ Refused r → Refusing limit r
-    by-orders : 4 < r .number → firstOf orderChecks ≡ Refused r → Refusing limit r
+    by-orders : 4 < r .number → firstOf codeCheck ≡ Passed → firstOf orderChecks ≡ Refused r → Refusing limit r
 
-  in-groups : (limit : Float) → marketChecks limit m calls ≡ firstOf (firstOf (settingChecks (m .controls)) ∷ firstOf countChecks ∷ firstOf dayChecks ∷ firstOf (numberChecks limit) ∷ firstOf orderChecks ∷ [])
+  in-groups : (limit : Float) → marketChecks limit m calls ≡ firstOf (firstOf stepsCheck ∷ firstOf codeCheck ∷ firstOf countChecks ∷ firstOf dayChecks ∷ firstOf (numberChecks limit) ∷ firstOf orderChecks ∷ [])
   unfolding marketChecks
-  in-groups limit = in-stages (settingChecks (m .controls) ∷ countChecks ∷ dayChecks ∷ numberChecks limit ∷ orderChecks ∷ [])
+  in-groups limit = in-stages (stepsCheck ∷ codeCheck ∷ countChecks ∷ dayChecks ∷ numberChecks limit ∷ orderChecks ∷ [])
 
   pub refusing : (limit : Float) (r : Refusal) → marketChecks limit m calls ≡ Refused r → Refusing limit r
   refusing limit r h =
       elim (first-refused _ _ r (sym (in-groups limit) ∙ h)) [
-        | inl e ↦ let b = setting-numbers .between r e in by-settings (omega arith) e
-        | inr a ↦
-            elim (first-refused _ _ r (a .1)) [
-              | inl e ↦ let b = count-numbers .between r e in by-counts (omega arith)
-              | inr b ↦
-                  let c = counted (b .0) in
-                  elim (first-refused _ _ r (b .1)) [
-                    | inl e ↦ let n = day-numbers .between r e in by-days (omega arith) c e
-                    | inr d ↦
-                        elim (first-refused _ _ r (d .1)) [
-                          | inl e ↦ let n = number-numbers limit .between r e in by-numbers (omega arith) c e
-                          | inr f ↦
-                              elim (first-refused _ _ r (f .1)) [
-                                | inl e ↦ let n = order-numbers .between r e in by-orders (omega arith) e
-                                | inr g ↦ absurd (none-refused r (g .1))
-                              ]
-                        ]
-                  ]
+        | inl e ↦ let b = steps-numbers .between r e in by-steps (omega arith) e
+        | inr s ↦
+            elim (first-refused _ _ r (s .1)) [
+              | inl e ↦ let b = code-numbers .between r e in by-code (omega arith) e
+              | inr k ↦ later (k .0) (k .1)
             ]
       ]
+    where
+      later : firstOf codeCheck ≡ Passed → firstOf (firstOf countChecks ∷ firstOf dayChecks ∷ firstOf (numberChecks limit) ∷ firstOf orderChecks ∷ []) ≡ Refused r → Refusing limit r
+      later k l =
+          elim (first-refused _ _ r l) [
+            | inl e ↦ let b = count-numbers .between r e in by-counts (omega arith)
+            | inr b ↦
+                let c = counted (b .0) in
+                elim (first-refused _ _ r (b .1)) [
+                  | inl e ↦ let n = day-numbers .between r e in by-days (omega arith) c e
+                  | inr d ↦
+                      elim (first-refused _ _ r (d .1)) [
+                        | inl e ↦ let n = number-numbers limit .between r e in by-numbers (omega arith) c e
+                        | inr f ↦
+                            elim (first-refused _ _ r (f .1)) [
+                              | inl e ↦ let n = order-numbers .between r e in by-orders (omega arith) k e
+                              | inr g ↦ absurd (none-refused r (g .1))
+                            ]
+                      ]
+                ]
+          ]

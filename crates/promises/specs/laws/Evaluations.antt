@@ -6,6 +6,8 @@ use lib.Ieee.{Float}
 use Rattle.floats.specs.declared.Refusal.{Refusal}
 use Rattle.terms.specs.declared.Check.{Check}
 use Rattle.terms.specs.declared.Check.the-variants as check
+use Rattle.terms.specs.declared.Settlement.{Settlement}
+use Rattle.terms.specs.Times.{epochOf}
 use Rattle.terms.specs.Terms.{Leg}
 use Rattle.terms.specs.Checks.{onCheck}
 use Rattle.terms.specs.Entries.{targetChecks}
@@ -33,10 +35,10 @@ unfolding onCheck
 checked check.Passed go h = h
 checked (check.Refused q) go h = omega arith
 
-module _ (settlement : ℕ) (leg : Leg) (target : Float) where
-  solved : (o : Outcome RateDefinition) → evaluationsOf (onOutcome o (λ r. root.Refused r 0) λ rate. solveYield settlement leg rate target) ≤ 386
+module _ (settlement : Settlement) (leg : Leg) (target : Float) where
+  solved : (o : Outcome RateDefinition) → evaluationsOf (onOutcome o (λ r. root.Refused r 0) λ rate. solveYield (epochOf settlement) leg rate target) ≤ 386
   unfolding onOutcome
-  solved (given rate) = at-most-386 (objective settlement leg rate target) firstLower firstUpper (lowestYield (rate .compounding))
+  solved (given rate) = at-most-386 (objective (epochOf settlement) leg rate target) firstLower firstUpper (lowestYield (rate .compounding))
   solved (refused r) = omega arith
 
 pub every-yield : EveryYield

@@ -2,6 +2,7 @@
 use Prim.Native.Nat.{ℕ, zero, suc}
 use mathlib.Core.List.{List, [], _∷_}
 use lib.Ieee.{Float}
+use Rattle.terms.specs.declared.Settlement.{Settlement}
 use Rattle.terms.specs.Terms.{CallSchedule, Bond, TimeGrid, Market}
 use Rattle.terms.specs.Entries.{marketChecks}
 use Rattle.bondevents.specs.declared.CallStep.{CallStep}
@@ -15,7 +16,7 @@ use Rattle.promises.specs.laws.Numbers.{AnswerAmong, OutcomeAmong, Check
 -- The limit is the spread's, or that of the target in its place.
 pub checks-number : (limit : Float) (m : Market) (calls : CallSchedule) → Holds (CheckAmong treeRefusals) (marketChecks limit m calls)
 unfolding marketChecks
-checks-number limit m calls = search numbers depth 24
+checks-number limit m calls = search numbers depth 30 fits 4000
 
 price-number : (a : Axis) (bond : Bond) (e : Entry) (step : ℕ) → Holds (AnswerAmong treeRefusals) (callPrice a bond e step)
 unfolding callPrice
@@ -42,6 +43,6 @@ entries-number (s ∷ starts) (e ∷ ends) [] a bond cs = search numbers
 entries-number (s ∷ starts) [] strikes a bond cs = search numbers
 entries-number [] ends strikes a bond cs = search numbers
 
-pub grid-number : (settlement : ℕ) (bond : Bond) (calls : CallSchedule) (controls : TimeGrid) → Holds (OutcomeAmong treeRefusals) (eventGrid settlement bond calls controls)
+pub grid-number : (settlement : Settlement) (bond : Bond) (calls : CallSchedule) (controls : TimeGrid) → Holds (OutcomeAmong treeRefusals) (eventGrid settlement bond calls controls)
 unfolding eventGrid
 grid-number settlement bond calls controls = search (entries-number, numbers)

@@ -72,7 +72,7 @@ module _ {o : Outcome Fitted} {long wide : ℕ} {counts : List ℕ} {spacings sh
 
     -- What the solver looks for over the tree.
     abbrev pub soughtSpread : RateDefinition → Sought
-    soughtSpread rate = record { priced = Spread; rate = rate; settlement = 0; target = target; dt = dt; flat = flat }
+    soughtSpread rate = record { priced = Spread; rate = rate; settlement = record { day = 0; code = 0; count = 0 }; target = target; dt = dt; flat = flat }
 
     pub root-is : (rate : RateDefinition) (days : List ℕ) (amounts : List Float) {v : Root}
         → v ≡ bracketedRoot (soughtAt (soughtSpread rate) days amounts parts) firstLower firstUpper lowestSpread

@@ -5,31 +5,32 @@ use Prim.Native.Nat.{ℕ, _≤_}
 use lib.ListN.{length}
 use lib.Ieee.{Float}
 use Rattle.floats.specs.declared.Refusal.{Refusal}
+use Rattle.terms.specs.declared.Settlement.{Settlement}
 use Rattle.terms.specs.declared.Check.{Check}
 use Rattle.terms.specs.declared.Check.the-variants.{Passed, Refused}
 use Rattle.terms.specs.Numbers.{float, targetLimit}
 use Rattle.terms.specs.Terms.{Leg, CallSchedule, Pillars, Bond, TimeGrid, Market, withSpread}
-use Rattle.terms.specs.Checks.{firstOf, legCount, callCount, callDays, pillarDays, unitsRange, within, amountRange, strikeRange, sigmaOrder, anyPaid}
-use Rattle.terms.specs.Entries.{settingChecks, gridCounts, gridDays, listNumbers, callOrders, gridChecks, modelCounts, treeFields, modelNumbers, lateChecks, marketChecks, treeChecks, spreadChecks, straightCounts, straightDays, straightNumbers, straightChecks, yieldDays, yieldNumbers, yieldChecks}
+use Rattle.terms.specs.Checks.{firstOf, callCount, callDays, pillarDays, unitsRange, within, amountRange, strikeRange, sigmaOrder, anyPaid, maturityApart, positiveFactors}
+use Rattle.terms.specs.Entries.{settingChecks, gridCounts, gridDays, listNumbers, callOrders, gridChecks, modelCounts, treeFields, modelNumbers, curveOrders, lateChecks, marketChecks, treeChecks, spreadChecks, straightCounts, straightDays, straightNumbers, straightChecks, yieldCounts, yieldDays, yieldNumbers, yieldChecks}
 use Rattle.terms.specs.laws.Sequence.{Passes, all, all-pass, groups-of-first, first-of-groups, first-refusal, first-of-one, first-of-other}
 use Rattle.terms.specs.laws.TermChecks.{pillars-counted}
 use Rattle.terms.specs.laws.Groups.{LegPassed, CallsPassed, PillarsPassed, GridTermsPassed, MarketPassed}
 
 -- ---- the grid
 
-module _ (settlement : ℕ) (bond : Bond) (calls : CallSchedule) (controls : TimeGrid) where
+module _ (settlement : Settlement) (bond : Bond) (calls : CallSchedule) (controls : TimeGrid) where
   -- the groups before the strikes
   abbrev grid-before : List (List Check)
   grid-before =
-      settingChecks controls
+      settingChecks controls (settlement .code)
       ∷ gridCounts (bond .leg) calls
-      ∷ gridDays settlement (bond .leg) calls
+      ∷ gridDays (settlement .day) (bond .leg) calls
       ∷ (unitsRange (bond .units) ∷ amountRange (bond .leg) ∷ [])
       ∷ []
 
   -- and after them
   abbrev grid-after : List (List Check)
-  grid-after = callOrders calls ∷ (anyPaid settlement (bond .leg) ∷ []) ∷ []
+  grid-after = callOrders calls ∷ (anyPaid (settlement .day) (bond .leg) ∷ maturityApart settlement (bond .leg) ∷ []) ∷ []
 
   grid-split : gridChecks settlement bond calls controls ≡ firstOf (all grid-before ++ (strikeRange calls ∷ all grid-after))
   unfolding gridChecks
@@ -37,26 +38,26 @@ module _ (settlement : ℕ) (bond : Bond) (calls : CallSchedule) (controls : Tim
 
   -- Every group is passed.
   record GridGroups : Type 0 where
-    setting : Passes (settingChecks controls)
+    setting : Passes (settingChecks controls (settlement .code))
     counts : Passes (gridCounts (bond .leg) calls)
-    days : Passes (gridDays settlement (bond .leg) calls)
+    days : Passes (gridDays (settlement .day) (bond .leg) calls)
     field : unitsRange (bond .units) ≡ Passed
     lists : Passes (listNumbers (bond .leg) calls)
     orders : Passes (callOrders calls)
-    paid : anyPaid settlement (bond .leg) ≡ Passed
+    later-orders : Passes (anyPaid (settlement .day) (bond .leg) ∷ maturityApart settlement (bond .leg) ∷ [])
 
   grid-groups : gridChecks settlement bond calls controls ≡ Passed → GridGroups
   unfolding gridChecks
   grid-groups h =
       let g =
       groups-of-first
-      (settingChecks controls
+      (settingChecks controls (settlement .code)
       ∷ gridCounts (bond .leg) calls
-      ∷ gridDays settlement (bond .leg) calls
+      ∷ gridDays (settlement .day) (bond .leg) calls
       ∷ (unitsRange (bond .units) ∷ [])
       ∷ listNumbers (bond .leg) calls
       ∷ callOrders calls
-      ∷ (anyPaid settlement (bond .leg) ∷ [])
+      ∷ (anyPaid (settlement .day) (bond .leg) ∷ maturityApart settlement (bond .leg) ∷ [])
       ∷ [])
       h in
       record {
@@ -66,7 +67,7 @@ module _ (settlement : ℕ) (bond : Bond) (calls : CallSchedule) (controls : Tim
         field = g .1 .1 .1 .0 .0;
         lists = g .1 .1 .1 .1 .0;
         orders = g .1 .1 .1 .1 .1 .0;
-        paid = g .1 .1 .1 .1 .1 .1 .0 .0;
+        later-orders = g .1 .1 .1 .1 .1 .1 .0;
       }
 
   pub grid-terms : gridChecks settlement bond calls controls ≡ Passed → GridTermsPassed settlement bond controls
@@ -75,13 +76,15 @@ module _ (settlement : ℕ) (bond : Bond) (calls : CallSchedule) (controls : Tim
       record {
         steps = g .setting .0;
         leg = record {
+          code = g .setting .1 .0;
           settled = g .days .0;
           counted = g .counts .0;
           days = g .days .1 .0;
           amounts = g .lists .0;
-          paid = g .paid;
+          paid = g .later-orders .0;
         };
         units = g .field;
+        apart = g .later-orders .1 .0;
       }
 
   pub grid-calls : gridChecks settlement bond calls controls ≡ Passed → CallsPassed calls
@@ -97,7 +100,7 @@ module _ (settlement : ℕ) (bond : Bond) (calls : CallSchedule) (controls : Tim
   grid-front : GridTermsPassed settlement bond controls → callCount calls ≡ Passed → callDays calls ≡ Passed → Passes (all grid-before)
   grid-front terms counted days =
       all-pass grid-before (
-        (terms .steps, tt),
+        (terms .steps, (terms .leg .code, tt)),
         (
           (terms .leg .counted, (counted, tt)),
           (
@@ -110,7 +113,7 @@ module _ (settlement : ℕ) (bond : Bond) (calls : CallSchedule) (controls : Tim
   pub grid-passed : GridTermsPassed settlement bond controls → CallsPassed calls → gridChecks settlement bond calls controls ≡ Passed
   grid-passed terms k =
       grid-split
-      ∙ first-of-one (all grid-before) (strikeRange calls) (all grid-after) (grid-front terms (k .counted) (k .days)) (all-pass grid-after ((k .ordered, tt), ((terms .leg .paid, tt), tt)))
+      ∙ first-of-one (all grid-before) (strikeRange calls) (all grid-after) (grid-front terms (k .counted) (k .days)) (all-pass grid-after ((k .ordered, tt), ((terms .leg .paid, (terms .apart, tt)), tt)))
       ∙ k .strikes
 
   -- What stands before the strikes is passed, and a strike is refused: that is the answer.
@@ -124,10 +127,10 @@ module _ (m : Market) (calls : CallSchedule) where
   -- the groups before the spread, or the target in its place
   abbrev spread-before : List (List Check)
   spread-before =
-      settingChecks (m .controls)
+      settingChecks (m .controls) (m .settlement .code)
       ∷ gridCounts (m .bond .leg) calls
       ∷ modelCounts (m .model .sigma) (m .pillars)
-      ∷ gridDays (m .settlement) (m .bond .leg) calls
+      ∷ gridDays (m .settlement .day) (m .bond .leg) calls
       ∷ (pillarDays (m .pillars) ∷ [])
       ∷ (unitsRange (m .bond .units) ∷ within (float 10) (m .model .alpha) ∷ [])
       ∷ []
@@ -137,7 +140,7 @@ module _ (m : Market) (calls : CallSchedule) where
   market-after =
       modelNumbers (m .model .sigma) (m .pillars)
       ∷ callOrders calls
-      ∷ (sigmaOrder (m .model .sigma) ∷ anyPaid (m .settlement) (m .bond .leg) ∷ [])
+      ∷ (sigmaOrder (m .model .sigma) ∷ anyPaid (m .settlement .day) (m .bond .leg) ∷ [])
       ∷ lateChecks (m .settlement) (m .bond .leg) (m .pillars)
       ∷ []
 
@@ -154,16 +157,16 @@ module _ (limit : Float) (m : Market) (calls : CallSchedule) where
 
   -- Every group is passed.
   record MarketGroups : Type 0 where
-    setting : Passes (settingChecks (m .controls))
+    setting : Passes (settingChecks (m .controls) (m .settlement .code))
     counts : Passes (gridCounts (m .bond .leg) calls)
     model-counts : Passes (modelCounts (m .model .sigma) (m .pillars))
-    days : Passes (gridDays (m .settlement) (m .bond .leg) calls)
+    days : Passes (gridDays (m .settlement .day) (m .bond .leg) calls)
     pillar-days : pillarDays (m .pillars) ≡ Passed
     fields : Passes (treeFields limit (m .bond .units) (m .model .alpha) (m .spread))
     lists : Passes (listNumbers (m .bond .leg) calls)
     model-numbers : Passes (modelNumbers (m .model .sigma) (m .pillars))
     orders : Passes (callOrders calls)
-    later-orders : Passes (sigmaOrder (m .model .sigma) ∷ anyPaid (m .settlement) (m .bond .leg) ∷ [])
+    later-orders : Passes (sigmaOrder (m .model .sigma) ∷ anyPaid (m .settlement .day) (m .bond .leg) ∷ [])
     late : Passes (lateChecks (m .settlement) (m .bond .leg) (m .pillars))
 
   market-groups : marketChecks limit m calls ≡ Passed → MarketGroups
@@ -171,10 +174,10 @@ module _ (limit : Float) (m : Market) (calls : CallSchedule) where
   market-groups h =
       let g =
       groups-of-first
-      (settingChecks (m .controls)
+      (settingChecks (m .controls) (m .settlement .code)
       ∷ gridCounts (m .bond .leg) calls
       ∷ modelCounts (m .model .sigma) (m .pillars)
-      ∷ gridDays (m .settlement) (m .bond .leg) calls
+      ∷ gridDays (m .settlement .day) (m .bond .leg) calls
       ∷ (pillarDays (m .pillars) ∷ [])
       ∷ treeFields limit (m .bond .units) (m .model .alpha) (m .spread)
       ∷ listNumbers (m .bond .leg) calls
@@ -201,6 +204,7 @@ module _ (limit : Float) (m : Market) (calls : CallSchedule) where
         grid = record {
           steps = g .setting .0;
           leg = record {
+            code = g .setting .1 .0;
             settled = g .days .0;
             counted = g .counts .0;
             days = g .days .1 .0;
@@ -208,6 +212,7 @@ module _ (limit : Float) (m : Market) (calls : CallSchedule) where
             paid = g .later-orders .1 .0;
           };
           units = g .fields .0;
+          apart = g .late .1 .1 .0;
         };
         sigma = record {
           counted = g .model-counts .0;
@@ -219,7 +224,8 @@ module _ (limit : Float) (m : Market) (calls : CallSchedule) where
           days = g .pillar-days;
           factors = g .model-numbers .1 .0;
           ordered = g .late .0;
-          positive = g .late .1 .0;
+          apart = g .late .1 .0;
+          positive = g .late .1 .1 .1 .0;
         };
         alpha = g .fields .1 .0;
         spread = g .fields .1 .1 .0;
@@ -238,7 +244,7 @@ module _ (limit : Float) (m : Market) (calls : CallSchedule) where
   market-front : MarketPassed limit m → callCount calls ≡ Passed → callDays calls ≡ Passed → Passes market-before
   market-front t counted days =
       all-pass (spread-before m calls ++ ((within limit (m .spread) ∷ amountRange (m .bond .leg) ∷ []) ∷ [])) (
-        (t .grid .steps, tt),
+        (t .grid .steps, (t .grid .leg .code, tt)),
         (
           (t .grid .leg .counted, (counted, tt)),
           (
@@ -267,7 +273,7 @@ module _ (limit : Float) (m : Market) (calls : CallSchedule) where
           (k .ordered, tt),
           (
             (t .sigma .ordered, (t .grid .leg .paid, tt)),
-            ((t .pillars .ordered, (t .pillars .positive, tt)), tt),
+            ((t .pillars .ordered, (t .pillars .apart, (t .grid .apart, (t .pillars .positive, tt)))), tt),
           ),
         ),
       ))
@@ -345,14 +351,15 @@ spread-tried m calls s h = other-spread targetLimit m calls s (sym (spread-is m 
 
 -- ---- straight value
 
-module _ (settlement : ℕ) (leg : Leg) (spread : Float) (pillars : Pillars) where
+module _ (settlement : Settlement) (leg : Leg) (spread : Float) (pillars : Pillars) where
   abbrev straight-groups : List (List Check)
   straight-groups =
-      straightCounts leg pillars
-      ∷ straightDays settlement leg pillars
+      straightCounts (settlement .code) leg pillars
+      ∷ straightDays (settlement .day) leg pillars
       ∷ straightNumbers spread leg pillars
-      ∷ (anyPaid settlement leg ∷ [])
-      ∷ lateChecks settlement leg pillars
+      ∷ (anyPaid (settlement .day) leg ∷ [])
+      ∷ curveOrders settlement leg pillars
+      ∷ (positiveFactors pillars ∷ [])
       ∷ []
 
   pub straight-terms : straightChecks settlement leg spread pillars ≡ Passed → LegPassed settlement leg × PillarsPassed settlement leg pillars × (within (float 1) spread ≡ Passed)
@@ -363,9 +370,17 @@ module _ (settlement : ℕ) (leg : Leg) (spread : Float) (pillars : Pillars) whe
       let days = g .1 .0 in
       let numbers = g .1 .1 .0 in
       let paid = g .1 .1 .1 .0 in
-      let late = g .1 .1 .1 .1 .0 in (
-        record { settled = days .0; counted = counts .0; days = days .1 .0; amounts = numbers .1 .0; paid = paid .0 },
-        record { counted = counts .1 .0; days = days .1 .1 .0; factors = numbers .1 .1 .0; ordered = late .0; positive = late .1 .0 },
+      let curve = g .1 .1 .1 .1 .0 in
+      let late = g .1 .1 .1 .1 .1 .0 in (
+        record { code = counts .0; settled = days .0; counted = counts .1 .0; days = days .1 .0; amounts = numbers .1 .0; paid = paid .0 },
+        record {
+          counted = counts .1 .1 .0;
+          days = days .1 .1 .0;
+          factors = numbers .1 .1 .0;
+          ordered = curve .0;
+          apart = curve .1 .0;
+          positive = late .0;
+        },
         numbers .0,
       )
 
@@ -373,14 +388,17 @@ module _ (settlement : ℕ) (leg : Leg) (spread : Float) (pillars : Pillars) whe
   unfolding straightChecks
   straight-passed l q e =
       first-of-groups straight-groups (
-        (l .counted, (q .counted, tt)),
+        (l .code, (l .counted, (q .counted, tt))),
         (
           (l .settled, (l .days, (q .days, tt))),
           (
             (e, (l .amounts, (q .factors, tt))),
             (
               (l .paid, tt),
-              ((q .ordered, (q .positive, tt)), tt),
+              (
+                (q .ordered, (q .apart, tt)),
+                ((q .positive, tt), tt),
+              ),
             ),
           ),
         ),
@@ -388,9 +406,15 @@ module _ (settlement : ℕ) (leg : Leg) (spread : Float) (pillars : Pillars) whe
 
 -- ---- the yield entries
 
-module _ (limit : Float) (settlement : ℕ) (leg : Leg) (x : Float) (rate : Check) where
+module _ (limit : Float) (settlement : Settlement) (leg : Leg) (x : Float) (rate : Check) where
   abbrev yield-groups : List (List Check)
-  yield-groups = (legCount leg ∷ []) ∷ yieldDays settlement leg ∷ yieldNumbers limit x leg ∷ (anyPaid settlement leg ∷ []) ∷ (rate ∷ []) ∷ []
+  yield-groups =
+      yieldCounts (settlement .code) leg
+      ∷ yieldDays (settlement .day) leg
+      ∷ yieldNumbers limit x leg
+      ∷ (anyPaid (settlement .day) leg ∷ [])
+      ∷ (rate ∷ [])
+      ∷ []
 
   pub yield-terms : yieldChecks limit settlement leg x rate ≡ Passed → LegPassed settlement leg × (within limit x ≡ Passed) × (rate ≡ Passed)
   unfolding yieldChecks
@@ -401,7 +425,7 @@ module _ (limit : Float) (settlement : ℕ) (leg : Leg) (x : Float) (rate : Chec
       let numbers = g .1 .1 .0 in
       let paid = g .1 .1 .1 .0 in
       let last = g .1 .1 .1 .1 .0 in (
-        record { settled = days .0; counted = counts .0; days = days .1 .0; amounts = numbers .1 .0; paid = paid .0 },
+        record { code = counts .0; settled = days .0; counted = counts .1 .0; days = days .1 .0; amounts = numbers .1 .0; paid = paid .0 },
         numbers .0,
         last .0,
       )
@@ -410,7 +434,7 @@ module _ (limit : Float) (settlement : ℕ) (leg : Leg) (x : Float) (rate : Chec
   unfolding yieldChecks
   yield-passed l e f =
       first-of-groups yield-groups (
-        (l .counted, tt),
+        (l .code, (l .counted, tt)),
         (
           (l .settled, (l .days, tt)),
           (

@@ -8,6 +8,7 @@ use lib.Ieee.{lt, le}
 use Rattle.floats.specs.declared.Refusal.{Refusal}
 use Rattle.floats.specs.Answers.{plusZero}
 use Rattle.floats.specs.laws.Order.{number-of-finite, number-of-le, le-of-lt, le-of-not-lt, lt-of-lt-of-le, between}
+use Rattle.terms.specs.declared.Settlement.{Settlement}
 use Rattle.terms.specs.declared.Check.the-variants.{Passed, Refused}
 use Rattle.terms.specs.Numbers.{million}
 use Rattle.terms.specs.Terms.{CallSchedule, Bond, TimeGrid, Market}
@@ -114,7 +115,7 @@ module _ (first second : CallSchedule) (made : MadeFrom first second) where
 
   -- ---- the checks of the grid
 
-  module _ (settlement : ℕ) (bond : Bond) (controls : TimeGrid) (h : gridChecks settlement bond first controls ≡ Passed) where
+  module _ (settlement : Settlement) (bond : Bond) (controls : TimeGrid) (h : gridChecks settlement bond first controls ≡ Passed) where
     pub grid-made-refused : SomeAbove second → (r : Refusal) × (gridChecks settlement bond second controls ≡ Refused r) × (r .number ≡ 4)
     grid-made-refused s =
         let k = grid-calls settlement bond first controls h in
@@ -143,6 +144,6 @@ module _ (first second : CallSchedule) (r : Reordered first second) where
   pub tree-reordered : (m : Market) → treeChecks m first ≡ Passed → treeChecks m second ≡ Passed
   tree-reordered m h = tree-reordered-alike m (tree-calls m first h) ∙ h
 
-  pub grid-reordered : (settlement : ℕ) (bond : Bond) (controls : TimeGrid) → gridChecks settlement bond first controls ≡ Passed → gridChecks settlement bond second controls ≡ Passed
+  pub grid-reordered : (settlement : Settlement) (bond : Bond) (controls : TimeGrid) → gridChecks settlement bond first controls ≡ Passed → gridChecks settlement bond second controls ≡ Passed
   grid-reordered settlement bond controls h =
       grid-passed settlement bond second controls (grid-terms settlement bond first controls h) (reordered-calls (grid-calls settlement bond first controls h))

@@ -6,6 +6,7 @@ use mathlib.Core.List.{List, [], _∷_}
 use native.Mathlib.Omega.{arith}
 use borrow.Author.Needs.{needs}
 use Rattle.floats.specs.declared.Refusal.{Refusal}
+use Rattle.terms.specs.declared.Settlement.{Settlement}
 use Rattle.terms.specs.declared.Check.{Check}
 use Rattle.terms.specs.declared.Check.the-variants.{Passed, Refused}
 use Rattle.terms.specs.Terms.{CallSchedule, Bond, TimeGrid}
@@ -42,6 +43,6 @@ pub ruleset numbered = (single-numbered, lowest-numbered, none-numbered, first-n
 
 -- ---- the grid's checks
 
-pub grid-numbered : (settlement : ℕ) (bond : Bond) (calls : CallSchedule) (controls : TimeGrid) → Numbered (gridChecks settlement bond calls controls)
+pub grid-numbered : (settlement : Settlement) (bond : Bond) (calls : CallSchedule) (controls : TimeGrid) → Numbered (gridChecks settlement bond calls controls)
 unfolding gridChecks
 grid-numbered settlement bond calls controls = search numbered depth 24

@@ -8,6 +8,7 @@ use lib.IntN.{ℤ, pos}
 use lib.Ieee.{Float, binary64, div}
 use Rattle.floats.specs.declared.Refusal.{Refusal}
 use Rattle.floats.specs.Answers.{plusZero}
+use Rattle.terms.specs.declared.Settlement.{Settlement}
 use Rattle.terms.specs.declared.Check.{Check}
 use Rattle.terms.specs.declared.Check.the-variants as check
 use Rattle.terms.specs.Checks.{onCheck}
@@ -50,7 +51,7 @@ grid-refused (given g) {r} {q} e p = absurd (let c : check.Passed ≡ check.Refu
 grid-refused (refused s) {r} {q} e p = let c : check.Refused s ≡ check.Refused q = sym (ap (λ (x : EventGrid). x .check) e) ∙ p in let d : s ≡ q = cc in ap refused d
 
 -- A grid that is given has 1 to 512 steps.
-pub steps-of-grid : (settlement : ℕ) (bond : Bond) (calls : CallSchedule) (controls : TimeGrid) {r : EventGrid} → r ≡ gridOutcome (eventGrid settlement bond calls controls) → r .check ≡ check.Passed → 1 ≤ controls .maximum → controls .maximum ≤ 512 → (0 < r .grid .steps) × (r .grid .steps ≤ 512)
+pub steps-of-grid : (settlement : Settlement) (bond : Bond) (calls : CallSchedule) (controls : TimeGrid) {r : EventGrid} → r ≡ gridOutcome (eventGrid settlement bond calls controls) → r .check ≡ check.Passed → 1 ≤ controls .maximum → controls .maximum ≤ 512 → (0 < r .grid .steps) × (r .grid .steps ≤ 512)
 unfolding eventGrid axisOf
 steps-of-grid settlement bond calls controls {r} e p some few =
     let w = of-given (callSteps (axisOf settlement (bond .leg) controls) bond calls) _ (grid-given (eventGrid settlement bond calls controls) e p) in

@@ -3,13 +3,13 @@ use Prim.Native.Nat.{_-_}
 use borrow.Author.Needs.{needs}
 use lib.ListN.{getD}
 use lib.Ieee.{nan}
-use Rattle.bondevents.specs.Parts.{axisAt, inWindow, priced}
+use Rattle.bondevents.specs.Parts.{axisAt, noEpoch, inWindow, priced}
 use Rattle.bondevents.proofs.Scanning.{Scanning, keep, scanning}
 use Rattle.bondevents.proofs.calls.over_window.Statement.{statement}
 use Rattle.bondevents.proofs.calls.over_window.Tie as tie
 
 abbrev Inv-loop : tie.InvT-loop
-Inv-loop maturity steps from to strike units principals kept₀ i₀ kept i = Scanning (inWindow (axisAt 0 maturity steps) from to) (λ step. priced strike (getD principals step nan) units) steps kept₀ kept i
+Inv-loop maturity steps from to strike units principals kept₀ i₀ kept i = Scanning (inWindow (axisAt noEpoch maturity steps) from to) (λ step. priced strike (getD principals step nan) units) steps kept₀ kept i
 
 abbrev μ-loop : tie.MeasureT-loop
 μ-loop maturity steps from to strike units principals kept₀ i₀ kept i = steps - i

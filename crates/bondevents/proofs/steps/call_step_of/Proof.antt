@@ -8,8 +8,8 @@ use Rattle.bondevents.specs.Steps.{rawStep}
 use Rattle.bondevents.proofs.steps.call_step_of.Statement.{statement}
 use Rattle.bondevents.proofs.steps.call_step_of.Tie as tie
 
-year-fraction-requires : tie.Need-year-fraction-requires
-year-fraction-requires c κs = search answers
+time-from-requires : tie.Need-time-from-requires
+time-from-requires c κs = search answers
 
 int-to-float-target : tie.Need-int-to-float-target
 int-to-float-target c = search answers
@@ -35,7 +35,7 @@ pub call-step-of-spec : {M : Type 1} → statement M
 call-step-of-spec =
     tie.close
     (tie.spec
-    year-fraction-requires
+    time-from-requires
     int-to-float-target
     sub-near-to
     near-to-requires

@@ -5,8 +5,8 @@ use Rattle.bondevents.specs.Steps.{rawStep}
 use Rattle.bondevents.proofs.steps.step_of.Statement.{statement}
 use Rattle.bondevents.proofs.steps.step_of.Tie as tie
 
-year-fraction-requires : tie.Need-year-fraction-requires
-year-fraction-requires c κs = search answers
+time-from-requires : tie.Need-time-from-requires
+time-from-requires c κs = search answers
 
 int-to-float-near-to : tie.Need-int-to-float-near-to
 int-to-float-near-to c = search answers
@@ -20,4 +20,4 @@ returns c = cc
 
 pub step-of-spec : {M : Type 1} → statement M
 step-of-spec =
-    tie.close (tie.spec year-fraction-requires int-to-float-near-to near-to-requires returns)
+    tie.close (tie.spec time-from-requires int-to-float-near-to near-to-requires returns)

@@ -55,7 +55,7 @@ returns-4 : tie.Need-returns-4
 returns-4 c = as-market _ _ _ (passed-first _ _ (c .before .before .before .before .before .before .before .before .before .before .before .tree-counts .ensures .same) (c .before .before .before .before .before .before .before .before .before .enum-told .given .1) (passed-first _ _ (c .before .before .before .before .before .before .before .before .tree-days .ensures) (c .before .before .before .before .before .before .enum-told3 .given .1) (passed-first _ _ (c .before .before .before .before .before .tree-numbers .ensures) (c .before .before .before .enum-told5 .given .1) (refused-first _ _ (c .before .before .tree-orders .ensures) (c .enum-told8 .given .1) refl))))
 
 late-checks-requires : tie.Need-late-checks-requires
-late-checks-requires c κs = let n = c .before .before .before .before .before .before .before .before .before .before .before .tree-counts .ensures .passed (c .before .before .before .before .before .before .before .before .before .enum-told .given .1) in omega arith
+late-checks-requires c κs = let n = c .before .before .before .before .before .before .before .before .before .before .before .tree-counts .ensures .passed (c .before .before .before .before .before .before .before .before .before .enum-told .given .1) in (omega arith, (omega arith, c .before .before .before .before .before .before .before .before .before .before .before .before .before .before .before .before .before .before .before .before .before .before .before .pre .timed (omega arith)))
 
 returns-5 : tie.Need-returns-5
 returns-5 c = as-market _ _ _ (passed-first _ _ (c .before .before .before .before .before .before .before .before .before .before .before .before .tree-counts .ensures .same) (c .before .before .before .before .before .before .before .before .before .before .enum-told .given .1) (passed-first _ _ (c .before .before .before .before .before .before .before .before .before .tree-days .ensures) (c .before .before .before .before .before .before .before .enum-told3 .given .1) (passed-first _ _ (c .before .before .before .before .before .before .tree-numbers .ensures) (c .before .before .before .before .enum-told5 .given .1) (passed-first _ _ (c .before .before .before .tree-orders .ensures) (c .before .enum-told7 .given .1) (only-one _ (c .late-checks .ensures))))))

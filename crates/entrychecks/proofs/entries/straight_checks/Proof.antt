@@ -43,7 +43,7 @@ returns-3 : tie.Need-returns-3
 returns-3 c = as-straight _ _ _ _ (passed-first _ _ (c .before .before .before .before .before .before .before .before .straight-counts .ensures .same) (c .before .before .before .before .before .before .enum-told .given .1) (passed-first _ _ (c .before .before .before .before .before .straight-days .ensures) (c .before .before .before .enum-told3 .given .1) (refused-first _ _ (c .before .before .straight-numbers .ensures) (c .enum-told6 .given .1) refl)))
 
 straight-orders-requires : tie.Need-straight-orders-requires
-straight-orders-requires c κs = let n = c .before .before .before .before .before .before .before .before .straight-counts .ensures .passed (c .before .before .before .before .before .before .enum-told .given .1) in omega arith
+straight-orders-requires c κs = let n = c .before .before .before .before .before .before .before .before .straight-counts .ensures .passed (c .before .before .before .before .before .before .enum-told .given .1) in (omega arith, (omega arith, c .before .before .before .before .before .before .before .before .before .before .before .before .before .before .before .pre .timed (omega arith)))
 
 returns-4 : tie.Need-returns-4
 returns-4 c = as-straight _ _ _ _ (passed-first _ _ (c .before .before .before .before .before .before .before .before .before .straight-counts .ensures .same) (c .before .before .before .before .before .before .before .enum-told .given .1) (passed-first _ _ (c .before .before .before .before .before .before .straight-days .ensures) (c .before .before .before .before .enum-told3 .given .1) (passed-first _ _ (c .before .before .before .straight-numbers .ensures) (c .before .enum-told5 .given .1) (only-one _ (c .straight-orders .ensures)))))

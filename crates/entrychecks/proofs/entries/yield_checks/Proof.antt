@@ -1,15 +1,13 @@
 -- `yield_checks` meets its contract: the stages follow one another as in the definition; what a stage requires follows from the counts, which passed before it. Assumes nothing.
-use mathlib.Core.Path.{refl, sym, _∙_}
+use mathlib.Core.Path.{refl}
 use native.Mathlib.Omega.{arith}
 use borrow.Author.Needs.{needs}
-use Rattle.terms.specs.Terms.{Leg}
-use Rattle.terms.specs.laws.TermChecks.{leg-counted}
 use Rattle.terms.proofs.Laws.{passed-first, refused-first, only-one, as-yield}
 use Rattle.entrychecks.proofs.entries.yield_checks.Statement.{statement}
 use Rattle.entrychecks.proofs.entries.yield_checks.Tie as tie
 
-leg-count-requires : tie.Need-leg-count-requires
-leg-count-requires c κs = search needs
+yield-counts-requires : tie.Need-yield-counts-requires
+yield-counts-requires c κs = search needs
 
 enum-told : tie.Need-enum-told
 enum-told c = search needs
@@ -18,10 +16,10 @@ enum-told-2 : tie.Need-enum-told-2
 enum-told-2 c = search needs
 
 returns : tie.Need-returns
-returns c = as-yield _ _ _ _ _ (refused-first _ _ (c .before .before .leg-count .ensures) (c .enum-told2 .given .1) refl)
+returns c = as-yield _ _ _ _ _ (refused-first _ _ (c .before .before .yield-counts .ensures .same) (c .enum-told2 .given .1) refl)
 
 yield-days-requires : tie.Need-yield-days-requires
-yield-days-requires c κs = omega (arith, leg-counted (record { days = c .before .before .before .before .before .before .args .days .now; kinds = c .before .before .before .before .before .before .args .kinds .now; amounts = c .before .before .before .before .before .before .args .amounts .now }) (sym (c .before .before .leg-count .ensures) ∙ (c .enum-told .given .1)))
+yield-days-requires c κs = let n = c .before .before .yield-counts .ensures .passed (c .enum-told .given .1) in omega arith
 
 enum-told-3 : tie.Need-enum-told-3
 enum-told-3 c = search needs
@@ -30,10 +28,10 @@ enum-told-4 : tie.Need-enum-told-4
 enum-told-4 c = search needs
 
 returns-2 : tie.Need-returns-2
-returns-2 c = as-yield _ _ _ _ _ (passed-first _ _ (c .before .before .before .before .before .leg-count .ensures) (c .before .before .before .enum-told .given .1) (refused-first _ _ (c .before .before .yield-days .ensures) (c .enum-told4 .given .1) refl))
+returns-2 c = as-yield _ _ _ _ _ (passed-first _ _ (c .before .before .before .before .before .yield-counts .ensures .same) (c .before .before .before .enum-told .given .1) (refused-first _ _ (c .before .before .yield-days .ensures) (c .enum-told4 .given .1) refl))
 
 yield-numbers-requires : tie.Need-yield-numbers-requires
-yield-numbers-requires c κs = omega (arith, leg-counted (record { days = c .before .before .before .before .before .before .before .before .before .args .days .now; kinds = c .before .before .before .before .before .before .before .before .before .args .kinds .now; amounts = c .before .before .before .before .before .before .before .before .before .args .amounts .now }) (sym (c .before .before .before .before .before .leg-count .ensures) ∙ (c .before .before .before .enum-told .given .1)))
+yield-numbers-requires c κs = let n = c .before .before .before .before .before .yield-counts .ensures .passed (c .before .before .before .enum-told .given .1) in omega arith
 
 enum-told-5 : tie.Need-enum-told-5
 enum-told-5 c = search needs
@@ -42,7 +40,7 @@ enum-told-6 : tie.Need-enum-told-6
 enum-told-6 c = search needs
 
 returns-3 : tie.Need-returns-3
-returns-3 c = as-yield _ _ _ _ _ (passed-first _ _ (c .before .before .before .before .before .before .before .before .leg-count .ensures) (c .before .before .before .before .before .before .enum-told .given .1) (passed-first _ _ (c .before .before .before .before .before .yield-days .ensures) (c .before .before .before .enum-told3 .given .1) (refused-first _ _ (c .before .before .yield-numbers .ensures) (c .enum-told6 .given .1) refl)))
+returns-3 c = as-yield _ _ _ _ _ (passed-first _ _ (c .before .before .before .before .before .before .before .before .yield-counts .ensures .same) (c .before .before .before .before .before .before .enum-told .given .1) (passed-first _ _ (c .before .before .before .before .before .yield-days .ensures) (c .before .before .before .enum-told3 .given .1) (refused-first _ _ (c .before .before .yield-numbers .ensures) (c .enum-told6 .given .1) refl)))
 
 any-paid-requires : tie.Need-any-paid-requires
 any-paid-requires c κs = search needs
@@ -54,16 +52,16 @@ enum-told-8 : tie.Need-enum-told-8
 enum-told-8 c = search needs
 
 returns-4 : tie.Need-returns-4
-returns-4 c = as-yield _ _ _ _ _ (passed-first _ _ (c .before .before .before .before .before .before .before .before .before .before .before .leg-count .ensures) (c .before .before .before .before .before .before .before .before .before .enum-told .given .1) (passed-first _ _ (c .before .before .before .before .before .before .before .before .yield-days .ensures) (c .before .before .before .before .before .before .enum-told3 .given .1) (passed-first _ _ (c .before .before .before .before .before .yield-numbers .ensures) (c .before .before .before .enum-told5 .given .1) (refused-first _ _ (c .before .before .any-paid .ensures) (c .enum-told8 .given .1) refl))))
+returns-4 c = as-yield _ _ _ _ _ (passed-first _ _ (c .before .before .before .before .before .before .before .before .before .before .before .yield-counts .ensures .same) (c .before .before .before .before .before .before .before .before .before .enum-told .given .1) (passed-first _ _ (c .before .before .before .before .before .before .before .before .yield-days .ensures) (c .before .before .before .before .before .before .enum-told3 .given .1) (passed-first _ _ (c .before .before .before .before .before .yield-numbers .ensures) (c .before .before .before .enum-told5 .given .1) (refused-first _ _ (c .before .before .any-paid .ensures) (c .enum-told8 .given .1) refl))))
 
 returns-5 : tie.Need-returns-5
-returns-5 c = as-yield _ _ _ _ _ (passed-first _ _ (c .before .before .before .before .before .before .before .before .before .before .before .leg-count .ensures) (c .before .before .before .before .before .before .before .before .before .enum-told .given .1) (passed-first _ _ (c .before .before .before .before .before .before .before .before .yield-days .ensures) (c .before .before .before .before .before .before .enum-told3 .given .1) (passed-first _ _ (c .before .before .before .before .before .yield-numbers .ensures) (c .before .before .before .enum-told5 .given .1) (passed-first _ _ (c .before .before .any-paid .ensures) (c .enum-told7 .given .1) (only-one _ refl)))))
+returns-5 c = as-yield _ _ _ _ _ (passed-first _ _ (c .before .before .before .before .before .before .before .before .before .before .before .yield-counts .ensures .same) (c .before .before .before .before .before .before .before .before .before .enum-told .given .1) (passed-first _ _ (c .before .before .before .before .before .before .before .before .yield-days .ensures) (c .before .before .before .before .before .before .enum-told3 .given .1) (passed-first _ _ (c .before .before .before .before .before .yield-numbers .ensures) (c .before .before .before .enum-told5 .given .1) (passed-first _ _ (c .before .before .any-paid .ensures) (c .enum-told7 .given .1) (only-one _ refl)))))
 
 pub yield-checks-spec : {M : Type 1} → statement M
 yield-checks-spec =
     tie.close
     (tie.spec
-    leg-count-requires
+    yield-counts-requires
     enum-told
     enum-told-2
     returns

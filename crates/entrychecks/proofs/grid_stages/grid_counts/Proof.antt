@@ -14,10 +14,10 @@ enum-told-2 : tie.Need-enum-told-2
 enum-told-2 c = search sequence
 
 returns : tie.Need-returns
-returns c = grid-tells (record { perYear = c .before .before .before .before .before .before .before .before .before .args .yearly; maximum = c .before .before .before .before .before .before .before .before .before .args .maximum }) _ _ (search sequence)
+returns c = let start = c .before .before .before .before .before .before .before .before .before in grid-tells (record { perYear = start .args .yearly; maximum = start .args .maximum }) (start .args .code) _ _ (search sequence)
 
-leg-count-requires : tie.Need-leg-count-requires
-leg-count-requires c κs = search sequence
+day-count-requires : tie.Need-day-count-requires
+day-count-requires c κs = search sequence
 
 enum-told-3 : tie.Need-enum-told-3
 enum-told-3 c = search sequence
@@ -26,13 +26,25 @@ enum-told-4 : tie.Need-enum-told-4
 enum-told-4 c = search sequence
 
 returns-2 : tie.Need-returns-2
-returns-2 c = grid-tells (record { perYear = c .before .before .before .before .before .before .before .before .before .before .before .before .args .yearly; maximum = c .before .before .before .before .before .before .before .before .before .before .before .before .args .maximum }) _ _ (search sequence)
+returns-2 c = let start = c .before .before .before .before .before .before .before .before .before .before .before .before in grid-tells (record { perYear = start .args .yearly; maximum = start .args .maximum }) (start .args .code) _ _ (search sequence)
+
+leg-count-requires : tie.Need-leg-count-requires
+leg-count-requires c κs = search sequence
+
+enum-told-5 : tie.Need-enum-told-5
+enum-told-5 c = search sequence
+
+enum-told-6 : tie.Need-enum-told-6
+enum-told-6 c = search sequence
+
+returns-3 : tie.Need-returns-3
+returns-3 c = let start = c .before .before .before .before .before .before .before .before .before .before .before .before .before .before .before in grid-tells (record { perYear = start .args .yearly; maximum = start .args .maximum }) (start .args .code) _ _ (search sequence)
 
 call-count-requires : tie.Need-call-count-requires
 call-count-requires c κs = search sequence
 
-returns-3 : tie.Need-returns-3
-returns-3 c = grid-tells (record { perYear = c .before .before .before .before .before .before .before .before .before .before .before .before .before .args .yearly; maximum = c .before .before .before .before .before .before .before .before .before .before .before .before .before .args .maximum }) _ _ (search sequence)
+returns-4 : tie.Need-returns-4
+returns-4 c = let start = c .before .before .before .before .before .before .before .before .before .before .before .before .before .before .before .before in grid-tells (record { perYear = start .args .yearly; maximum = start .args .maximum }) (start .args .code) _ _ (search sequence)
 
 pub grid-counts-spec : {M : Type 1} → statement M
 grid-counts-spec =
@@ -42,9 +54,13 @@ grid-counts-spec =
     enum-told
     enum-told-2
     returns
-    leg-count-requires
+    day-count-requires
     enum-told-3
     enum-told-4
     returns-2
+    leg-count-requires
+    enum-told-5
+    enum-told-6
+    returns-3
     call-count-requires
-    returns-3)
+    returns-4)

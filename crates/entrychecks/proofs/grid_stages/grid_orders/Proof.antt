@@ -18,10 +18,32 @@ returns c = search sequence
 any-paid-requires : tie.Need-any-paid-requires
 any-paid-requires c κs = search sequence
 
+enum-told-3 : tie.Need-enum-told-3
+enum-told-3 c = search sequence
+
+enum-told-4 : tie.Need-enum-told-4
+enum-told-4 c = search sequence
+
 returns-2 : tie.Need-returns-2
 returns-2 c = search sequence
+
+maturity-apart-requires : tie.Need-maturity-apart-requires
+maturity-apart-requires c κs = search sequence
+
+returns-3 : tie.Need-returns-3
+returns-3 c = search sequence
 
 pub grid-orders-spec : {M : Type 1} → statement M
 grid-orders-spec =
     tie.close
-    (tie.spec call-order-requires enum-told enum-told-2 returns any-paid-requires returns-2)
+    (tie.spec
+    call-order-requires
+    enum-told
+    enum-told-2
+    returns
+    any-paid-requires
+    enum-told-3
+    enum-told-4
+    returns-2
+    maturity-apart-requires
+    returns-3)

@@ -4,8 +4,8 @@ use Rattle.interestrate.proofs.Laws.{prices}
 use Rattle.interestrate.proofs.prices.with_flow.Statement.{statement}
 use Rattle.interestrate.proofs.prices.with_flow.Tie as tie
 
-year-fraction-requires : tie.Need-year-fraction-requires
-year-fraction-requires c κs = search prices
+time-from-requires : tie.Need-time-from-requires
+time-from-requires c κs = search prices
 
 yield-discount-and-derivative-requires : tie.Need-yield-discount-and-derivative-requires
 yield-discount-and-derivative-requires c κs = search prices
@@ -18,7 +18,7 @@ enum-told c = search prices
 
 returns : tie.Need-returns
 unfolding withFlow
-returns c = rw (← c .before .before .before .year-fraction .ensures) (search prices)
+returns c = rw (← c .before .before .before .time-from .ensures) (search prices)
 
 mul-add-at-requires : tie.Need-mul-add-at-requires
 mul-add-at-requires c κs = search prices
@@ -34,7 +34,7 @@ refusal-of-requires c κs = search prices
 
 returns-2 : tie.Need-returns-2
 unfolding withFlow
-returns-2 c = rw (← c .before .before .before .before .before .before .before .before .year-fraction .ensures) (search prices)
+returns-2 c = rw (← c .before .before .before .before .before .before .before .before .time-from .ensures) (search prices)
 
 mul-add-at-requires-2 : tie.Need-mul-add-at-requires-2
 mul-add-at-requires-2 c κs = search prices
@@ -50,17 +50,17 @@ refusal-of-requires-2 c κs = search prices
 
 returns-3 : tie.Need-returns-3
 unfolding withFlow
-returns-3 c = rw (← c .before .before .before .before .before .before .before .before .before .before .before .before .year-fraction .ensures) (search prices)
+returns-3 c = rw (← c .before .before .before .before .before .before .before .before .before .before .before .before .time-from .ensures) (search prices)
 
 returns-4 : tie.Need-returns-4
 unfolding withFlow
-returns-4 c = rw (← c .before .before .before .before .before .before .before .before .before .before .before .before .year-fraction .ensures) (search prices)
+returns-4 c = rw (← c .before .before .before .before .before .before .before .before .before .before .before .before .time-from .ensures) (search prices)
 
 pub with-flow-spec : {M : Type 1} → statement M
 with-flow-spec =
     tie.close
     (tie.spec
-    year-fraction-requires
+    time-from-requires
     yield-discount-and-derivative-requires
     enum-known-a
     enum-told

@@ -42,8 +42,8 @@ eight-numbers-requires-3 c κs = search needs
 eight-floats-requires-2 : tie.Need-eight-floats-requires-2
 eight-floats-requires-2 c κs = search needs
 
-number-requires-3 : tie.Need-number-requires-3
-number-requires-3 c κs = search needs
+settlement-of-requires : tie.Need-settlement-of-requires
+settlement-of-requires c κs = search needs
 
 array-share-prefix-days : tie.Need-array-share-prefix-days
 array-share-prefix-days c = search needs
@@ -84,11 +84,11 @@ array-share-prefix-strikes c = search needs
 slice-aggregate-bond-event-grid-6 : tie.Need-slice-aggregate-bond-event-grid-6
 slice-aggregate-bond-event-grid-6 c = sym (length-take-le _ _ (omega arith))
 
+number-requires-3 : tie.Need-number-requires-3
+number-requires-3 c κs = search needs
+
 number-requires-4 : tie.Need-number-requires-4
 number-requires-4 c κs = search needs
-
-number-requires-5 : tie.Need-number-requires-5
-number-requires-5 c κs = search needs
 
 bond-event-grid-requires : tie.Need-bond-event-grid-requires
 bond-event-grid-requires c κs = search needs
@@ -115,7 +115,7 @@ same-spec =
     eight-numbers-requires-2
     eight-numbers-requires-3
     eight-floats-requires-2
-    number-requires-3
+    settlement-of-requires
     array-share-prefix-days
     slice-aggregate-bond-event-grid
     array-share-prefix-kinds
@@ -129,8 +129,8 @@ same-spec =
     slice-aggregate-bond-event-grid-5
     array-share-prefix-strikes
     slice-aggregate-bond-event-grid-6
+    number-requires-3
     number-requires-4
-    number-requires-5
     bond-event-grid-requires
     same-grid-requires
     returns-3)

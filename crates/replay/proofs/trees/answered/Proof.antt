@@ -72,8 +72,8 @@ eight-numbers-requires-4 c κs = search needs
 eight-floats-requires-5 : tie.Need-eight-floats-requires-5
 eight-floats-requires-5 c κs = search needs
 
-number-requires-5 : tie.Need-number-requires-5
-number-requires-5 c κs = search needs
+settlement-of-requires : tie.Need-settlement-of-requires
+settlement-of-requires c κs = search needs
 
 array-share-prefix-days : tie.Need-array-share-prefix-days
 array-share-prefix-days c = omega (arith, c .before .before .before .before .before .before .before .before .before .before .before .before .before .before .if1 .left)
@@ -114,11 +114,11 @@ array-share-prefix-strikes c = omega (arith, c .before .before .before .before .
 slice-aggregate-tree-value-6 : tie.Need-slice-aggregate-tree-value-6
 slice-aggregate-tree-value-6 c = sym (length-take-le _ _ (omega (arith, c .before .before .before .before .before .before .before .before .before .before .before .before .before .before .before .before .before .before .before .before .if2 .left, c .before .before .before .before .before .before .before .before .before .before .before .before .eight-floats2 .ensures)))
 
+number-requires-5 : tie.Need-number-requires-5
+number-requires-5 c κs = search needs
+
 number-requires-6 : tie.Need-number-requires-6
 number-requires-6 c κs = search needs
-
-number-requires-7 : tie.Need-number-requires-7
-number-requires-7 c κs = search needs
 
 float-requires-2 : tie.Need-float-requires-2
 float-requires-2 c κs = search needs
@@ -153,11 +153,11 @@ slice-aggregate-tree-value-10 c = sym (length-take-le _ _ (omega (arith, c .befo
 tree-value-requires : tie.Need-tree-value-requires
 tree-value-requires c κs = search needs
 
+number-requires-7 : tie.Need-number-requires-7
+number-requires-7 c κs = search needs
+
 number-requires-8 : tie.Need-number-requires-8
 number-requires-8 c κs = search needs
-
-number-requires-9 : tie.Need-number-requires-9
-number-requires-9 c κs = search needs
 
 float-requires-4 : tie.Need-float-requires-4
 float-requires-4 c κs = search needs
@@ -209,7 +209,7 @@ answered-spec =
     eight-floats-requires-4
     eight-numbers-requires-4
     eight-floats-requires-5
-    number-requires-5
+    settlement-of-requires
     array-share-prefix-days
     slice-aggregate-tree-value
     array-share-prefix-kinds
@@ -223,8 +223,8 @@ answered-spec =
     slice-aggregate-tree-value-5
     array-share-prefix-strikes
     slice-aggregate-tree-value-6
+    number-requires-5
     number-requires-6
-    number-requires-7
     float-requires-2
     array-share-prefix-times
     slice-aggregate-tree-value-7
@@ -236,8 +236,8 @@ answered-spec =
     array-share-prefix-factors
     slice-aggregate-tree-value-10
     tree-value-requires
+    number-requires-7
     number-requires-8
-    number-requires-9
     float-requires-4
     word-requires
     is-answer-requires

@@ -1,7 +1,4 @@
 -- `checked_spread` meets its contract: the grid, then the root (`SpreadSolved`). Assumes nothing.
-use mathlib.Core.Path.{sym}
-use native.Mathlib.Omega.{arith}
-use lib.Seq.{length-take-le}
 use Rattle.treebasedbondpricer.specs.laws.Entered.{steps-of-grid}
 use Rattle.spreads.specs.laws.SpreadSolved.{root-unchecked, root-checked}
 use borrow.Author.Needs.{needs}
@@ -20,17 +17,10 @@ returns c = root-unchecked _ _ _ (c .before .before .before .event-grid .ensures
 enum-told : tie.Need-enum-told
 enum-told c = c .match .keys2
 
-pillar-times-requires : tie.Need-pillar-times-requires
-pillar-times-requires c κs = c .before .before .before .before .before .before .before .before .before .before .before .before .before .before .before .before .before .pre .1 .1 .1
-
-array-share-prefix-curve-times : tie.Need-array-share-prefix-curve-times
-array-share-prefix-curve-times c = omega (arith, c .before .before .before .before .before .before .before .before .before .before .before .before .before .before .before .before .before .before .pre .1 .1 .1)
-
-slice-aggregate-solve-grid : tie.Need-slice-aggregate-solve-grid
-slice-aggregate-solve-grid c = let few = c .before .before .before .before .before .before .before .before .before .before .before .before .before .before .before .before .before .before .before .pre .1 .1 .1 in sym (length-take-le _ _ (omega arith))
-
 solve-grid-requires : tie.Need-solve-grid-requires
-solve-grid-requires c κs = steps-of-grid _ _ _ _ (c .before .before .before .before .before .before .before .before .before .event-grid .ensures) (c .before .before .before .before .before .before .before .enum-told .given .1) (c .before .before .before .before .before .before .before .before .before .before .before .before .before .before .before .before .before .before .before .before .before .before .before .pre .0 .0) (c .before .before .before .before .before .before .before .before .before .before .before .before .before .before .before .before .before .before .before .before .before .before .before .pre .0 .1)
+solve-grid-requires c κs =
+    let start = c .before .before .before .before .before .before .before .before .before .before .before .before .before .before .before .before .before .before .before .before .before .before in
+    steps-of-grid _ _ _ _ (c .before .before .before .before .before .before .before .event-grid .ensures) (c .before .before .before .before .before .enum-told .given .1) (start .pre .0 .0) (start .pre .0 .1)
 
 same-length : tie.Need-same-length
 same-length c = c .before .before .before .before .before .before .before .solve-grid .kept .1 .1 .1 .1 .1 .1 .1 .0
@@ -45,7 +35,7 @@ same-length-4 : tie.Need-same-length-4
 same-length-4 c = c .before .before .before .before .before .before .before .solve-grid .kept .1 .1 .1 .1 .1 .1 .1 .1 .1 .1 .0
 
 returns-2 : tie.Need-returns-2
-returns-2 c = root-checked _ _ _ (c .before .before .before .before .before .before .before .before .before .before .before .before .before .before .before .before .before .event-grid .ensures) (c .before .before .before .before .before .before .before .before .before .before .before .before .before .pillar-times .ensures) (c .before .before .before .before .before .before .before .before .before .before .before .before .before .before .before .enum-told .given .1) (c .before .before .before .before .before .before .before .solve-grid .ensures)
+returns-2 c = root-checked _ _ _ (c .before .before .before .before .before .before .before .before .before .before .before .before .before .before .before .event-grid .ensures) (c .before .before .before .before .before .before .before .before .before .before .before .before .before .before .before .before .before .before .before .before .before .before .before .before .before .before .before .before .before .before .pre .1 .1 .1) (c .before .before .before .before .before .before .before .before .before .before .before .before .before .enum-told .given .1) (c .before .before .before .before .before .before .before .solve-grid .ensures)
 
 pub checked-spread-spec : {M : Type 1} → statement M
 checked-spread-spec =
@@ -55,9 +45,6 @@ checked-spread-spec =
     enum-known-check
     returns
     enum-told
-    pillar-times-requires
-    array-share-prefix-curve-times
-    slice-aggregate-solve-grid
     solve-grid-requires
     same-length
     same-length-2
