@@ -73,7 +73,7 @@ uint32_t gutirapeo_midpoint(double a, double b, uint32_t *place, double *value);
  *   7   no cashflow after settlement
  *   8   pillar days that don't rise, the first not settlement, the last before maturity
  *   34  two pillars at one time, tried after 8 (the place is the later one)
- *   35  a maturity whose time is 0: in the grid, the tree value and the spread
+ *   35  a maturity whose time is 0: in the grid, the tree value, sizing and the spread
  *   9   an unknown compounding code, or a frequency that can't be used
  *   44  a pillar's discount factor that isn't positive, tried last
  * The place is the index of the entry, 0 for single fields, counts, 7, 33 and 35.
@@ -126,9 +126,8 @@ uint32_t gutirapeo_call_list(const uint32_t *series, size_t series_length,
  * From each pillar up to the next the logarithm of the factor is a straight line; at or past the last it is that pillar's factor.
  *
  * Lent, to work in: nodes with 2 places for each node of the tree, probabilities with 3 for each, and two rows, each as long as
- * the largest layer. A tree of n steps has the layers 0 to n. With alpha at or above 0 and sigmas that never fall, layer k has at
- * most 2k + 1 nodes: 2(n + 1)^2 nodes, 3(n + 1)^2 probabilities and rows of 2n + 1 are enough then. Whatever they held, all
- * four are untouched after a refusal of 1 to 8, 33 to 35 or 44, and else all zero, to the last place.
+ * the largest layer. gutirapeo_sizes, below, says how long they must be. Whatever they held, all four are untouched after a
+ * refusal of 1 to 8, 33 to 35 or 44, and else all zero, to the last place.
  *
  * The refusals 1 to 8, 33 to 35 and 44 have the places above. Of the others the place is the step, where nothing else is said:
  *   20  no principal at a step that can be called (place 0)
@@ -225,6 +224,36 @@ uint32_t gutirapeo_spread_from_price(uint32_t settlement, uint32_t day_count,
                                      double *first_row, size_t first_row_length,
                                      double *second_row, size_t second_row_length,
                                      uint32_t *place, double *spread, uint32_t *tried);
+
+/* How long the tree value's slices must be for these terms: nodes, probabilities and each of the two rows; and the nodes of the tree.
+ *
+ * With slices of these lengths, or longer ones, the tree value never answers 21, and neither does spread from price, whatever the
+ * spread or the target. With any one of them shorter they do, unless checks, grid, variances or layers refuse for another cause.
+ * The count is the one that the tree value reports.
+ *
+ * Everything is taken as for the tree value, and checked as it checks it. No call is priced and the curve isn't read, so 20 and 25
+ * are never answered. Lent is one node slice, with a place for each node of two neighbouring layers. After a refusal of 1 to 8,
+ * 33 to 35 or 44 it is untouched, and else all zero.
+ *   21  layer 0, or two neighbouring layers together, don't fit into the slice (the place is the later layer)
+ *   22, 23, 26, 27 as for the tree value */
+uint32_t gutirapeo_sizes(uint32_t settlement, uint32_t day_count,
+                         const uint32_t *cashflow_days, size_t cashflow_days_length,
+                         const uint8_t *cashflow_kinds, size_t cashflow_kinds_length,
+                         const double *cashflow_amounts, size_t cashflow_amounts_length,
+                         double units,
+                         const uint32_t *call_starts, size_t call_starts_length,
+                         const uint32_t *call_ends, size_t call_ends_length,
+                         const double *call_strikes, size_t call_strikes_length,
+                         uint32_t steps_per_year, uint32_t max_steps,
+                         double alpha,
+                         const double *sigma_times, size_t sigma_times_length,
+                         const double *sigmas, size_t sigmas_length,
+                         double spread,
+                         const uint32_t *pillar_days, size_t pillar_days_length,
+                         const double *pillar_factors, size_t pillar_factors_length,
+                         int32_t *nodes, size_t nodes_length,
+                         uint32_t *place, uint64_t *nodes_needed, uint64_t *probabilities_needed,
+                         uint64_t *row_needed, uint64_t *node_count);
 
 /* What the bond is worth without its calls.
  * 25: settlement's factor comes out as 0. 26: exp or ln outside its range. 27: a result that isn't finite. */

@@ -47,6 +47,7 @@ pub fn run() {
     measured();
     published::PLATFORM.store(false, std::sync::atomic::Ordering::Relaxed);
     crate::trees::run();
+    crate::sizing::run();
     crate::spreads::run();
     crate::trees::stacks();
 }

@@ -3,6 +3,7 @@ mod daycounts;
 mod entries;
 mod notices;
 mod sheet;
+mod sizing;
 mod spreads;
 mod trees;
 
@@ -63,6 +64,9 @@ fn root(x: f64) -> Answer {
 
 fn main() {
     let words: Vec<String> = std::env::args().collect();
+    if words[1..] == ["--sizing"] {
+        return sizing::run();
+    }
     if let [_, word, entry, bytes] = &words[..] {
         assert_eq!(word, "--stack");
         return trees::on_stack(entry, bytes.parse().expect("--stack takes an entry and a number of bytes"));

@@ -2,10 +2,12 @@
 mod c;
 mod notices;
 mod sheets;
+mod sizing;
 mod tree;
 
 pub use notices::call_list;
 pub use sheets::closing_line;
+pub use sizing::sizes;
 pub use tree::{spread_from_price, tree_value, Lent};
 
 use reading::bondevents::Grid;

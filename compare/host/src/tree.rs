@@ -10,7 +10,7 @@ const BESIDE: usize = 4;
 pub struct Lent {
     number: i32,
     double: f64,
-    nodes: Vec<i32>,
+    pub(crate) nodes: Vec<i32>,
     floats: [Vec<f64>; 3],
 }
 
@@ -18,7 +18,7 @@ fn inside<T>(all: &[T]) -> &[T] {
     &all[BESIDE..all.len() - BESIDE]
 }
 
-fn lend<T>(all: &mut [T]) -> (*mut T, usize) {
+pub(crate) fn lend<T>(all: &mut [T]) -> (*mut T, usize) {
     (all[BESIDE..].as_mut_ptr(), all.len() - 2 * BESIDE)
 }
 

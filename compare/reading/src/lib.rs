@@ -19,6 +19,7 @@ pub mod hullwhite;
 pub mod notices;
 pub mod ordinary;
 pub mod sheet;
+pub mod sizing;
 pub mod terms;
 pub mod treebasedbondpricer;
 

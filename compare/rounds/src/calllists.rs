@@ -26,7 +26,7 @@ fn raised(random: &mut Random, strike: f64) -> f64 {
 }
 
 /// A second list made from the first, and whether it is only reordered.
-fn made_from(random: &mut Random, first: &Terms) -> (Terms, bool) {
+pub fn made_from(random: &mut Random, first: &Terms) -> (Terms, bool) {
     let (drops, raises) = (random.below(2) == 0, random.below(2) == 0);
     let mut order: Vec<usize> = (0..first.calls.starts.len()).collect();
     for i in (1..order.len()).rev() {

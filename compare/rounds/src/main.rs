@@ -12,6 +12,7 @@ mod notices;
 mod random;
 mod sample;
 mod sheet;
+mod sizing;
 mod spreads;
 mod spreadterms;
 mod straight;
@@ -43,7 +44,7 @@ fn main() {
         return;
     }
     let mut differences = elementary::round(long, seed, &wanted);
-    let entries: [(&str, fn(bool, u64) -> u64); 9] = [
+    let entries: [(&str, fn(bool, u64) -> u64); 10] = [
         ("grid", grid::round),
         ("tree", tree::round),
         ("monthends", monthends::round),
@@ -53,6 +54,7 @@ fn main() {
         ("spreads", spreads::round),
         ("notices", notices::round),
         ("sheet", sheet::round),
+        ("sizing", sizing::round),
     ];
     for (name, round) in entries {
         if wanted(name) {

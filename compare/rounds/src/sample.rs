@@ -5,6 +5,7 @@
 use crate::notices::{damage, good, parallel};
 use crate::random::Random;
 use crate::sheet::{bond_number, value};
+use crate::sizing::{sized_terms, SIZED};
 use crate::spreadterms::{spread_terms, target};
 use crate::tally::published;
 use crate::terms;
@@ -12,6 +13,7 @@ use crate::tree::tree_terms;
 use reading::bondanalytics::{self, Rate};
 use reading::notices::{self, Notices};
 use reading::sheet;
+use reading::sizing;
 use reading::treebasedbondpricer::{self, Room, Terms};
 use reading::{bondevents, bondpricer, elementary, Answer, Refusal};
 use std::collections::BTreeMap;
@@ -240,6 +242,30 @@ fn spread_records(random: &mut Random) -> Vec<Record> {
     sorted(random, left, spread_record, |r| if r[80] == 0 && r[CALL_COUNT] == 0 { PLAIN } else { r[80] })
 }
 
+fn sizes_record(random: &mut Random) -> Record {
+    let mut t = small(random, sized_terms);
+    if random.below(40) == 0 {
+        t.sigma = Default::default();
+    }
+    let places = if random.below(4) == 0 { random.below(60) as usize } else { LENT.nodes };
+    let mut r = inputs(20, &t);
+    r[76] = places as u64;
+    match sizing::sizes(&t, places).0 {
+        Err(refusal) => refused(r, refusal),
+        Ok(s) => {
+            numbers(&mut r, 84, [s.nodes, s.probabilities, s.row, s.count].into_iter());
+            r
+        }
+    }
+}
+
+/// 112 sizings: 4 of each refusal that can be met, the rest accepted with some nodes.
+fn sizes_records(random: &mut Random) -> Vec<Record> {
+    let mut left: BTreeMap<u64, u32> = SIZED.into_iter().map(|number| (u64::from(number), 4)).collect();
+    left.insert(0, 44);
+    sorted(random, left, sizes_record, |r| if r[80] == 0 && r[87] < 10 { PLAIN } else { r[80] })
+}
+
 fn straight_record(random: &mut Random) -> Record {
     let t = small(random, terms::terms);
     let mut r = inputs(15, &t);
@@ -368,6 +394,7 @@ pub fn write(path: &str, seed: u64, kinds: &[u64]) {
             15 => (0..60).map(|_| straight_record(&mut random)).collect(),
             18 => notice_records(&mut random),
             19 => (0..200).map(|_| sheet_record(&mut random)).collect(),
+            20 => sizes_records(&mut random),
             _ => (0..60).map(|_| yield_record(&mut random, kind)).collect(),
         };
         bytes.extend(records.iter().flatten().flat_map(|word| word.to_le_bytes()));

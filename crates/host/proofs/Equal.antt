@@ -2,6 +2,7 @@
 use Prim.Native.Nat.{ℕ}
 use mathlib.Core.Path.{_≡_}
 use mathlib.Core.List.{List}
+use lib.IntN.{ℤ}
 use lib.Ieee.{Float}
 use Rattle.floats.specs.declared.Answer.{Answer}
 use Rattle.callnotices.specs.declared.CallList.{CallList}
@@ -13,7 +14,9 @@ use Rattle.treebasedbondpricer.specs.Entry.{Entered}
 use Rattle.interestrate.specs.declared.YieldPrice.{YieldPrice}
 use Rattle.brackets.specs.declared.Root.{Root}
 use Rattle.spreads.specs.Spreads.{Quoted, Solved}
-use Rattle.host.specs.Handed.{Handed, HandedGrid, HandedList, HandedValue, HandedTree, HandedPrice, HandedRoot, HandedSpread}
+use Rattle.sizing.specs.declared.Sizes.{Sizes}
+use Rattle.sizing.specs.Sizing.{SizesEntered}
+use Rattle.host.specs.Handed.{Handed, HandedGrid, HandedList, HandedValue, HandedTree, HandedPrice, HandedRoot, HandedSpread, HandedLengths, HandedSizes}
 
 pub handed-as : {a b : Answer} {result place : ℕ} {value : Float} → a ≡ b → Handed a result place value → Handed b result place value
 handed-as e h = rw (← e) h
@@ -35,3 +38,6 @@ root-as e h = rw (← e) h
 
 pub spread-as : {asked : Quoted} {calls : CallSchedule} {a : Root} {before after : Lent} {result place tried : ℕ} {spread : Float} → Solved asked calls a before after → HandedRoot a result place spread tried → HandedSpread asked calls before after result place spread tried
 spread-as e h = record { handed = rw (← e .root) h; slices = e .slices }
+
+pub sizes-as : {m : Market} {calls : CallSchedule} {a : Sizes} {before after : List ℤ} {result place nodes probabilities row count : ℕ} → SizesEntered m calls a before after → HandedLengths a result place nodes probabilities row count → HandedSizes m calls before after result place nodes probabilities row count
+sizes-as e h = record { handed = rw (← e .sizes) h; slice = e .slice }

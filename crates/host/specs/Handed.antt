@@ -2,6 +2,8 @@
 use Prim.Native.Nat.{ℕ}
 use mathlib.Core.Path.{_≡_}
 use mathlib.Core.List.{List, map}
+use lib.ListN.{length}
+use lib.IntN.{ℤ}
 use lib.Ieee.{Float}
 use Rattle.floats.specs.declared.Answer.{Answer}
 use Rattle.floats.specs.Answers.{numberOf, placeOf, valueOf}
@@ -12,6 +14,8 @@ use Rattle.treebasedbondpricer.specs.declared.TreeValue.{TreeValue}
 use Rattle.terms.specs.Terms.{CallSchedule, Market}
 use Rattle.treebasedbondpricer.specs.Tree.{treeValue, Lent, roomOf, lentAfter}
 use Rattle.treebasedbondpricer.specs.Tree as tree
+use Rattle.sizing.specs.declared.Sizes.{Sizes}
+use Rattle.sizing.specs.Sizing.{sizesOf, nodesAfter, sizesNumber, sizesPlace, needed}
 use Rattle.interestrate.specs.declared.YieldPrice.{YieldPrice}
 use Rattle.brackets.specs.declared.Root.{Root}
 use Rattle.spreads.specs.Spreads.{Quoted, spreadFromPrice}
@@ -74,3 +78,17 @@ pub record HandedRoot (answer : Root) (result place : ℕ) (value : Float) (eval
 pub record HandedSpread (asked : Quoted) (calls : CallSchedule) (before after : Lent) (result place : ℕ) (spread : Float) (tried : ℕ) : Type 0 where
   pub handed : HandedRoot (spreadFromPrice asked calls (roomOf before)) result place spread tried
   pub slices : after ≡ spreads.lentAfter asked calls before
+
+-- Of sizing: the lengths and the node count.
+pub record HandedLengths (answer : Sizes) (result place nodes probabilities row count : ℕ) : Type 0 where
+  pub number-is : result ≡ sizesNumber answer
+  pub place-is : place ≡ sizesPlace answer
+  pub nodes-is : nodes ≡ needed answer .nodes
+  pub probabilities-is : probabilities ≡ needed answer .probabilities
+  pub row-is : row ≡ needed answer .row
+  pub count-is : count ≡ needed answer .count
+
+-- Of the sizing entry: the answer, and the end content of the lent node slice.
+pub record HandedSizes (m : Market) (calls : CallSchedule) (before after : List ℤ) (result place nodes probabilities row count : ℕ) : Type 0 where
+  pub handed : HandedLengths (sizesOf m calls (length before)) result place nodes probabilities row count
+  pub slice : after ≡ nodesAfter m calls before

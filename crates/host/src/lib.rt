@@ -5,6 +5,7 @@ mod handing;
 mod notices;
 mod quotes;
 mod sheets;
+mod sizes;
 mod trees;
 
 use crate::grids::hand_grid;

@@ -4,13 +4,15 @@ use mathlib.Core.Path.{_≡_}
 use mathlib.Core.Logic.{_↔_, _⊎_}
 use mathlib.Core.List.{List}
 use lib.Dec.{T}
+use lib.ListN.{length}
+use lib.IntN.{ℤ}
 use lib.Ieee.{Float, le}
 use Rattle.terms.specs.Terms.{CallSchedule, Market}
 use Rattle.terms.specs.CallLists.{MadeFrom, Reordered, StrikeAbove}
 use Rattle.bondevents.specs.Grid.{gridAnswer}
 use Rattle.treebasedbondpricer.specs.Tree.{Lent, roomOf}
 use Rattle.spreads.specs.Spreads.{quoting}
-use Rattle.host.specs.Handed.{HandedGrid, HandedTree, HandedSpread}
+use Rattle.host.specs.Handed.{HandedGrid, HandedTree, HandedSpread, HandedSizes}
 use Rattle.host.specs.Sheets.{HandedSheet}
 
 -- ---- one call of each function: what is lent, what is left there, and what is handed back
@@ -54,6 +56,18 @@ pub record SheetCall (bond : ℕ) (m : Market) (calls : CallSchedule) : Type 0 w
   pub place : ℕ
   pub line : List ℕ
   pub handed : HandedSheet bond m calls lent left number place line
+
+-- gutirapeo_sizes
+pub record SizesCall (m : Market) (calls : CallSchedule) : Type 0 where
+  pub lent : List ℤ
+  pub left : List ℤ
+  pub number : ℕ
+  pub place : ℕ
+  pub nodes : ℕ
+  pub probabilities : ℕ
+  pub row : ℕ
+  pub count : ℕ
+  pub handed : HandedSizes m calls lent left number place nodes probabilities row count
 
 -- ---- the call-list rule
 
@@ -104,12 +118,23 @@ pub record SameLines {bond : ℕ} {m : Market} {first second : CallSchedule} (a 
   pub line : b .line ≡ a .line
   pub slices : b .lent ≡ a .lent → b .left ≡ a .left
 
--- No bit of what any of the four hands back.
+-- With a node slice as long; where it also holds the same before, it holds the same afterwards.
+pub record SameSizes {m : Market} {first second : CallSchedule} (a : SizesCall m first) (b : SizesCall m second) : Type 0 where
+  pub number : b .number ≡ a .number
+  pub place : b .place ≡ a .place
+  pub nodes : b .nodes ≡ a .nodes
+  pub probabilities : b .probabilities ≡ a .probabilities
+  pub row : b .row ≡ a .row
+  pub count : b .count ≡ a .count
+  pub slice : b .lent ≡ a .lent → b .left ≡ a .left
+
+-- No bit of what any of the five hands back.
 pub record Unchanged (m : Market) (first second : CallSchedule) : Type 0 where
   pub grids : (a : GridCall m first) (b : GridCall m second) → SameGrids a b
   pub values : (a : TreeCall m first) (b : TreeCall m second) → roomOf (b .lent) ≡ roomOf (a .lent) → SameValues a b
   pub spreads : (target : Float) (a : SpreadCall m target first) (b : SpreadCall m target second) → roomOf (b .lent) ≡ roomOf (a .lent) → SameSpreads a b
   pub lines : (bond : ℕ) (a : SheetCall bond m first) (b : SheetCall bond m second) → roomOf (b .lent) ≡ roomOf (a .lent) → SameLines a b
+  pub sizes : (a : SizesCall m first) (b : SizesCall m second) → length (b .lent) ≡ length (a .lent) → SameSizes a b
 
 -- Whenever the grid accepts a list, reordering it changes nothing.
 abbrev pub HostReorderingRule : Type 0
@@ -119,3 +144,21 @@ HostReorderingRule =
     → (g : GridCall m first)
     → g .number ≡ 0
     → Unchanged m first second
+
+-- ---- sizing, which makes no call prices
+
+-- Refused with 4 exactly when a strike of the second list is above 1,000,000. Otherwise the same answer bit for bit.
+pub record ThinnedSizes {m : Market} {first second : CallSchedule} (a : SizesCall m first) (b : SizesCall m second) : Type 0 where
+  pub with-4 : (b .number ≡ 4) ↔ StrikeAbove second
+  pub otherwise : (StrikeAbove second → ⊥) → SameSizes a b
+
+-- Where the value call accepts the first list, in whatever slices, and the second is made from it.
+abbrev pub HostSizesRule : Type 0
+HostSizesRule =
+    (m : Market) (first second : CallSchedule)
+    → MadeFrom first second
+    → (v : TreeCall m first)
+    → v .number ≡ 0
+    → (a : SizesCall m first) (b : SizesCall m second)
+    → length (b .lent) ≡ length (a .lent)
+    → ThinnedSizes a b

@@ -10,5 +10,6 @@ pub mod SpreadReordering
 pub mod Evaluations
 pub mod HostCallLists
 pub mod ClosingSheet
+pub mod Sizing
 pub mod FitNodes
 pub mod laws

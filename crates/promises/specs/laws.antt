@@ -17,7 +17,12 @@ pub mod ProbabilityPromise
 pub mod NoticeLists
 pub mod SpreadReordering
 pub mod Evaluations
+pub mod SizedLayers
+pub mod SizedValues
+pub mod SizedSpreads
+pub mod SizingNumbers
 pub mod HostCallLists
 pub mod ClosingSheet
+pub mod Sizing
 pub mod SortedSets
 pub mod FitNodes

@@ -8,6 +8,7 @@ mod quotes;
 mod record;
 mod report;
 mod sheets;
+mod sizes;
 mod trees;
 
 use crate::record::any_nan;
@@ -55,6 +56,12 @@ fn tallied(tally: Tally, record: &[u8; 1280]) -> Tally {
             return tally.sheet(false);
         }
         return tally.sheet(sheets::same(record));
+    }
+    if kind == 20 {
+        if any_nan(record) {
+            return tally.sizes(false);
+        }
+        return tally.sizes(sizes::same(record));
     }
     tally.unknown()
 }

@@ -15,6 +15,8 @@ pub struct Tally {
     notices_differ: u64,
     sheet: u64,
     sheet_differ: u64,
+    sizes: u64,
+    sizes_differ: u64,
     unknown: u64,
 }
 
@@ -52,6 +54,8 @@ impl Tally {
             notices_differ: 0,
             sheet: 0,
             sheet_differ: 0,
+            sizes: 0,
+            sizes_differ: 0,
             unknown: 0,
         }
     }
@@ -92,6 +96,12 @@ impl Tally {
         self
     }
 
+    pub(crate) fn sizes(mut self, same: bool) -> Self {
+        self.sizes = one_more(self.sizes);
+        self.sizes_differ = one_more_unless(same, self.sizes_differ);
+        self
+    }
+
     pub(crate) fn unknown(mut self) -> Self {
         self.unknown = one_more(self.unknown);
         self
@@ -104,6 +114,7 @@ impl Tally {
         write_line(b"spread from price ", self.spread, self.spread_differ);
         write_line(b"call notices ", self.notices, self.notices_differ);
         write_line(b"closing sheet ", self.sheet, self.sheet_differ);
+        write_line(b"sizing ", self.sizes, self.sizes_differ);
         io::write_all(1, b"unknown ");
         io::print_decimal(1, self.unknown);
         io::write_all(1, b"\n");

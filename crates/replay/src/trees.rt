@@ -22,7 +22,7 @@ fn is_answer(answer: TreeValue, number: u32, place: u32, value: f64, count: u64)
     }
 }
 
-fn all_numbers(xs: &[i32], x: i32) -> bool {
+pub(crate) fn all_numbers(xs: &[i32], x: i32) -> bool {
     let mut i: usize = 0;
     while i < xs.len() {
         if xs[i] != x {
@@ -45,7 +45,7 @@ fn all_floats(xs: &[f64], x: f64) -> bool {
 }
 
 // Whether a refusal is the input's: 1 to 8, 33 to 35, or 44.
-fn of_input(refused: u32) -> bool {
+pub(crate) fn of_input(refused: u32) -> bool {
     if refused > 0 && refused < 9 {
         return true;
     }

@@ -2,34 +2,52 @@
 use Prim.Native.Nat.{ℕ}
 use mathlib.Core.Path.{_≡_, refl, sym, ap, subst, _∙_}
 use mathlib.Core.Logic.{_⊎_, inl, inr}
-use mathlib.Core.List.{map}
+use mathlib.Core.List.{List, map}
 use lib.Dec.{T}
+use lib.ListN.{length, replicate}
+use lib.IntN.{ℤ, pos}
 use lib.Ieee.{Float, le}
+use Rattle.floats.specs.declared.Refusal.{Refusal}
+use Rattle.floats.specs.laws.Order.{not-le-of-lt}
 use Rattle.terms.specs.Terms.{CallSchedule, Market}
-use Rattle.terms.specs.CallLists.{Reordered}
+use Rattle.terms.specs.CallLists.{Reordered, StrikeAbove, strikeOf}
+use Rattle.terms.specs.Checks.{onCheck}
+use Rattle.terms.specs.Entries.{treeChecks}
+use Rattle.terms.specs.Numbers.{million}
+use Rattle.terms.specs.Outcomes.{onOutcome}
+use Rattle.terms.specs.declared.Check.{Check}
+use Rattle.terms.specs.declared.Check.the-variants as check
+use Rattle.terms.specs.laws.EntryChecks.{grid-calls}
+use Rattle.terms.specs.laws.MadeLists.{AllWithin, strikes-decided, tree-made-refused, tree-made-passed, tree-reordered-alike}
+use Rattle.bondevents.specs.laws.GridAnswers as answers
 use Rattle.bondevents.specs.declared.GridAnswer.{GridAnswer}
 use Rattle.bondevents.specs.Grid.{gridAnswer}
 use Rattle.bondevents.specs.Parts.{markOf, priceOfStep}
 use Rattle.lattice.specs.Layers.{Room}
 use Rattle.treebasedbondpricer.specs.declared.TreeValue.{TreeValue}
 use Rattle.treebasedbondpricer.specs.declared.TreeValue.the-variants.{Value, Refused}
-use Rattle.treebasedbondpricer.specs.Tree.{treeValue, lentAfter, numberOf, placeOf, valueOf, countedBy, roomOf}
+use Rattle.treebasedbondpricer.specs.Tree.{treeValueOver, treeValue, lentAfter, numberOf, placeOf, valueOf, countedBy, roomOf}
 use Rattle.treebasedbondpricer.specs.CallLists.{NoLowerOr27, accepted, refused-27}
 use Rattle.treebasedbondpricer.specs.laws.CallLists.{call-list-rule, reordering-rule}
+use Rattle.sizing.specs.declared.Sizes.{Sizes}
+use Rattle.sizing.specs.declared.Sizes.the-variants as sizes
+use Rattle.sizing.specs.Sizing.{treeWidths, sizesFrom, sizesOf, nodesAfter, sizesNumber, sizesPlace, needed}
 use Rattle.brackets.specs.Brackets.{rootNumber, rootPlace, rootValue, evaluationsOf}
 use Rattle.spreads.specs.Spreads.{quoting, spreadFromPrice}
 use Rattle.spreads.specs.Spreads as spreads
 use Rattle.closingsheet.specs.declared.ClosingLine.{ClosingLine}
 use Rattle.closingsheet.specs.Sheet.{sheetOf}
 use Rattle.promises.specs.RefusalNumbers.{Among, treeRefusals}
-use Rattle.promises.specs.HostCallLists.{GridCall, TreeCall, SpreadCall, SheetCall, HostCallListRule, SameGrids, SameValues, SameSpreads, SameLines, HostReorderingRule}
+use Rattle.promises.specs.HostCallLists.{GridCall, TreeCall, SpreadCall, SheetCall, SizesCall, HostCallListRule, SameGrids, SameValues, SameSpreads, SameLines, SameSizes, HostReorderingRule, HostSizesRule}
 use Rattle.promises.specs.laws.TreeNumbers.{tree-numbers}
+use Rattle.promises.specs.laws.SpreadNumbers.{passed}
 use Rattle.promises.specs.laws.SpreadReordering.{spread-reordering-rule}
+use Rattle.promises.specs.laws.SizingNumbers.{never-4}
 
 -- ---- the call-list rule
 
 -- A call with number 0 has a value: 0 is no refusal's number.
-valued : (m : Market) (calls : CallSchedule) (room : Room) (v : TreeValue) → treeValue m calls room ≡ v → numberOf v ≡ 0 → v ≡ Value (valueOf v) (countedBy v)
+pub valued : (m : Market) (calls : CallSchedule) (room : Room) (v : TreeValue) → treeValue m calls room ≡ v → numberOf v ≡ 0 → v ≡ Value (valueOf v) (countedBy v)
 valued m calls room (Value x n) e z = refl
 valued m calls room (Refused q) e z = absurd (subst (Among treeRefusals) z (tree-numbers m calls room q e) .is-one)
 
@@ -113,6 +131,69 @@ module _ (m : Market) (first second : CallSchedule) (r : Reordered first second)
         slices = λ alike. b .handed .slices ∙ same .slices (b .lent) ∙ ap (lentAfter m first) alike ∙ sym (a .handed .slices);
       }
 
+  same-checks : treeChecks m second ≡ treeChecks m first
+  same-checks =
+      let a = answers.accepted (m .settlement) (m .bond) first (m .controls) z in
+      tree-reordered-alike first second r m (grid-calls (m .settlement) (m .bond) first (m .controls) (a .checked))
+
+-- Sizing reads the calls in its checks alone.
+module _ (m : Market) (first second : CallSchedule) (checks : treeChecks m second ≡ treeChecks m first) where
+  sizes-alike : (room : ℕ) → sizesOf m second room ≡ sizesOf m first room
+  unfolding sizesOf
+  sizes-alike room = ap (λ (c : Check). onCheck c sizes.Refused (onOutcome (treeWidths m room) sizes.Refused sizesFrom)) checks
+
+  slices-alike : (nodes : List ℤ) → nodesAfter m second nodes ≡ nodesAfter m first nodes
+  unfolding nodesAfter
+  slices-alike nodes = ap (λ (c : Check). onCheck c (λ r. nodes) (replicate (length nodes) (pos 0))) checks
+
+  same-sizes : (a : SizesCall m first) (b : SizesCall m second) → length (b .lent) ≡ length (a .lent) → SameSizes a b
+  same-sizes a b as-long =
+      let p = a .handed .handed in
+      let q = b .handed .handed in
+      let e : sizesOf m second (length (b .lent)) ≡ sizesOf m first (length (a .lent)) = ap (sizesOf m second) as-long ∙ sizes-alike (length (a .lent)) in
+      record {
+        number = q .number-is ∙ ap sizesNumber e ∙ sym (p .number-is);
+        place = q .place-is ∙ ap sizesPlace e ∙ sym (p .place-is);
+        nodes = q .nodes-is ∙ ap (λ (s : Sizes). needed s .nodes) e ∙ sym (p .nodes-is);
+        probabilities = q .probabilities-is ∙ ap (λ (s : Sizes). needed s .probabilities) e ∙ sym (p .probabilities-is);
+        row = q .row-is ∙ ap (λ (s : Sizes). needed s .row) e ∙ sym (p .row-is);
+        count = q .count-is ∙ ap (λ (s : Sizes). needed s .count) e ∙ sym (p .count-is);
+        slice = λ alike. b .handed .slice ∙ slices-alike (b .lent) ∙ ap (nodesAfter m first) alike ∙ sym (a .handed .slice);
+      }
+
+-- What has a value has passed its checks.
+value-passed : (m : Market) (calls : CallSchedule) (room : Room) (x : Float) (n : ℕ) → treeValue m calls room ≡ Value x n → treeChecks m calls ≡ check.Passed
+unfolding treeValue treeValueOver
+value-passed m calls room x n e = passed (treeChecks m calls) _ x n e
+
+pub host-sizes-rule : HostSizesRule
+unfolding sizesOf onCheck
+host-sizes-rule m first second made v z a b as-long =
+    elim (strikes-decided first second made) [
+      | inl s ↦
+          let above : StrikeAbove second = record { entry = s .index; of-list = s .below; above = s .holds } in
+          let (r, e, four) = tree-made-refused first second made m has-passed s in
+          record { with-4 = ((λ _. above), (λ _. b .handed .handed .number-is ∙ refused-number r e ∙ four)); otherwise = λ none. absurd (none above) }
+      | inr w ↦
+          let same = same-sizes m first second (tree-made-passed first second made m has-passed w ∙ sym has-passed) a b as-long in
+          record {
+            with-4 = ((λ four. absurd (never-4 m first (length (a .lent)) has-passed (sym (a .handed .handed .number-is) ∙ sym (same .number) ∙ four))), (λ s. absurd (not-both s w)));
+            otherwise = λ _. same;
+          }
+    ]
+  where
+    has-passed : treeChecks m first ≡ check.Passed
+    has-passed =
+        let room = roomOf (v .lent) in
+        let w = treeValue m first room in
+        value-passed m first room (valueOf w) (countedBy w) (valued m first room w refl (sym (v .handed .handed .number-is) ∙ z))
+
+    refused-number : (r : Refusal) → treeChecks m second ≡ check.Refused r → sizesNumber (sizesOf m second (length (b .lent))) ≡ r .number
+    refused-number r e = ap (λ (c : Check). sizesNumber (onCheck c sizes.Refused (onOutcome (treeWidths m (length (b .lent))) sizes.Refused sizesFrom))) e
+
+    not-both : StrikeAbove second → AllWithin second → ⊥
+    not-both s w = not-le-of-lt million (strikeOf second (s .entry)) (s .above) (w (s .entry) (s .of-list))
+
 pub host-reordering-rule : HostReorderingRule
 host-reordering-rule m first second r g z =
     let y = sym (g .handed .number-is) ∙ z in
@@ -121,4 +202,5 @@ host-reordering-rule m first second r g z =
       values = same-values m first second r y;
       spreads = same-spreads m first second r y;
       lines = same-lines m first second r y;
+      sizes = same-sizes m first second (same-checks m first second r y);
     }

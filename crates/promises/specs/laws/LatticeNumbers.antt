@@ -1,8 +1,11 @@
--- What the variances, the transitions and the layers refuse with has a number of the tree value's list. Assumes nothing.
+-- What the variances refuse with is 26 or 27; what the transitions and the layers refuse with has a number of the tree value's list. Assumes nothing.
 use Prim.Native.Nat.{ℕ, zero, suc}
+use mathlib.Core.Path.{refl}
 use mathlib.Core.List.{List, [], _∷_}
 use lib.IntN.{ℤ}
 use lib.Ieee.{Float}
+use Rattle.rounded.specs.Root.{sqrtAt}
+use Rattle.elementary.specs.Exponential.{expAt}
 use Rattle.terms.specs.Terms.{HullWhite}
 use Rattle.hullwhite.specs.Variance.{weight, withPiece, pieces, varianceOver, stepVariance, variancesFrom}
 use Rattle.lattice.specs.Layers.{Room}
@@ -12,19 +15,19 @@ use Rattle.terms.specs.Outcomes.{Outcome}
 use Rattle.chances.specs.laws.NeverTooLow.{Only23Or27, was-given, too-far, not-finite, SpacedStep, transition-only, made-spaced}
 use Rattle.floats.specs.laws.Cases.{Holds}
 use Rattle.promises.specs.RefusalNumbers.{treeRefusals}
-use Rattle.promises.specs.laws.Numbers.{AnswerAmong, OutcomeAmong, then-known, numbers}
+use Rattle.promises.specs.laws.Numbers.{arithmeticRefusals, AnswerAmong, OutcomeAmong, wider-answer, then-known, numbers}
 use Rattle.promises.specs.laws.ElementaryNumbers.{exp-number, expM1-number, sqrt-number}
 
 -- ---- variances
 
-weight-number : (alpha lower upper end : Float) (place : ℕ) → Holds (AnswerAmong treeRefusals) (weight alpha lower upper end place)
+weight-number : (alpha lower upper end : Float) (place : ℕ) → Holds (AnswerAmong arithmeticRefusals) (weight alpha lower upper end place)
 weight-number alpha lower upper end place = search (exp-number, expM1-number, numbers) depth 24
 
-piece-number : (alpha lower upper end sigma total : Float) (place : ℕ) → Holds (AnswerAmong treeRefusals) (withPiece alpha lower upper end sigma total place)
+piece-number : (alpha lower upper end sigma total : Float) (place : ℕ) → Holds (AnswerAmong arithmeticRefusals) (withPiece alpha lower upper end sigma total place)
 unfolding withPiece
 piece-number alpha lower upper end sigma total place = search (weight-number, numbers) depth 24
 
-pieces-number : (times sigmas : List Float) (alpha start end lower total : Float) (place : ℕ) → Holds (AnswerAmong treeRefusals) (pieces alpha start end lower times sigmas total place)
+pieces-number : (times sigmas : List Float) (alpha start end lower total : Float) (place : ℕ) → Holds (AnswerAmong arithmeticRefusals) (pieces alpha start end lower times sigmas total place)
 unfolding pieces
 pieces-number (next ∷ times) (sigma ∷ sigmas) alpha start end lower total place =
     let later = pieces-number times sigmas in
@@ -33,16 +36,16 @@ pieces-number [] (sigma ∷ sigmas) alpha start end lower total place = piece-nu
 pieces-number (next ∷ times) [] alpha start end lower total place = search numbers
 pieces-number [] [] alpha start end lower total place = search numbers
 
-variance-number : (alpha : Float) (times sigmas : List Float) (start end : Float) (place : ℕ) → Holds (AnswerAmong treeRefusals) (varianceOver alpha times sigmas start end place)
+variance-number : (alpha : Float) (times sigmas : List Float) (start end : Float) (place : ℕ) → Holds (AnswerAmong arithmeticRefusals) (varianceOver alpha times sigmas start end place)
 unfolding varianceOver
 variance-number alpha (first ∷ times) sigmas start end place = pieces-number times sigmas alpha start end start _ place
 variance-number alpha [] sigmas start end place = search numbers
 
-step-variance-number : (model : HullWhite) (dt : Float) (k : ℕ) → Holds (AnswerAmong treeRefusals) (stepVariance model dt k)
+step-variance-number : (model : HullWhite) (dt : Float) (k : ℕ) → Holds (AnswerAmong arithmeticRefusals) (stepVariance model dt k)
 unfolding stepVariance
 step-variance-number model dt k = search (variance-number, numbers)
 
-pub variances-number : (model : HullWhite) (dt : Float) (count k : ℕ) → Holds (OutcomeAmong treeRefusals) (variancesFrom model dt count k)
+pub variances-number : (model : HullWhite) (dt : Float) (count k : ℕ) → Holds (OutcomeAmong arithmeticRefusals) (variancesFrom model dt count k)
 unfolding variancesFrom
 variances-number model dt zero k = search numbers
 variances-number model dt (suc count) k =
@@ -70,9 +73,15 @@ transitions-number s sp (n ∷ ns) =
 
 -- ---- layers
 
+decay-number : (x : Float) (place : ℕ) → Holds (AnswerAmong treeRefusals) (expAt x place)
+decay-number x place = wider-answer arithmeticRefusals treeRefusals refl (expAt x place) (exp-number x place)
+
+root-number : (x : Float) (place : ℕ) → Holds (AnswerAmong treeRefusals) (sqrtAt x place)
+root-number x place = wider-answer arithmeticRefusals treeRefusals refl (sqrtAt x place) (sqrt-number x place)
+
 step-number : (spacing decay variance : Float) (k : ℕ) → Holds (OutcomeAmong treeRefusals) (stepOf spacing decay variance k)
 unfolding stepOf
-step-number spacing decay variance k = search (sqrt-number, numbers) depth 24
+step-number spacing decay variance k = search (root-number, numbers) depth 24
 
 grown-number : (variances : List Float) (room : Room) (decay spacing : Float) (before : ℕ) (nodes : List ℤ) (k : ℕ) → Holds (OutcomeAmong treeRefusals) (grown room decay spacing before nodes k variances)
 unfolding grown
@@ -93,7 +102,7 @@ flat-number (suc left) room k =
 curved-number : (room : Room) (alpha dt : Float) (variances : List Float) → Holds (OutcomeAmong treeRefusals) (curved room alpha dt variances)
 unfolding curved
 curved-number room alpha dt [] = search numbers
-curved-number room alpha dt (v ∷ vs) = search (exp-number, sqrt-number, grown-number, numbers)
+curved-number room alpha dt (v ∷ vs) = search (decay-number, root-number, grown-number, numbers)
 
 pub lattice-number : (room : Room) (alpha dt : Float) (variances : List Float) → Holds (OutcomeAmong treeRefusals) (lattice room alpha dt variances)
 unfolding lattice

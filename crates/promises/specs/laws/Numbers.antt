@@ -1,12 +1,14 @@
 -- That a refusal's number is one of a list: what it says of an answer, an outcome and a check, and how it passes from the parts of a definition to the whole. Assumes nothing.
 use Prim.Native.Nat.{ℕ, zero, suc}
-use mathlib.Core.Path.{_≡_, refl, sym, subst}
-use mathlib.Core.Bool.{Bool, true, false, _||_}
-use mathlib.Core.List.{List, _∷_}
+use mathlib.Core.Path.{_≡_, refl, sym, ap, subst, _∙_}
+use mathlib.Core.Bool.{Bool, true, false, _&&_, _||_, false≢true}
+use mathlib.Core.List.{List, [], _∷_}
 use lib.Dec.{T, eqb}
+use borrow.Author.Tests.{eqb-true}
 use lib.Ieee.{Float}
 use Rattle.floats.specs.declared.Refusal.{Refusal}
 use Rattle.floats.specs.declared.Answer.{Answer}
+use Rattle.floats.specs.declared.Answer.the-variants as answer
 use Rattle.floats.specs.Answers.{onAnswer}
 use Rattle.terms.specs.declared.Check.{Check}
 use Rattle.terms.specs.declared.Check.the-variants as check
@@ -28,6 +30,39 @@ or-also false c h = h
 -- A longer list.
 pub one-more : {ns : List ℕ} (k n : ℕ) → Among ns n → Among (k ∷ ns) n
 one-more {ns} k n h = record { is-one = or-also (eqb n k) (member n ns) (h .is-one) }
+
+-- Every number of a list stands on another.
+abbrev pub every : List ℕ → List ℕ → Bool
+every [] ms = true
+every (n ∷ ns) ms = member n ms && every ns ms
+
+pub wider : (ns ms : List ℕ) (n : ℕ) → every ns ms ≡ true → Among ns n → Among ms n
+wider [] ms n e h = absurd (h .is-one)
+wider (k ∷ ks) ms n e h = go (eqb n k) (member k ms) refl refl e (h .is-one) (λ f t. wider ks ms n f (record { is-one = t }))
+  where
+    go : (b c : Bool) → eqb n k ≡ b → member k ms ≡ c → (c && every ks ms) ≡ true → T (b || member n ks) → (every ks ms ≡ true → T (member n ks) → Among ms n) → Among ms n
+    go true true p q e t later = one-of n (ap (λ (i : ℕ). member i ms) (eqb-true n k p) ∙ q)
+    go true false p q e t later = absurd (false≢true e)
+    go false true p q e t later = later e t
+    go false false p q e t later = absurd (false≢true e)
+
+-- ---- what each part can refuse with
+
+-- Ranges of exp, ln and sqrt, and results that aren't finite.
+abbrev pub arithmeticRefusals : List ℕ
+arithmeticRefusals = 26 ∷ 27 ∷ []
+
+-- The input checks of the tree's entries.
+abbrev pub checkRefusals : List ℕ
+checkRefusals = 1 ∷ 2 ∷ 3 ∷ 4 ∷ 5 ∷ 6 ∷ 7 ∷ 8 ∷ 33 ∷ 34 ∷ 35 ∷ 44 ∷ []
+
+-- The event grid of checked terms.
+abbrev pub gridRefusals : List ℕ
+gridRefusals = 20 ∷ 27 ∷ []
+
+-- Curve, fit and walk.
+abbrev pub walkRefusals : List ℕ
+walkRefusals = 25 ∷ 26 ∷ 27 ∷ []
 
 abbrev pub AnswerAmong : List ℕ → Answer → Type 0
 AnswerAmong ns = RefusedOnly (Among ns)
@@ -53,6 +88,20 @@ pass-check = record { it = tt }
 
 pub refuse-check : {ns : List ℕ} (r : Refusal) → Among ns (r .number) → Holds (CheckAmong ns) (check.Refused r)
 refuse-check r h = record { it = h }
+
+-- ---- on a wider list
+
+pub wider-answer : (ns ms : List ℕ) → every ns ms ≡ true → (a : Answer) → Holds (AnswerAmong ns) a → Holds (AnswerAmong ms) a
+wider-answer ns ms e (answer.Value x) h = value-only x
+wider-answer ns ms e (answer.Refused r) h = refused-only r (wider ns ms (r .number) e (h .it))
+
+pub wider-outcome : {A : Type 0} (ns ms : List ℕ) → every ns ms ≡ true → (o : Outcome A) → Holds (OutcomeAmong ns) o → Holds (OutcomeAmong ms) o
+wider-outcome ns ms e (given x) h = give-outcome x
+wider-outcome ns ms e (refused r) h = refuse-outcome r (wider ns ms (r .number) e (h .it))
+
+pub wider-check : (ns ms : List ℕ) → every ns ms ≡ true → (c : Check) → Holds (CheckAmong ns) c → Holds (CheckAmong ms) c
+wider-check ns ms e check.Passed h = pass-check
+wider-check ns ms e (check.Refused r) h = refuse-check r (wider ns ms (r .number) e (h .it))
 
 -- ---- what holds of a part's refusals of the list, and of what follows its value, holds of both
 

@@ -36,7 +36,7 @@ pub data Alike {A : Type 0} : Outcome A → Outcome A → Type 0 where
 
 -- ---- what follows
 
-after : {A B : Type 0} (o : Outcome A) (f g : A → Outcome B) → ((x : A) → Alike (f x) (g x)) → Alike (follow o f) (follow o g)
+pub after : {A B : Type 0} (o : Outcome A) (f g : A → Outcome B) → ((x : A) → Alike (f x) (g x)) → Alike (follow o f) (follow o g)
 unfolding onOutcome
 after (given x) f g h = h x
 after (refused r) f g h = alike
@@ -52,7 +52,7 @@ unfolding onAnswer
 after-value (answer.Value x) f g h = h x
 after-value (answer.Refused r) f g h = alike
 
-either : {A : Type 0} (b : Bool) (o p q r : Outcome A) → Alike o q → Alike p r → Alike (cond b o p) (cond b q r)
+pub either : {A : Type 0} (b : Bool) (o p q r : Outcome A) → Alike o q → Alike p r → Alike (cond b o p) (cond b q r)
 either true o p q r h k = h
 either false o p q r h k = k
 

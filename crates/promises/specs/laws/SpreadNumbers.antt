@@ -31,8 +31,7 @@ use Rattle.spreads.specs.Spreads.{Quoted, atSpread, quotedChecks, onTreeValue, 
 use Rattle.promises.specs.RefusalNumbers.{Among, treeRefusals, spreadRefusals, SpreadNumbers}
 use Rattle.promises.specs.laws.Converges.{Settles, converges}
 use Rattle.promises.specs.laws.Numbers.{one-of, one-more, on-check}
-use Rattle.promises.specs.laws.GridNumbers.{checks-number}
-use Rattle.promises.specs.laws.TreeNumbers.{tree-numbers}
+use Rattle.promises.specs.laws.TreeNumbers.{checks-tree, tree-numbers}
 
 abbrev SpreadAmong : ℕ → Type 0
 SpreadAmong = Among spreadRefusals
@@ -41,13 +40,13 @@ SpreadAmong = Among spreadRefusals
 of-tree : (n : ℕ) → Among treeRefusals n → SpreadAmong n
 of-tree n h = one-more 29 n (one-more 36 n h)
 
--- A tried spread with a value is within ±1.
-abbrev Tried : Float → Answer → Type 0
-Tried s (answer.Value y) = PlusMinus (float 1) s
-Tried s (answer.Refused r) = SpreadAmong (r .number)
+-- A tried spread with a value is within ±1; Q holds of the number of one that is refused.
+abbrev Tried : (ℕ → Type 0) → Float → Answer → Type 0
+Tried Q s (answer.Value y) = PlusMinus (float 1) s
+Tried Q s (answer.Refused r) = Q (r .number)
 
 -- What has a value has passed its checks.
-passed : (c : Check) (v : TreeValue) (x : Float) (n : ℕ) → onCheck c tree.Refused v ≡ tree.Value x n → c ≡ check.Passed
+pub passed : (c : Check) (v : TreeValue) (x : Float) (n : ℕ) → onCheck c tree.Refused v ≡ tree.Value x n → c ≡ check.Passed
 unfolding onCheck
 passed check.Passed v x n e = refl
 passed (check.Refused r) v x n e = cc
@@ -60,27 +59,32 @@ module _ (asked : Quoted) (calls : CallSchedule) (room : Room) where
   unfolding treeValue
   valued s x n e = within-passed (float 1) s one-finite (tree-market (atSpread asked s) calls (passed (treeChecks (atSpread asked s) calls) _ x n e) .spread)
 
-  tried : (s : Float) → Holds (Tried s) (difference s)
-  unfolding spreadObjective onTreeValue
-  tried s = of-cond (lt one s) _ _ (λ t. record { it = one-of 36 refl }) (λ t. over (treeValue (atSpread asked s) calls room) refl)
-    where
-      over : (v : TreeValue) → treeValue (atSpread asked s) calls room ≡ v → Holds (Tried s) (onTreeValue v answer.Refused λ x. tested (sub binary64 x (asked .target)) 0)
-      over (tree.Value x n) e = of-cond (notFinite (sub binary64 x (asked .target))) _ _ (λ t. record { it = one-of 27 refl }) (λ t. record { it = valued s x n e })
-      over (tree.Refused q) e = record { it = of-tree (q .number) (tree-numbers (atSpread asked s) calls room q e) }
+  module _ (Q : ℕ → Type 0) (of-27 : Q 27) (of-29 : Q 29) (of-36 : Q 36) (of-value : (s : Float) (q : Refusal) → treeValue (atSpread asked s) calls room ≡ tree.Refused q → Q (q .number)) where
+    tried : (s : Float) → Holds (Tried Q s) (difference s)
+    unfolding spreadObjective onTreeValue
+    tried s = of-cond (lt one s) _ _ (λ t. record { it = of-36 }) (λ t. over (treeValue (atSpread asked s) calls room) refl)
+      where
+        over : (v : TreeValue) → treeValue (atSpread asked s) calls room ≡ v → Holds (Tried Q s) (onTreeValue v answer.Refused λ x. tested (sub binary64 x (asked .target)) 0)
+        over (tree.Value x n) e = of-cond (notFinite (sub binary64 x (asked .target))) _ _ (λ t. record { it = of-27 }) (λ t. record { it = valued s x n e })
+        over (tree.Refused q) e = record { it = of-value s q e }
 
-  tried-within : (s y : Float) → difference s ≡ answer.Value y → T (le (neg one) s) × T (le s one)
-  unfolding ofBits ofInt
-  tried-within s y e = let p = subst (Tried s) e (tried s .it) in (p .at-least, p .at-most)
+    tried-within : (s y : Float) → difference s ≡ answer.Value y → T (le (neg one) s) × T (le s one)
+    unfolding ofBits ofInt
+    tried-within s y e = let p = subst (Tried Q s) e (tried s .it) in (p .at-least, p .at-most)
 
-  tried-number : (s : Float) (r : Refusal) → difference s ≡ answer.Refused r → SpreadAmong (r .number)
-  tried-number s r e = subst (Tried s) e (tried s .it)
+    tried-number : (s : Float) (r : Refusal) → difference s ≡ answer.Refused r → Q (r .number)
+    tried-number s r e = subst (Tried Q s) e (tried s .it)
+
+    -- What holds of 27, 29, 36 and of every number that a value call at a tried spread is refused with holds of what the solver is refused with.
+    pub solved-with : Settles Q (solveSpread asked calls room)
+    solved-with = converges Q of-27 of-29 difference tried-within tried-number firstLower firstUpper (neg one)
 
   solved : Settles SpreadAmong (solveSpread asked calls room)
-  solved = converges SpreadAmong (one-of 27 refl) (one-of 29 refl) difference tried-within tried-number firstLower firstUpper (neg one)
+  solved = solved-with SpreadAmong (one-of 27 refl) (one-of 29 refl) (one-of 36 refl) (λ s q e. of-tree (q .number) (tree-numbers (atSpread asked s) calls room q e))
 
   spread-number : Settles SpreadAmong (spreadFromPrice asked calls room)
   unfolding spreadFromPrice spreadChecks
-  spread-number = on-check {P = Settles SpreadAmong} (quotedChecks asked calls) _ _ (checks-number targetLimit (atSpread asked (asked .target)) calls) (λ r l. record { it = of-tree (r .number) l }) (record { it = solved }) .it
+  spread-number = on-check {P = Settles SpreadAmong} (quotedChecks asked calls) _ _ (checks-tree targetLimit (atSpread asked (asked .target)) calls) (λ r l. record { it = of-tree (r .number) l }) (record { it = solved }) .it
 
 pub spread-numbers : SpreadNumbers
 spread-numbers asked calls room q n e = subst (Settles SpreadAmong) e (spread-number asked calls room)

@@ -2,19 +2,26 @@
 use Prim.Native.Nat.{ℕ}
 use mathlib.Core.Path.{_≡_, refl, subst}
 use mathlib.Core.List.{List, _∷_}
+use lib.IntN.{ℤ}
 use lib.Ieee.{Float}
 use Rattle.terms.specs.Numbers.{float}
-use Rattle.terms.specs.Terms.{CallSchedule, Market}
-use Rattle.terms.specs.Entries.{treeChecks}
+use Rattle.terms.specs.Terms.{HullWhite, CallSchedule, Market}
+use Rattle.terms.specs.Curve.{curveOver}
+use Rattle.terms.specs.Entries.{marketChecks, treeChecks}
 use Rattle.terms.specs.Outcomes.{Outcome, given, refused, onOutcome}
 use Rattle.bondevents.specs.declared.BondEventGrid.{BondEventGrid}
-use Rattle.lattice.specs.Layers.{Room}
+use Rattle.bondevents.specs.declared.CallStep.{CallStep}
+use Rattle.hullwhite.specs.Variance.{variancesFrom}
+use Rattle.lattice.specs.Layers.{At, Room}
+use Rattle.lattice.specs.Lattice.{Layer}
+use Rattle.forwardinduction.specs.Fit.{shiftsFrom}
+use Rattle.backwardinduction.specs.Walk.{walkFrom}
 use Rattle.treebasedbondpricer.specs.declared.TreeValue.{TreeValue}
 use Rattle.treebasedbondpricer.specs.declared.TreeValue.the-variants.{Value, Refused}
 use Rattle.treebasedbondpricer.specs.Tree.{fittedTreeOver, latticeValueOver, fittedTree, latticeValue, treeValue, numberOf}
 use Rattle.floats.specs.laws.Cases.{Holds}
 use Rattle.promises.specs.RefusalNumbers.{Among, treeRefusals, TreeNumbers}
-use Rattle.promises.specs.laws.Numbers.{one-of, one-more, OutcomeAmong, on-outcome, on-check, numbers}
+use Rattle.promises.specs.laws.Numbers.{one-of, one-more, arithmeticRefusals, checkRefusals, gridRefusals, walkRefusals, OutcomeAmong, CheckAmong, wider-outcome, wider-check, on-outcome, on-check, numbers}
 use Rattle.promises.specs.laws.GridNumbers.{checks-number, grid-number}
 use Rattle.promises.specs.laws.LatticeNumbers.{variances-number, lattice-number}
 use Rattle.promises.specs.laws.WalkNumbers.{shifts-number, walk-number}
@@ -39,20 +46,33 @@ then-tree a k h = on-outcome a refused k h (λ r l. record { it = l })
 value-tree : {ns : List ℕ} (x : Float) (count : ℕ) → Holds (EndsAmong ns) (given (Value x count))
 value-tree x count = record { it = tt }
 
+-- the parts on the tree value's list
+pub checks-tree : (limit : Float) (m : Market) (calls : CallSchedule) → Holds (CheckAmong treeRefusals) (marketChecks limit m calls)
+checks-tree limit m calls = wider-check checkRefusals treeRefusals refl _ (checks-number limit m calls)
+
+variances-tree : (model : HullWhite) (dt : Float) (count k : ℕ) → Holds (OutcomeAmong treeRefusals) (variancesFrom model dt count k)
+variances-tree model dt count k = wider-outcome arithmeticRefusals treeRefusals refl _ (variances-number model dt count k)
+
+shifts-tree : (layers : List Layer) (times factors : List Float) (dt : Float) (k : ℕ) (row : List At) → Holds (OutcomeAmong treeRefusals) (shiftsFrom (curveOver times factors) dt k layers row)
+shifts-tree layers times factors dt k row = wider-outcome walkRefusals treeRefusals refl _ (shifts-number layers times factors dt k row)
+
+walk-tree : (layers : List Layer) (shifts : List Float) (dt spread : Float) (cashflows : List Float) (calls : List CallStep) (k : ℕ) (final : List ℤ) → Holds (OutcomeAmong treeRefusals) (walkFrom dt spread cashflows calls k layers shifts final)
+walk-tree layers shifts dt spread cashflows calls k final = wider-outcome walkRefusals treeRefusals refl _ (walk-number layers shifts dt spread cashflows calls k final)
+
 fitted-number : (m : Market) (room : Room) (maturity : Float) (steps : ℕ) → Holds (OutcomeAmong treeRefusals) (fittedTree m room maturity steps)
 unfolding fittedTreeOver
-fitted-number m room maturity steps = search (variances-number, lattice-number, shifts-number, numbers)
+fitted-number m room maturity steps = search (variances-tree, lattice-number, shifts-tree, numbers)
 
 lattice-value-number : (m : Market) (room : Room) (grid : BondEventGrid) → Holds (EndsAmong treeRefusals) (latticeValue m room grid)
 unfolding latticeValueOver
-lattice-value-number m room grid = search (fitted-number, walk-number, then-tree, value-tree)
+lattice-value-number m room grid = search (fitted-number, walk-tree, then-tree, value-tree)
 
 tree-number : (m : Market) (calls : CallSchedule) (room : Room) → Holds (TreeAmong treeRefusals) (treeValue m calls room)
 unfolding treeValue treeChecks
 tree-number m calls room =
-    let grid = grid-number (m .settlement) (m .bond) calls (m .controls) in
+    let grid = wider-outcome gridRefusals treeRefusals refl _ (grid-number (m .settlement) (m .bond) calls (m .controls)) in
     let ends = then-tree _ (latticeValue m room) grid (lattice-value-number m room) in
-    on-check (treeChecks m calls) Refused _ (checks-number (float 1) m calls) (λ r l. record { it = l }) (record { it = ends-in treeRefusals _ (ends .it) })
+    on-check (treeChecks m calls) Refused _ (checks-tree (float 1) m calls) (λ r l. record { it = l }) (record { it = ends-in treeRefusals _ (ends .it) })
 
 pub tree-numbers : TreeNumbers
 tree-numbers m calls room q h = subst (TreeAmong treeRefusals) h (tree-number m calls room .it)

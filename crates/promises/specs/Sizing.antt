@@ -1,0 +1,92 @@
+-- Definitions only. How large must the slices be: what sizing promises a C caller of the tree value and of spread from price, and which numbers it ends in.
+use Prim.Native.Nat.{ℕ, _≤_, _<_}
+use mathlib.Core.Path.{_≡_}
+use mathlib.Core.List.{List, [], _∷_}
+use lib.Ieee.{Float, binary64, div}
+use Rattle.floats.specs.declared.Refusal.{Refusal}
+use Rattle.terms.specs.declared.Check.{Check}
+use Rattle.terms.specs.Numbers.{float}
+use Rattle.terms.specs.Terms.{CallSchedule, Market, withSpread}
+use Rattle.terms.specs.Checks.{onCheck}
+use Rattle.terms.specs.Entries.{treeChecks, spreadChecks}
+use Rattle.terms.specs.Outcomes.{Outcome, refused, follow, finiteThen}
+use Rattle.bondevents.specs.Grid.{eventGrid}
+use Rattle.hullwhite.specs.Variance.{transitionVariances, variancesFrom}
+use Rattle.lattice.specs.Layers.{Room}
+use Rattle.lattice.specs.Lattice.{Lattice, lattice}
+use Rattle.treebasedbondpricer.specs.Tree.{Lent, roomOf}
+use Rattle.sizing.specs.declared.Lengths.{Lengths}
+use Rattle.promises.specs.RefusalNumbers.{Among}
+use Rattle.promises.specs.HostCallLists.{TreeCall, SpreadCall, SizesCall}
+
+-- ---- lengths
+
+-- Slices of the lengths given, or longer ones.
+pub record AsLong (l : Lengths) (room : Room) : Type 0 where
+  pub nodes : l .nodes ≤ room .nodes
+  pub probabilities : l .probabilities ≤ room .probabilities
+  pub first : l .row ≤ room .first
+  pub second : l .row ≤ room .second
+
+-- Any one of them is shorter.
+pub data Shorter (l : Lengths) (room : Room) : Type 0 where
+  fewer-nodes : room .nodes < l .nodes → Shorter l room
+  fewer-probabilities : room .probabilities < l .probabilities → Shorter l room
+  shorter-first : room .first < l .row → Shorter l room
+  shorter-second : room .second < l .row → Shorter l room
+
+-- ---- what a call with these terms answers
+
+-- What stands before the fit: the checks, then grid, time_step, variances and layers.
+unfoldable pub beforeFit : Check → Market → CallSchedule → Room → Outcome Lattice
+unfolding eventGrid variancesFrom lattice div
+beforeFit checks m calls room =
+    onCheck checks refused
+    (follow (eventGrid (m .settlement) (m .bond) calls (m .controls)) λ grid.
+    finiteThen (div binary64 (grid .«maturity_time») (float (grid .steps))) 0 λ dt.
+    follow (transitionVariances (m .model) (grid .steps) dt) λ variances. lattice room (m .model .alpha) dt variances)
+
+-- 21; or, for another cause, the very refusal that checks, grid, variances or layers give in ample slices.
+pub data Stops (l : Lengths) (before : Room → Outcome Lattice) : Refusal → Type 0 where
+  with-21 : {k : ℕ} → Stops l before (record { number = 21; place = k })
+  earlier : {q : Refusal} → (q .number ≡ 21 → ⊥) → ((ample : Room) → AsLong l ample → before ample ≡ refused q) → Stops l before q
+
+-- Of all calls of one function: what was lent, and the refusal, number 0 where accepted.
+pub record RightLengths (l : Lengths) (before : Room → Outcome Lattice) (Call : Type 0) (lent : Call → Lent) (refusal : Call → Refusal) : Type 0 where
+  -- With slices of the lengths given the call never answers 21.
+  pub never-21 : (c : Call) → AsLong l (roomOf (lent c)) → refusal c .number ≡ 21 → ⊥
+  -- With any one of them shorter it does, unless it stops earlier for another cause.
+  pub shorter : (c : Call) → Shorter l (roomOf (lent c)) → Stops l before (refusal c)
+  -- What refuses before the fit is what the call answers.
+  pub first-cause : (c : Call) (q : Refusal) → before (roomOf (lent c)) ≡ refused q → refusal c ≡ q
+
+-- ---- the promise
+
+abbrev pub lengthsIn : {m : Market} {calls : CallSchedule} → SizesCall m calls → Lengths
+lengthsIn s = record { nodes = s .nodes; probabilities = s .probabilities; row = s .row; count = s .count }
+
+-- Of the bond that was sized, whatever the spread of the call; spread from price has a target in its place.
+pub record Sized (m : Market) (calls : CallSchedule) (l : Lengths) : Type 0 where
+  pub values :
+      (spread : Float)
+      → RightLengths l (beforeFit (treeChecks (withSpread m spread) calls) m calls)
+      (TreeCall (withSpread m spread) calls) (λ c. c .lent) (λ c. record { number = c .number; place = c .place })
+  -- The count given is the one that the value call reports.
+  pub counts : (spread : Float) (c : TreeCall (withSpread m spread) calls) → c .number ≡ 0 → c .nodes ≡ l .count
+  pub spreads :
+      (target : Float)
+      → RightLengths l (beforeFit (spreadChecks (withSpread m target) calls) m calls)
+      (SpreadCall m target calls) (λ c. c .lent) (λ c. record { number = c .number; place = c .place })
+
+-- Whatever sizing accepts, in whatever node slice.
+abbrev pub SizingRule : Type 0
+SizingRule = (m : Market) (calls : CallSchedule) (s : SizesCall m calls) → s .number ≡ 0 → Sized m calls (lengthsIn s)
+
+-- ---- its refusals
+
+-- All input checks; it makes no call prices and reads no curve, so it never answers 20 or 25.
+abbrev pub sizingRefusals : List ℕ
+sizingRefusals = 1 ∷ 2 ∷ 3 ∷ 4 ∷ 5 ∷ 6 ∷ 7 ∷ 8 ∷ 21 ∷ 22 ∷ 23 ∷ 26 ∷ 27 ∷ 33 ∷ 34 ∷ 35 ∷ 44 ∷ []
+
+abbrev pub SizingNumbers : Type 0
+SizingNumbers = (m : Market) (calls : CallSchedule) (s : SizesCall m calls) → Among (0 ∷ sizingRefusals) (s .number)

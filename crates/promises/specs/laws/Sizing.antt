@@ -1,0 +1,128 @@
+-- Sizing keeps its promise: of the tree value and of spread from price. Assumes nothing.
+use Prim.Native.Nat.{ℕ}
+use native.Mathlib.Omega.{arith}
+use mathlib.Core.Path.{_≡_, refl, sym, ap, subst, _∙_}
+use mathlib.Core.List.{List}
+use lib.ListN.{length}
+use lib.Ieee.{Float, binary64, div}
+use Rattle.floats.specs.declared.Refusal.{Refusal}
+use Rattle.floats.specs.Answers.{notFinite}
+use Rattle.terms.specs.declared.Check.{Check}
+use Rattle.terms.specs.declared.Check.the-variants as check
+use Rattle.terms.specs.Numbers.{float}
+use Rattle.terms.specs.Terms.{CallSchedule, Market, withSpread}
+use Rattle.terms.specs.Checks.{onCheck}
+use Rattle.terms.specs.Entries.{treeChecks, spreadChecks}
+use Rattle.terms.specs.Outcomes.{Outcome, given, refused}
+use Rattle.terms.specs.laws.Outcomes.{given-or-refused}
+use Rattle.bondevents.specs.Grid.{eventGrid}
+use Rattle.hullwhite.specs.Variance.{transitionVariances}
+use Rattle.lattice.specs.Layers.{Room}
+use Rattle.lattice.specs.Lattice.{Lattice}
+use Rattle.lattice.specs.laws.RoomTest.{Fitting}
+use Rattle.treebasedbondpricer.specs.Tree.{Lent, roomOf, treeValue}
+use Rattle.spreads.specs.Spreads.{quoting, spreadFromPrice}
+use Rattle.widths.specs.Widths.{total, widest}
+use Rattle.sizing.specs.Sizing.{treeWidths, lengthsOf, sizesOf, needed}
+use Rattle.promises.specs.HostCallLists.{TreeCall, SpreadCall, SizesCall}
+use Rattle.promises.specs.Sizing.{AsLong, Shorter, fewer-nodes, fewer-probabilities, shorter-first, shorter-second, beforeFit, Stops, with-21, earlier, RightLengths, lengthsIn, Sized, SizingRule}
+use Rattle.promises.specs.laws.Rooms.{Alike, alike, first-short, second-short, after, either, lattice-alike}
+use Rattle.promises.specs.laws.SizedValues.{Ends, after-layers, without-room, before-layers, ends-not-21, refusalOf, tree-ends, value-sized, counted-as}
+use Rattle.promises.specs.laws.SizedSpreads.{rootRefusal, widths-any-spread, spread-ends}
+use Rattle.promises.specs.laws.SizingNumbers.{accepted}
+use Rattle.promises.specs.laws.HostCallLists.{valued}
+
+-- ---- lengths and room
+
+long-fits : (ws : List ℕ) {room : Room} → AsLong (lengthsOf ws) room → Fitting room (total ws) (widest ws)
+long-fits ws a = record { pairs = a .nodes; threes = a .probabilities; first = a .first; second = a .second }
+
+short-never-fits : (ws : List ℕ) {room : Room} → Shorter (lengthsOf ws) room → Fitting room (total ws) (widest ws) → ⊥
+short-never-fits ws (fewer-nodes h) f = omega (arith, h, f .pairs)
+short-never-fits ws (fewer-probabilities h) f = omega (arith, h, f .threes)
+short-never-fits ws (shorter-first h) f = omega (arith, h, f .first)
+short-never-fits ws (shorter-second h) f = omega (arith, h, f .second)
+
+-- What stands before the fit is the same in two rooms, or one of them is short.
+before-alike : (c : Check) (m : Market) (calls : CallSchedule) (a b : Room) → Alike (beforeFit c m calls a) (beforeFit c m calls b)
+unfolding beforeFit onCheck
+before-alike check.Passed m calls a b =
+    after (eventGrid (m .settlement) (m .bond) calls (m .controls)) _ _ λ g.
+    let dt = div binary64 (g .«maturity_time») (float (g .steps)) in
+    either (notFinite dt) _ _ _ _ alike
+    (after (transitionVariances (m .model) (g .steps) dt) _ _ λ vs. lattice-alike a b (m .model .alpha) dt vs)
+before-alike (check.Refused q) m calls a b = alike
+
+-- ---- one function's calls
+
+first-of : {room : Room} {ws : List ℕ} {o : Outcome Lattice} {r q : Refusal} → Ends room ws o r → o ≡ refused q → r ≡ q
+first-of (after-layers f ne) e = absurd (given-or-refused refl e)
+first-of (without-room ne) e = cc
+first-of (before-layers ne) e = cc
+
+ample-too : {room : Room} {ws : List ℕ} {o p : Outcome Lattice} {r q : Refusal} → Fitting room (total ws) (widest ws) → (q .number ≡ 21 → ⊥) → Alike o p → o ≡ refused q → Ends room ws p r → p ≡ refused q
+ample-too fit ne alike e x = e
+ample-too {q = q} fit ne (first-short {k = k}) e x = let same : record { number = 21; place = k } ≡ q = cc in absurd (ne (sym (ap (λ (r : Refusal). r .number) same)))
+ample-too fit ne second-short e (without-room none) = absurd (none fit)
+ample-too fit ne second-short e (before-layers other) = absurd (other refl)
+
+module _ (ws : List ℕ) (before : Room → Outcome Lattice) (answers : Room → Refusal) (ends : (room : Room) → Ends room ws (before room) (answers room)) (both : (a b : Room) → Alike (before a) (before b)) where
+  stops : (room : Room) → Shorter (lengthsOf ws) room → Stops (lengthsOf ws) before (answers room)
+  stops room s = go refl (ends room)
+    where
+      go : {o : Outcome Lattice} {q : Refusal} → before room ≡ o → Ends room ws o q → Stops (lengthsOf ws) before q
+      go e (after-layers f ne) = absurd (short-never-fits ws s f)
+      go e (without-room ne) = with-21
+      go e (before-layers ne) = earlier ne λ ample a. ample-too (long-fits ws a) ne (both room ample) e (ends ample)
+
+  right : (Call : Type 0) (lent : Call → Lent) (refusal : Call → Refusal) → ((c : Call) → refusal c ≡ answers (roomOf (lent c))) → RightLengths (lengthsOf ws) before Call lent refusal
+  right Call lent refusal is =
+      record {
+        never-21 = λ c a n. ends-not-21 (long-fits ws a) (ends (roomOf (lent c))) (ap (λ (q : Refusal). q .number) (sym (is c)) ∙ n);
+        shorter = λ c s. rw (is c) (stops (roomOf (lent c)) s);
+        first-cause = λ c q e. is c ∙ first-of (ends (roomOf (lent c))) e;
+      }
+
+-- ---- the calls of a bond that was sized
+
+module _ (m : Market) (calls : CallSchedule) (slice : ℕ) (ws : List ℕ) (e : treeWidths m slice ≡ given ws) where
+  known : (s : Float) → treeWidths (withSpread m s) slice ≡ given ws
+  known s = widths-any-spread m s slice ∙ e
+
+  -- What stands before the fit doesn't read the spread.
+  same-before : (c : Check) (s : Float) (room : Room) → beforeFit c (withSpread m s) calls room ≡ beforeFit c m calls room
+  unfolding beforeFit
+  same-before c s room = refl
+
+  tree-right : (s : Float) → RightLengths (lengthsOf ws) (beforeFit (treeChecks (withSpread m s) calls) m calls) (TreeCall (withSpread m s) calls) (λ c. c .lent) (λ c. record { number = c .number; place = c .place })
+  tree-right s =
+      right ws _ (λ room. refusalOf (treeValue (withSpread m s) calls room))
+      (λ room. rw (← same-before (treeChecks (withSpread m s) calls) s room) (tree-ends (withSpread m s) calls slice room ws (known s)))
+      (before-alike (treeChecks (withSpread m s) calls) m calls)
+      _ _ _ λ c. rw (c .handed .handed .number-is, c .handed .handed .place-is)
+
+  spread-right : (t : Float) → RightLengths (lengthsOf ws) (beforeFit (spreadChecks (withSpread m t) calls) m calls) (SpreadCall m t calls) (λ c. c .lent) (λ c. record { number = c .number; place = c .place })
+  spread-right t =
+      right ws _ (λ room. rootRefusal (spreadFromPrice (quoting m t) calls room))
+      (λ room. rw (← same-before (spreadChecks (withSpread m t) calls) t room) (spread-ends (quoting m t) calls slice room ws (known t)))
+      (before-alike (spreadChecks (withSpread m t) calls) m calls)
+      _ _ _ λ c. rw (c .handed .handed .number-is, c .handed .handed .place-is)
+
+  counts : (s : Float) (c : TreeCall (withSpread m s) calls) → c .number ≡ 0 → c .nodes ≡ total ws
+  counts s c z =
+      let room = roomOf (c .lent) in
+      let v = treeValue (withSpread m s) calls room in
+      let p = c .handed .handed in
+      p .nodes-is ∙ counted-as (value-sized (withSpread m s) calls slice room ws (known s)) (valued (withSpread m s) calls room v refl (sym (p .number-is) ∙ z))
+
+  sized : Sized m calls (lengthsOf ws)
+  sized = record { values = tree-right; counts = counts; spreads = spread-right }
+
+-- The lengths that are handed back.
+handed-lengths : {m : Market} {calls : CallSchedule} (s : SizesCall m calls) → lengthsIn s ≡ needed (sizesOf m calls (length (s .lent)))
+handed-lengths s = let p = s .handed .handed in rw (p .nodes-is, p .probabilities-is, p .row-is, p .count-is)
+
+pub sizing-rule : SizingRule
+sizing-rule m calls s z =
+    let (ws, e, f) = accepted m calls (length (s .lent)) (sym (s .handed .handed .number-is) ∙ z) in
+    subst (Sized m calls) (sym (handed-lengths s ∙ ap needed f)) (sized m calls (length (s .lent)) ws e)

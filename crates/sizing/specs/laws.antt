@@ -1,0 +1,2 @@
+-- The laws of the sizing entry.
+pub mod Sized
