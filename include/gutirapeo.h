@@ -227,8 +227,8 @@ uint32_t gutirapeo_spread_from_price(uint32_t settlement, uint32_t day_count,
 
 /* How long the tree value's slices must be for these terms: nodes, probabilities and each of the two rows; and the nodes of the tree.
  *
- * With slices of these lengths, or longer ones, the tree value never answers 21, and neither does spread from price, whatever the
- * spread or the target. With any one of them shorter they do, unless checks, grid, variances or layers refuse for another cause.
+ * With slices of these lengths, or longer ones, the tree value never answers 21, and neither do a closing line and spread from
+ * price, whatever the spread or the target. With any one of them shorter they do, unless checks, grid, variances or layers refuse for another cause.
  * The count is the one that the tree value reports.
  *
  * Everything is taken as for the tree value, and checked as it checks it. No call is priced and the curve isn't read, so 20 and 25

@@ -1,4 +1,4 @@
--- Definitions only. How large must the slices be: what sizing promises a C caller of the tree value and of spread from price, and which numbers it ends in.
+-- Definitions only. How large must the slices be: what sizing promises a C caller of the tree value, of a closing line and of spread from price, and which numbers it ends in.
 use Prim.Native.Nat.{ℕ, _≤_, _<_}
 use mathlib.Core.Path.{_≡_}
 use mathlib.Core.List.{List, [], _∷_}
@@ -17,7 +17,7 @@ use Rattle.lattice.specs.Lattice.{Lattice, lattice}
 use Rattle.treebasedbondpricer.specs.Tree.{Lent, roomOf}
 use Rattle.sizing.specs.declared.Lengths.{Lengths}
 use Rattle.promises.specs.RefusalNumbers.{Among}
-use Rattle.promises.specs.HostCallLists.{TreeCall, SpreadCall, SizesCall}
+use Rattle.promises.specs.HostCallLists.{TreeCall, SpreadCall, SheetCall, SizesCall}
 
 -- ---- lengths
 
@@ -73,6 +73,13 @@ pub record Sized (m : Market) (calls : CallSchedule) (l : Lengths) : Type 0 wher
       (TreeCall (withSpread m spread) calls) (λ c. c .lent) (λ c. record { number = c .number; place = c .place })
   -- The count given is the one that the value call reports.
   pub counts : (spread : Float) (c : TreeCall (withSpread m spread) calls) → c .number ≡ 0 → c .nodes ≡ l .count
+  -- A line of the closing sheet, for a bond number in range.
+  pub lines :
+      (bond : ℕ) (spread : Float)
+      → 1 ≤ bond
+      → bond ≤ 999999
+      → RightLengths l (beforeFit (treeChecks (withSpread m spread) calls) m calls)
+      (SheetCall bond (withSpread m spread) calls) (λ c. c .lent) (λ c. record { number = c .number; place = c .place })
   pub spreads :
       (target : Float)
       → RightLengths l (beforeFit (spreadChecks (withSpread m target) calls) m calls)

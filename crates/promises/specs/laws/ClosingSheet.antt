@@ -49,7 +49,7 @@ use Rattle.promises.specs.laws.NumbersMet.{each-met}
 
 -- ---- a line in range shows a refusal, or 32, or a value
 
-data Shows (bond : ℕ) : TreeValue → ClosingLine → Type 0 where
+pub data Shows (bond : ℕ) : TreeValue → ClosingLine → Type 0 where
   a-refusal : {q : Refusal} → Shows bond (Refused q) (refusedSheet bond q)
   too-wide : {x : Float} {n : ℕ} → (valueCell x .wide ≡ true) ⊎ (99999999 < n) → Shows bond (Value x n) (refusedSheet bond (at 32 0))
   a-value : {x : Float} {n : ℕ} → valueCell x .wide ≡ false → n ≤ 99999999 → Shows bond (Value x n) (shownSheet bond n (valueCell x .cell))
@@ -79,7 +79,7 @@ value-shows bond x n = go (decided (valueCell x .wide)) (ordered n 99999999)
         subst (λ (b : Bool). Shows bond (Value x n) (cond b r32 (cond (ltb 99999999 n) r32 shown))) (sym w)
         (subst (λ (b : Bool). Shows bond (Value x n) (cond b r32 shown)) (sym (lt-ltb 99999999 n h)) (too-wide (inr h)))
 
-shows : (bond : ℕ) (v : TreeValue) → 1 ≤ bond → bond ≤ 999999 → Shows bond v (sheetOf bond v)
+pub shows : (bond : ℕ) (v : TreeValue) → 1 ≤ bond → bond ≤ 999999 → Shows bond v (sheetOf bond v)
 unfolding sheetBy answerSheet
 shows bond v f l =
     subst (λ (b : Bool). Shows bond v (cond b noSheet (cond (ltb 999999 bond) noSheet (answerSheet valueCell bond v)))) (sym (le-ltb bond 1 f))

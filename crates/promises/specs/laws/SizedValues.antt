@@ -238,7 +238,7 @@ counted-not : (n : ℕ) (v : TreeValue) → Counted n v → numberOf v ≡ 21 �
 counted-not n (Value x k) c e = omega arith
 counted-not n (Refused q) c e = subst (Among walkRefusals) e c .is-one
 
-value-ends : {room : Room} {ws : List ℕ} {o : Outcome Lattice} {v : TreeValue} → ValueSized room ws o v → Ends room ws o (refusalOf v)
+pub value-ends : {room : Room} {ws : List ℕ} {o : Outcome Lattice} {v : TreeValue} → ValueSized room ws o v → Ends room ws o (refusalOf v)
 value-ends {ws = ws} (was-laid {v = v} f c) = after-layers f (counted-not (total ws) v c)
 value-ends (had-no-room ne) = without-room ne
 value-ends (stopped ne) = before-layers ne

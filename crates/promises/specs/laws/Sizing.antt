@@ -1,5 +1,5 @@
--- Sizing keeps its promise: of the tree value and of spread from price. Assumes nothing.
-use Prim.Native.Nat.{ℕ}
+-- Sizing keeps its promise: of the tree value, of a closing line and of spread from price. Assumes nothing.
+use Prim.Native.Nat.{ℕ, _≤_}
 use native.Mathlib.Omega.{arith}
 use mathlib.Core.Path.{_≡_, refl, sym, ap, subst, _∙_}
 use mathlib.Core.List.{List}
@@ -20,17 +20,22 @@ use Rattle.hullwhite.specs.Variance.{transitionVariances}
 use Rattle.lattice.specs.Layers.{Room}
 use Rattle.lattice.specs.Lattice.{Lattice}
 use Rattle.lattice.specs.laws.RoomTest.{Fitting}
+use Rattle.treebasedbondpricer.specs.declared.TreeValue.{TreeValue}
+use Rattle.treebasedbondpricer.specs.declared.TreeValue.the-variants.{Value}
 use Rattle.treebasedbondpricer.specs.Tree.{Lent, roomOf, treeValue}
+use Rattle.closingsheet.specs.declared.ClosingLine.{ClosingLine}
+use Rattle.closingsheet.specs.Sheet.{sheetOf}
 use Rattle.spreads.specs.Spreads.{quoting, spreadFromPrice}
 use Rattle.widths.specs.Widths.{total, widest}
 use Rattle.sizing.specs.Sizing.{treeWidths, lengthsOf, sizesOf, needed}
-use Rattle.promises.specs.HostCallLists.{TreeCall, SpreadCall, SizesCall}
+use Rattle.promises.specs.HostCallLists.{TreeCall, SpreadCall, SheetCall, SizesCall}
 use Rattle.promises.specs.Sizing.{AsLong, Shorter, fewer-nodes, fewer-probabilities, shorter-first, shorter-second, beforeFit, Stops, with-21, earlier, RightLengths, lengthsIn, Sized, SizingRule}
 use Rattle.promises.specs.laws.Rooms.{Alike, alike, first-short, second-short, after, either, lattice-alike}
-use Rattle.promises.specs.laws.SizedValues.{Ends, after-layers, without-room, before-layers, ends-not-21, refusalOf, tree-ends, value-sized, counted-as}
+use Rattle.promises.specs.laws.SizedValues.{ValueSized, was-laid, had-no-room, stopped, Ends, after-layers, without-room, before-layers, ends-not-21, refusalOf, value-ends, tree-ends, value-sized, counted-as}
 use Rattle.promises.specs.laws.SizedSpreads.{rootRefusal, widths-any-spread, spread-ends}
 use Rattle.promises.specs.laws.SizingNumbers.{accepted}
 use Rattle.promises.specs.laws.HostCallLists.{valued}
+use Rattle.promises.specs.laws.ClosingSheet.{Shows, a-refusal, too-wide, a-value, shows}
 
 -- ---- lengths and room
 
@@ -83,6 +88,20 @@ module _ (ws : List ℕ) (before : Room → Outcome Lattice) (answers : Room →
         first-cause = λ c q e. is c ∙ first-of (ends (roomOf (lent c))) e;
       }
 
+-- ---- a line in range
+
+-- Where there is a value, all layers were laid.
+value-laid : {room : Room} {ws : List ℕ} {o : Outcome Lattice} {v : TreeValue} {x : Float} {n : ℕ} {q : Refusal} → ValueSized room ws o v → v ≡ Value x n → (q .number ≡ 21 → ⊥) → Ends room ws o q
+value-laid (was-laid f c) e ne = after-layers f ne
+value-laid (had-no-room short) e ne = absurd (let z : _≡_ {A = ℕ} 0 1 = cc in omega arith)
+value-laid (stopped other) e ne = absurd (let z : _≡_ {A = ℕ} 0 1 = cc in omega arith)
+
+-- A line ends as its value does.
+line-ends : {room : Room} {ws : List ℕ} {o : Outcome Lattice} {bond : ℕ} {v : TreeValue} {s : ClosingLine} → ValueSized room ws o v → Shows bond v s → Ends room ws o (s .refusal)
+line-ends z a-refusal = value-ends z
+line-ends z (too-wide h) = value-laid z refl λ e. omega (arith, e)
+line-ends z (a-value w h) = value-laid z refl λ e. omega (arith, e)
+
 -- ---- the calls of a bond that was sized
 
 module _ (m : Market) (calls : CallSchedule) (slice : ℕ) (ws : List ℕ) (e : treeWidths m slice ≡ given ws) where
@@ -101,6 +120,14 @@ module _ (m : Market) (calls : CallSchedule) (slice : ℕ) (ws : List ℕ) (e : 
       (before-alike (treeChecks (withSpread m s) calls) m calls)
       _ _ _ λ c. rw (c .handed .handed .number-is, c .handed .handed .place-is)
 
+  line-right : (bond : ℕ) (s : Float) → 1 ≤ bond → bond ≤ 999999
+      → RightLengths (lengthsOf ws) (beforeFit (treeChecks (withSpread m s) calls) m calls) (SheetCall bond (withSpread m s) calls) (λ c. c .lent) (λ c. record { number = c .number; place = c .place })
+  line-right bond s f l =
+      right ws _ (λ room. sheetOf bond (treeValue (withSpread m s) calls room) .refusal)
+      (λ room. rw (← same-before (treeChecks (withSpread m s) calls) s room) (line-ends (value-sized (withSpread m s) calls slice room ws (known s)) (shows bond (treeValue (withSpread m s) calls room) f l)))
+      (before-alike (treeChecks (withSpread m s) calls) m calls)
+      _ _ _ λ c. rw (c .handed .handed .number-is, c .handed .handed .place-is)
+
   spread-right : (t : Float) → RightLengths (lengthsOf ws) (beforeFit (spreadChecks (withSpread m t) calls) m calls) (SpreadCall m t calls) (λ c. c .lent) (λ c. record { number = c .number; place = c .place })
   spread-right t =
       right ws _ (λ room. rootRefusal (spreadFromPrice (quoting m t) calls room))
@@ -116,7 +143,7 @@ module _ (m : Market) (calls : CallSchedule) (slice : ℕ) (ws : List ℕ) (e : 
       p .nodes-is ∙ counted-as (value-sized (withSpread m s) calls slice room ws (known s)) (valued (withSpread m s) calls room v refl (sym (p .number-is) ∙ z))
 
   sized : Sized m calls (lengthsOf ws)
-  sized = record { values = tree-right; counts = counts; spreads = spread-right }
+  sized = record { values = tree-right; counts = counts; lines = line-right; spreads = spread-right }
 
 -- The lengths that are handed back.
 handed-lengths : {m : Market} {calls : CallSchedule} (s : SizesCall m calls) → lengthsIn s ≡ needed (sizesOf m calls (length (s .lent)))
