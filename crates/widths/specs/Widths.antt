@@ -6,7 +6,6 @@ use lib.Dec.{leb}
 use lib.ListN.{length}
 use lib.IntN.{ℤ}
 use lib.Ieee.{Float, mul, le}
-use Rattle.rounded.specs.Root.{sqrtAt}
 use Rattle.terms.specs.Numbers.{epsilon}
 use Rattle.terms.specs.Outcomes.{Outcome, given, follow, valued, refuse}
 use Rattle.lattice.specs.Transitions.{middleOf}
@@ -22,7 +21,7 @@ middleNodes spacing decay new place (n ∷ ns) =
 
 -- 22 is tried, then the new spacing.
 unfoldable pub newSpacing : Float → ℕ → Outcome Float
-unfolding sqrtAt mul le
+unfolding mul le
 newSpacing variance k = cond (le variance epsilon) (refuse 22 k) (valued (spacingOf variance k) given)
 
 -- The widths of the layers from k on, layer k being tried already. 21: two neighbouring layers don't fit together.

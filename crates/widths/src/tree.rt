@@ -3,6 +3,7 @@
 use crate::widen::widen;
 use floats::Answer;
 use floats::Refusal;
+use floats::refusals::refusal_of;
 use lattice::NextLayer;
 use latticetransitions::curved::decay_of;
 use latticetransitions::flat::all_flat;
@@ -15,7 +16,7 @@ ghost use lib.Ieee.{le};
 ghost use Rattle.floats.specs.Answers.{plusZero};
 ghost use Rattle.lattice.specs.Lattice.{rootLayer};
 ghost use Rattle.widths.specs.Widths.{widthsFrom, curvedWidths, widths};
-ghost use Rattle.widths.specs.laws.Summing.{sumsMade, sumsOf, unlaidOf, unmadeOf, flatAll, rootedWidths};
+ghost use Rattle.widths.specs.laws.Summing.{sumsMade, sumsOf, flatAll, rootedWidths};
 
 // The nodes of all layers and those of the widest; or a refusal.
 pub enum Widths {
@@ -30,25 +31,6 @@ fn greatest(a: u64, b: u64) -> u64
         return b;
     }
     a
-}
-
-// A refusal met on the way is handed up unchanged.
-fn unlaid(next: NextLayer) -> Widths
-    ensures { λ r. ⌜ r ≡ unlaidOf next ⌝ }
-{
-    match next {
-        NextLayer::Laid(_, _) => Widths::Found(0, 0),
-        NextLayer::Refused(refusal) => Widths::Refused(refusal),
-    }
-}
-
-fn unmade(answer: Answer) -> Widths
-    ensures { λ r. ⌜ r ≡ unmadeOf answer ⌝ }
-{
-    match answer {
-        Answer::Value(_) => Widths::Found(0, 0),
-        Answer::Refused(refusal) => Widths::Refused(refusal),
-    }
 }
 
 // The layers from the root on, which stands in front.
@@ -66,7 +48,7 @@ fn layers(decay: f64, first: f64, variances: &[f64], nodes: &mut [i32]) -> Width
         widest = greatest(widest, count as u64);
         let next = widen(spacing, decay, variances[i], i as u32, count, nodes);
         let NextLayer::Laid(new_spacing, new_count) = next else {
-            return unlaid(next);
+            return Widths::Refused(next.refusal());
         };
         spacing = new_spacing;
         count = new_count;
@@ -97,11 +79,11 @@ fn curved_widths(alpha: f64, dt: f64, variances: &[f64], nodes: &mut [i32]) -> W
 {
     let found = decay_of(alpha, dt);
     let Answer::Value(decay) = found else {
-        return unmade(found);
+        return Widths::Refused(refusal_of(found));
     };
     let first = spacing_of(variances[0], 0);
     let Answer::Value(spacing) = first else {
-        return unmade(first);
+        return Widths::Refused(refusal_of(first));
     };
     rooted(decay, spacing, variances, nodes)
 }

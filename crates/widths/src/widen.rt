@@ -6,6 +6,7 @@ use crate::layer::spread;
 use crate::layer::to_front;
 use floats::Answer;
 use floats::Refusal;
+use floats::refusals::refusal_of;
 use lattice::MadeStep;
 use lattice::NextLayer;
 use layers::grow::spacing_of;
@@ -81,8 +82,8 @@ pub fn widen(
     ensures { λ r. ⌜ Widened (nextWide (length (now (nodes .entry))) decay spacing (take count (now (nodes .entry))) step variance) r (now (nodes .entry)) (now (nodes .exit)) ⌝ }
 {
     let found = new_spacing(variance, step);
-    match found {
-        Answer::Value(made) => widen_by(spacing, decay, made, step, count, nodes),
-        Answer::Refused(refusal) => NextLayer::Refused(refusal),
-    }
+    let Answer::Value(made) = found else {
+        return NextLayer::Refused(refusal_of(found));
+    };
+    widen_by(spacing, decay, made, step, count, nodes)
 }

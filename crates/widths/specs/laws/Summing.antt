@@ -43,14 +43,6 @@ unfoldable pub sumsMade : Widths → Outcome Sums
 sumsMade (Found t w) = given (record { total = t; widest = w })
 sumsMade (Refused r) = refused r
 
-abbrev pub unlaidOf : NextLayer → Widths
-unlaidOf (next.Laid s n) = Found 0 0
-unlaidOf (next.Refused r) = Refused r
-
-abbrev pub unmadeOf : Answer → Widths
-unmadeOf (answer.Value x) = Found 0 0
-unmadeOf (answer.Refused r) = Refused r
-
 -- ---- what is known of the next layer
 
 pub record Known (room : ℕ) (decay : Float) (w : Wide) : Type 0 where

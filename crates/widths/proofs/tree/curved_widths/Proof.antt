@@ -16,13 +16,13 @@ enum-known-found c = c .match .keys1
 enum-told : tie.Need-enum-told
 enum-told c = c .match .keys2
 
-unmade-requires : tie.Need-unmade-requires
-unmade-requires c κs = tt
+refusal-of-requires : tie.Need-refusal-of-requires
+refusal-of-requires c κs = tt
 
 returns : tie.Need-returns
 returns c =
     let a = c .before .before .before .before .before .args in
-    rw (c .unmade .ensures, c .before .enum-told .given .1) (curved-no-decay _ (a .alpha) (a .dt) (a .variances .now) (c .before .before .before .before .before .pre .0) (sym (c .before .before .before .decay-of .ensures) ∙ c .before .enum-told .given .1))
+    rw (c .refusal-of .ensures, c .before .enum-told .given .1) (curved-no-decay _ (a .alpha) (a .dt) (a .variances .now) (c .before .before .before .before .before .pre .0) (sym (c .before .before .before .decay-of .ensures) ∙ c .before .enum-told .given .1))
 
 shared-slice-read-spacing-of : tie.Need-shared-slice-read-spacing-of
 shared-slice-read-spacing-of c = search needs
@@ -36,13 +36,13 @@ enum-known-first c = c .match2 .keys1
 enum-told-2 : tie.Need-enum-told-2
 enum-told-2 c = c .match2 .keys2
 
-unmade-requires-2 : tie.Need-unmade-requires-2
-unmade-requires-2 c κs = tt
+refusal-of-requires-2 : tie.Need-refusal-of-requires-2
+refusal-of-requires-2 c κs = tt
 
 returns-2 : tie.Need-returns-2
 returns-2 c =
     let a = c .before .before .before .before .before .before .before .before .before .before .args in
-    rw (c .unmade2 .ensures, c .before .enum-told2 .given .1)
+    rw (c .refusal-of2 .ensures, c .before .enum-told2 .given .1)
     (curved-no-spacing _ (a .alpha) (a .dt) (a .variances .now) (c .before .before .before .before .before .before .before .before .before .before .pre .0) (sym (c .before .before .before .before .before .before .before .before .decay-of .ensures) ∙ c .before .before .before .before .before .before .found .given .1) (sym (c .before .before .before .spacing-of .ensures) ∙ c .before .enum-told2 .given .1))
 
 rooted-requires : tie.Need-rooted-requires
@@ -65,13 +65,13 @@ curved-widths-spec =
     decay-of-requires
     enum-known-found
     enum-told
-    unmade-requires
+    refusal-of-requires
     returns
     shared-slice-read-spacing-of
     spacing-of-requires
     enum-known-first
     enum-told-2
-    unmade-requires-2
+    refusal-of-requires-2
     returns-2
     rooted-requires
     same-length

@@ -43,8 +43,8 @@ enum-known-next c = c .match .keys1
 enum-told : tie.Need-enum-told Inv-loop μ-loop
 enum-told c = c .match .keys2
 
-unlaid-requires : tie.Need-unlaid-requires Inv-loop μ-loop
-unlaid-requires c κs = tt
+refusal-requires : tie.Need-refusal-requires Inv-loop μ-loop
+refusal-requires c κs = tt
 
 same-length : tie.Need-same-length Inv-loop μ-loop
 same-length c = c .before .before .before .before .widen .ensures .kept ∙ c .before .before .before .before .before .before .before .before .before .loop .inv .kept
@@ -53,7 +53,7 @@ returns : tie.Need-returns Inv-loop μ-loop
 returns c =
     let a = c .before .before .before .before .before .before .before .before .before .before .before .args in
     let l = c .before .before .before .before .before .before .before .before .before .loop in
-    rw (c .unlaid .ensures, c .before .enum-told .given .1)
+    rw (c .refusal .ensures, c .before .enum-told .given .1)
     (summing-stopped (a .decay) (a .first) (a .variances .now) (a .nodes .now) (l .nodes) (l .spacing) (l .count) (l .total) (l .widest) (l .i) (l .inv) (c .before .before .before .before .before .before .before .before .loop-test .taken) (rw (c .before .enum-told .given .1) at (c .before .before .before .before .widen .ensures)))
 
 add-i : tie.Need-add-i Inv-loop μ-loop
@@ -69,8 +69,8 @@ loop-again c =
     rw (c .before .before .before .before .before .before .before .greatest .ensures)
     (summing-one (a .decay) (a .first) (a .variances .now) (a .nodes .now) (l .nodes) (l .spacing) (l .count) (l .total) (l .widest) (l .i) (l .inv) (c .before .before .before .before .before .before .before .before .loop-test .taken) (rw (c .before .next .given .1) at (c .before .before .before .before .widen .ensures)))
 
-add-t22 : tie.Need-add-t22 Inv-loop μ-loop
-add-t22 c = let s = c .before .loop .inv in let b = s .bound in let f = s .few in let w = s .within in record { fits = omega (arith, c .before .before .before .pre .2) }
+add-t23 : tie.Need-add-t23 Inv-loop μ-loop
+add-t23 c = let s = c .before .loop .inv in let b = s .bound in let f = s .few in let w = s .within in record { fits = omega (arith, c .before .before .before .pre .2) }
 
 greatest-requires-2 : tie.Need-greatest-requires-2 Inv-loop μ-loop
 greatest-requires-2 c κs = tt
@@ -100,13 +100,13 @@ layers-spec =
     widen-requires
     enum-known-next
     enum-told
-    unlaid-requires
+    refusal-requires
     same-length
     returns
     add-i
     loop-less
     loop-again
-    add-t22
+    add-t23
     greatest-requires-2
     same-length-2
     returns-2)
