@@ -202,7 +202,7 @@ uint32_t gutirapeo_closing_line(uint32_t bond, uint32_t settlement, uint32_t day
  * than -1. A spread that is tried is refused as a tree value with that spread would be, with the same place. The others have
  * place 0:
  *   29  no bracket
- *   30  not converged
+ *   30  not converged: never given, since no input leads to it
  *   36  a spread above 1 would have to be tried; it counts as tried */
 uint32_t gutirapeo_spread_from_price(uint32_t settlement, uint32_t day_count,
                                      const uint32_t *cashflow_days, size_t cashflow_days_length,
@@ -235,7 +235,19 @@ uint32_t gutirapeo_spread_from_price(uint32_t settlement, uint32_t day_count,
  * are never answered. Lent is one node slice, with a place for each node of two neighbouring layers. After a refusal of 1 to 8,
  * 33 to 35 or 44 it is untouched, and else all zero.
  *   21  layer 0, or two neighbouring layers together, don't fit into the slice (the place is the later layer)
- *   22, 23, 26, 27 as for the tree value */
+ *   22, 23, 26, 27 as for the tree value
+ *
+ * Size first, then set the slices aside, then price; TERMS are the arguments from settlement to the pillars, the same in both calls:
+ *
+ *   number = gutirapeo_sizes(TERMS, layers, length, &place, &nodes_needed, &probabilities_needed, &row_needed, &count);
+ *   if (number == 0) {
+ *       nodes = malloc(nodes_needed * sizeof *nodes);
+ *       probabilities = malloc(probabilities_needed * sizeof *probabilities);
+ *       first = malloc(row_needed * sizeof *first);
+ *       second = malloc(row_needed * sizeof *second);
+ *       number = gutirapeo_tree_value(TERMS, nodes, nodes_needed, probabilities, probabilities_needed,
+ *                                     first, row_needed, second, row_needed, &place, &value, &count);
+ *   } */
 uint32_t gutirapeo_sizes(uint32_t settlement, uint32_t day_count,
                          const uint32_t *cashflow_days, size_t cashflow_days_length,
                          const uint8_t *cashflow_kinds, size_t cashflow_kinds_length,
