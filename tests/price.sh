@@ -221,6 +221,37 @@ ends 0; says "2029-11-15  2029-11-15     102.123450    "
 try "a strike too long for its column" 'sed "s/^\(call 2029-11-15  *2029-11-15  *\)102/\1102.00000000000001/" a.txt | ./price'
 ends 0; says "2029-11-15  2029-11-15      next line    "; says "  strike         102.00000000000001"
 
+# ---- what was priced, what to do about a file that can't be read, and warnings
+try "what was priced" './price a.txt'
+ends 0; says "Settlement       2026-11-17"; says "Steps a year                               12"; says "Steps at most                             512"
+says "Alpha                                  0.0300"; says "First sigma                            0.0092"; says "Sigma entries                               4"
+try "digests tell which input differs" 'for change in "" s/0.61043274/0.61043275/ "s/redemption 100/redemption 101/" "s/^alpha 0.03/alpha 0.04/"; do sed "$change" a.txt | ./price; done | grep digest | sort | uniq -c'
+ends 0; times 3 "      3 "; times 3 "      1 "
+try "a byte order mark" 'printf "\357\273\277" | cat - a.txt | ./price'
+ends 1; says "A byte order mark starts with byte 239. Run: dos2unix FILE"
+try "thousands by spaces" 'sed "s/^units 100/units 1 00/" a.txt | ./price'
+ends 1; says "Spaces separate values: for 2 000 000 type 2000000."
+try "a date without dashes" 'sed "s/^settlement 2026-11-17/settlement 20261117/" a.txt | ./price'
+ends 1; says "A day number is at most 200,000; a date has dashes: 2026-11-15."
+try "a spread out of its range" 'sed "s/^spread 0.0085/spread 85/" a.txt | ./price'
+ends 1; says "spread lies between -1 and 1"
+try "a call with one date" 'sed "s/^call 2029-11-15 2029-11-15 102/call 2029-11-15 102/" a.txt | ./price'
+ends 1; says "call takes two days and a strike, as 2029-11-15 2029-11-15 102"
+try "a call with nothing to call" 'sed "s/^call 2035-11-15 2035-11-15/call 2036-11-15 2036-11-15/" a.txt | ./price'
+ends 1; says "A call on or after the last redemption has nothing to call."
+try "an unknown word" 'echo "coupon 5" | cat a.txt - | ./price'
+ends 1; says "No line starts with this word. The names are: settlement,"; says "yield, quote, name; a comment starts with #."
+try "letters above 126 in a comment" 'printf "# caf\303\251\n" | cat a.txt - | ./price'
+ends 0; calm
+try "the same cashflow twice" 'sed "/redemption 100/p" a.txt | ./price'
+ends 0; warns "the same cashflow stands on line 46."
+try "a factor that jumps" 'sed "s/0.52748602/0.92748602/" a.txt | ./price'
+ends 0; warns "this factor is above the one before it by more than a tenth."
+try "a sigma in percent" 'sed "s/^\(sigma [0-9]*  *\)0\.0/\10.2/" a.txt | ./price'
+ends 0; warns "this sigma is above 0.1: 0.01 is 1 percent a year."
+try "few steps" 'sed "s/^steps 12 512/steps 2 512/" a.txt | ./price'
+ends 0; warns "fewer than two steps lie between this coupon and the one before."
+
 # ---- options
 try "an option behind the file" './price a.txt --check'
 ends 0; calm
