@@ -30,15 +30,15 @@ fn sized(found: Widths) -> Sizes
     requires { ⌜ FewFound found ⌝ }
     ensures { λ r. ⌜ r ≡ sizedOf found ⌝ }
 {
-    match found {
-        Widths::Found(total, widest) => Sizes::Sized(Lengths {
-            nodes: 2 * total,
-            probabilities: 3 * total,
-            row: widest,
-            count: total,
-        }),
-        Widths::Refused(refusal) => Sizes::Refused(refusal),
-    }
+    let Widths::Found(total, widest) = found else {
+        return Sizes::Refused(found.refusal());
+    };
+    Sizes::Sized(Lengths {
+        nodes: 2 * total,
+        probabilities: 3 * total,
+        row: widest,
+        count: total,
+    })
 }
 
 // Variances, then widths.

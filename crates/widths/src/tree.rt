@@ -16,12 +16,27 @@ ghost use lib.Ieee.{le};
 ghost use Rattle.floats.specs.Answers.{plusZero};
 ghost use Rattle.lattice.specs.Lattice.{rootLayer};
 ghost use Rattle.widths.specs.Widths.{widthsFrom, curvedWidths, widths};
-ghost use Rattle.widths.specs.laws.Summing.{sumsMade, sumsOf, flatAll, rootedWidths};
+ghost use Rattle.widths.specs.laws.Summing.{sumsMade, widthsRefusal, sumsOf, flatAll, rootedWidths};
 
 // The nodes of all layers and those of the widest; or a refusal.
 pub enum Widths {
     Found(u64, u64),
     Refused(Refusal),
+}
+
+impl Widths {
+    // Its number and place, both 0 where they are found.
+    pub fn refusal(self) -> Refusal
+        ensures { λ r. ⌜ r ≡ widthsRefusal self ⌝ }
+    {
+        match self {
+            Widths::Found(_, _) => Refusal {
+                number: 0,
+                place: 0,
+            },
+            Widths::Refused(refusal) => refusal,
+        }
+    }
 }
 
 fn greatest(a: u64, b: u64) -> u64

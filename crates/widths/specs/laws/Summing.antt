@@ -43,6 +43,11 @@ unfoldable pub sumsMade : Widths → Outcome Sums
 sumsMade (Found t w) = given (record { total = t; widest = w })
 sumsMade (Refused r) = refused r
 
+-- 01's number and place: 0 and 0 where they are found.
+abbrev pub widthsRefusal : Widths → Refusal
+widthsRefusal (Found t w) = record { number = 0; place = 0 }
+widthsRefusal (Refused r) = r
+
 -- ---- what is known of the next layer
 
 pub record Known (room : ℕ) (decay : Float) (w : Wide) : Type 0 where
