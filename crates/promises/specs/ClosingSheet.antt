@@ -20,7 +20,7 @@ use Rattle.closingsheet.specs.declared.ClosingLine.{ClosingLine}
 use Rattle.closingsheet.specs.Cells.{valueCell}
 use Rattle.closingsheet.specs.Sheet.{at, sheetOf}
 use Rattle.closingsheet.specs.Entry.{Filed}
-use Rattle.closingsheet.specs.HalfAway.{FiledAway, Alike}
+use Rattle.closingsheet.specs.HalfAway.{awaySheet, FiledAway, Alike}
 use Rattle.closingsheet.specs.Shown.{ValueColumns, RefusedColumns, Decimal, readBack, above, below, HalfCent, NoLower}
 use Rattle.promises.specs.RefusalNumbers.{Among, treeRefusals}
 use Rattle.promises.specs.Examples.{market99, callFrom, lent}
@@ -131,3 +131,7 @@ OnlyTheValue =
     → FiledAway bond m calls old before after-old
     → Filed bond m calls new before after-new
     → Alike old new × (after-new ≡ after-old)
+
+-- So it is with the line of any answer, one that no tree value gives included.
+abbrev pub OnlyTheValueOf : Type 0
+OnlyTheValueOf = (bond : ℕ) (answer : TreeValue) → Alike (awaySheet bond answer) (sheetOf bond answer)

@@ -9,6 +9,7 @@ pub mod LatticeNumbers
 pub mod WalkNumbers
 pub mod TreeNumbers
 pub mod NumbersMet
+pub mod ActualDays
 pub mod DayCounts
 pub mod SpreadPromise
 pub mod SpreadNumbers

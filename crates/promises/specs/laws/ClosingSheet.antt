@@ -43,7 +43,7 @@ use Rattle.closingsheet.specs.laws.HalfCents.{within-half-a-cent, printed-no-lo
 use Rattle.closingsheet.specs.laws.Halves.{nothing-else}
 use Rattle.promises.specs.RefusalNumbers.{member, Among, treeRefusals, Met}
 use Rattle.promises.specs.Examples.{market99, noCalls, lent}
-use Rattle.promises.specs.ClosingSheet.{valueColumns, valueShown, NoLine, RefusalShown, ValueShown, Line, EveryLine, LastExample, sheetRefusals, LineNumbers, MetOnSheet, EachMetOnSheet, LineCallListRule, HalfToEven, OnlyTheValue}
+use Rattle.promises.specs.ClosingSheet.{valueColumns, valueShown, NoLine, RefusalShown, ValueShown, Line, EveryLine, LastExample, sheetRefusals, LineNumbers, MetOnSheet, EachMetOnSheet, LineCallListRule, HalfToEven, OnlyTheValue, OnlyTheValueOf}
 use Rattle.promises.specs.laws.TreeNumbers.{tree-numbers}
 use Rattle.promises.specs.laws.NumbersMet.{each-met}
 
@@ -319,3 +319,6 @@ even-cents s m e k h w = let p = half-to-even s m e k h w in (p .over, p .under)
 pub only-the-value : OnlyTheValue
 only-the-value bond m calls old new before after-old after-new p q =
     (rw (p .sheet, q .sheet) (nothing-else bond (treeValue m calls (roomOf before))), q .slices ∙ sym (p .slices))
+
+pub only-the-value-of : OnlyTheValueOf
+only-the-value-of = nothing-else
