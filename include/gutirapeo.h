@@ -68,13 +68,14 @@ uint32_t gutirapeo_midpoint(double a, double b, uint32_t *place, double *value);
  *   2   a list's count outside its limits, or parallel arrays of unequal length
  *   3   a day out of range, cashflow days falling, a kind that isn't 0 or 1
  *   4   a number that isn't finite or lies outside its range
- *   5   a call that ends before it starts
+ *   5   a call or a put that ends before it starts
  *   6   sigma times that don't rise
  *   7   no cashflow after settlement
  *   8   pillar days that don't rise, the first not settlement, the last before maturity
  *   34  two pillars at one time, tried after 8 (the place is the later one)
  *   35  a maturity whose time is 0: in the grid, the tree value, sizing and the spread
  *   9   an unknown compounding code, or a frequency that can't be used
+ *   37  more than 64 puts, tried after every 2 (place 0); put arrays of unequal length are 2
  *   44  a pillar's discount factor that isn't positive, tried last
  * The place is the index of the entry, 0 for single fields, counts, 7, 33 and 35.
  *
@@ -82,8 +83,9 @@ uint32_t gutirapeo_midpoint(double a, double b, uint32_t *place, double *value);
  * accrued interest. A bond that can be called at 100.5 plus accrued interest has the strike 100.5 plus what has accrued by the
  * call day, as a price for so many units. On a coupon day nothing has: the coupon of that day is paid beside the strike. */
 
-/* The event grid: maturity time, steps, and 513 cashflows, marks (1 where a step has a call price) and prices.
- * 20: no principal at a step that can be called. 27: a call price that overflows. */
+/* The event grid: maturity time, steps, and 513 cashflows, marks (1 where a step has a call price) and prices, and the same of puts.
+ * 20: no principal at a step that can be called or put. 27: a call price or put price that overflows. 38: a put above the call at a
+ * step, which is its place; equal prices pass. */
 uint32_t gutirapeo_grid(uint32_t settlement, uint32_t day_count,
                         const uint32_t *cashflow_days, size_t cashflow_days_length,
                         const uint8_t *cashflow_kinds, size_t cashflow_kinds_length,
@@ -92,9 +94,13 @@ uint32_t gutirapeo_grid(uint32_t settlement, uint32_t day_count,
                         const uint32_t *call_starts, size_t call_starts_length,
                         const uint32_t *call_ends, size_t call_ends_length,
                         const double *call_strikes, size_t call_strikes_length,
+                        const uint32_t *put_starts, size_t put_starts_length,
+                        const uint32_t *put_ends, size_t put_ends_length,
+                        const double *put_strikes, size_t put_strikes_length,
                         uint32_t steps_per_year, uint32_t max_steps,
                         uint32_t *place, double *maturity_time, uint32_t *steps,
-                        double cashflows[513], uint8_t marks[513], double prices[513]);
+                        double cashflows[513], uint8_t marks[513], double prices[513],
+                        uint8_t put_marks[513], double put_prices[513]);
 
 /* The call list that call notices give: of each series the highest version stands, and a withdrawn one yields no entry.
  *
@@ -119,7 +125,11 @@ uint32_t gutirapeo_call_list(const uint32_t *series, size_t series_length,
                              uint32_t *place, uint32_t *count,
                              uint32_t call_starts[64], uint32_t call_ends[64], double call_strikes[64]);
 
-/* What the bond is worth with its calls, and the nodes of the tree.
+/* What the bond is worth with its calls and puts, and the nodes of the tree.
+ *
+ * A put has the fields and limits of a call: the holder may give the bond back at its strike, and of the puts at a step the highest
+ * price is kept, where of calls the lowest is. At each node comes first the lower of continuation and call, then the higher of that
+ * and put, then the cashflow. A bond without puts has three arrays of length 0; a pointer to them must not be null all the same.
  *
  * Sigma comes as 1 to 64 times (years from settlement, rising) and the sigma from each time on, the first reaching back to
  * settlement; the curve as 2 to 256 pillars, a day and a discount factor above 0 each, from settlement to maturity or beyond.
@@ -127,17 +137,18 @@ uint32_t gutirapeo_call_list(const uint32_t *series, size_t series_length,
  *
  * Lent, to work in: nodes with 2 places for each node of the tree, probabilities with 3 for each, and two rows, each as long as
  * the largest layer. gutirapeo_sizes, below, says how long they must be. Whatever they held, all four are untouched after a
- * refusal of 1 to 8, 33 to 35 or 44, and else all zero, to the last place.
+ * refusal of 1 to 8, 33 to 35, 37 or 44, and else all zero, to the last place.
  *
- * The refusals 1 to 8, 33 to 35 and 44 have the places above. Of the others the place is the step, where nothing else is said:
- *   20  no principal at a step that can be called (place 0)
+ * The refusals 1 to 8, 33 to 35, 37 and 44 have the places above. Of the others the place is the step, where nothing else is said:
+ *   20  no principal at a step that can be called or put (place 0)
  *   21  a layer doesn't fit into what is lent (the place is the layer)
  *   22  no variance on this step, but on others
  *   23  a node beyond 1,000,000 either way
  *   24  a probability below -1e-12: never given, since no input leads to it
  *   25  a discount factor that comes out as 0, beside a pillar below 1e-304
  *   26  exp or ln outside its range, as beside a pillar below 2^-1022
- *   27  a result that isn't finite (place 0 where it is a call price)
+ *   27  a result that isn't finite (place 0 where it is a call price or a put price)
+ *   38  a put above the call at a step
  * 26 and 27 have place 0 too where one step's decay can't be worked out. */
 uint32_t gutirapeo_tree_value(uint32_t settlement, uint32_t day_count,
                               const uint32_t *cashflow_days, size_t cashflow_days_length,
@@ -147,6 +158,9 @@ uint32_t gutirapeo_tree_value(uint32_t settlement, uint32_t day_count,
                               const uint32_t *call_starts, size_t call_starts_length,
                               const uint32_t *call_ends, size_t call_ends_length,
                               const double *call_strikes, size_t call_strikes_length,
+                              const uint32_t *put_starts, size_t put_starts_length,
+                              const uint32_t *put_ends, size_t put_ends_length,
+                              const double *put_strikes, size_t put_strikes_length,
                               uint32_t steps_per_year, uint32_t max_steps,
                               double alpha,
                               const double *sigma_times, size_t sigma_times_length,
@@ -181,6 +195,9 @@ uint32_t gutirapeo_closing_line(uint32_t bond, uint32_t settlement, uint32_t day
                                 const uint32_t *call_starts, size_t call_starts_length,
                                 const uint32_t *call_ends, size_t call_ends_length,
                                 const double *call_strikes, size_t call_strikes_length,
+                                const uint32_t *put_starts, size_t put_starts_length,
+                                const uint32_t *put_ends, size_t put_ends_length,
+                                const double *put_strikes, size_t put_strikes_length,
                                 uint32_t steps_per_year, uint32_t max_steps,
                                 double alpha,
                                 const double *sigma_times, size_t sigma_times_length,
@@ -212,6 +229,9 @@ uint32_t gutirapeo_spread_from_price(uint32_t settlement, uint32_t day_count,
                                      const uint32_t *call_starts, size_t call_starts_length,
                                      const uint32_t *call_ends, size_t call_ends_length,
                                      const double *call_strikes, size_t call_strikes_length,
+                                     const uint32_t *put_starts, size_t put_starts_length,
+                                     const uint32_t *put_ends, size_t put_ends_length,
+                                     const double *put_strikes, size_t put_strikes_length,
                                      uint32_t steps_per_year, uint32_t max_steps,
                                      double alpha,
                                      const double *sigma_times, size_t sigma_times_length,
@@ -231,9 +251,9 @@ uint32_t gutirapeo_spread_from_price(uint32_t settlement, uint32_t day_count,
  * price, whatever the spread or the target. With any one of them shorter they do, unless checks, grid, variances or layers refuse for another cause.
  * The count is the one that the tree value reports.
  *
- * Everything is taken as for the tree value, and checked as it checks it. No call is priced and the curve isn't read, so 20 and 25
- * are never answered. Lent is one node slice, with a place for each node of two neighbouring layers. After a refusal of 1 to 8,
- * 33 to 35 or 44 it is untouched, and else all zero.
+ * Everything is taken as for the tree value, and checked as it checks it. No call or put is priced and the curve isn't read, so 20, 25
+ * and 38 are never answered. Lent is one node slice, with a place for each node of two neighbouring layers. After a refusal of 1 to 8,
+ * 33 to 35, 37 or 44 it is untouched, and else all zero.
  *   21  layer 0, or two neighbouring layers together, don't fit into the slice (the place is the later layer)
  *   22, 23, 26, 27 as for the tree value
  *
@@ -256,6 +276,9 @@ uint32_t gutirapeo_sizes(uint32_t settlement, uint32_t day_count,
                          const uint32_t *call_starts, size_t call_starts_length,
                          const uint32_t *call_ends, size_t call_ends_length,
                          const double *call_strikes, size_t call_strikes_length,
+                         const uint32_t *put_starts, size_t put_starts_length,
+                         const uint32_t *put_ends, size_t put_ends_length,
+                         const double *put_strikes, size_t put_strikes_length,
                          uint32_t steps_per_year, uint32_t max_steps,
                          double alpha,
                          const double *sigma_times, size_t sigma_times_length,
@@ -267,7 +290,7 @@ uint32_t gutirapeo_sizes(uint32_t settlement, uint32_t day_count,
                          uint32_t *place, uint64_t *nodes_needed, uint64_t *probabilities_needed,
                          uint64_t *row_needed, uint64_t *node_count);
 
-/* What the bond is worth without its calls.
+/* What the bond is worth without its calls and puts.
  * 25: settlement's factor comes out as 0. 26: exp or ln outside its range. 27: a result that isn't finite. */
 uint32_t gutirapeo_straight_value(uint32_t settlement, uint32_t day_count,
                                   const uint32_t *cashflow_days, size_t cashflow_days_length,

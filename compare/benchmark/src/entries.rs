@@ -65,7 +65,7 @@ fn measured() {
     }
     line(
         "grid, 512 steps, 64 windows, 256 flows",
-        timed(50, || { let _ = black_box(host::grid(0, 0, &leg, 100.0, &calls, (366, 512))); }),
+        timed(50, || { let _ = black_box(host::grid(0, 0, &leg, 100.0, &calls, &Calls::default(), (366, 512))); }),
         timed(1, || { let _ = black_box(published::grid(0, 0, &leg, 100.0, &calls, (366, 512))); }),
     );
     let leg = flows(60, 182, 2.5);

@@ -2,6 +2,7 @@
 mod daycounts;
 mod entries;
 mod notices;
+mod puts;
 mod sheet;
 mod sizing;
 mod spreads;
@@ -100,5 +101,6 @@ fn main() {
     notices::run();
     sheet::run();
     daycounts::run();
+    puts::run();
     entries::run();
 }

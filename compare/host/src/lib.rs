@@ -54,10 +54,23 @@ wrapped! {
 /// A slot filled with a pattern, so that a call that doesn't write it shows.
 const PATTERN: f64 = f64::from_bits(0x7ff8_dead_beef_0001);
 
+/// The prices of the steps that are marked; those that aren't must have none.
+fn marked(marks: &[u8; 513], prices: &[f64; 513]) -> Vec<Option<f64>> {
+    let of = |(&mark, &price): (&u8, &f64)| match mark {
+        0 => {
+            assert_eq!(price.to_bits(), 0, "an unmarked step has a price");
+            None
+        }
+        _ => Some(price),
+    };
+    marks.iter().zip(prices).map(of).collect()
+}
+
 /// The grid entry.
-pub fn grid(settlement: u32, code: u32, leg: &Leg, units: f64, calls: &Calls, settings: (u32, u32)) -> Outcome<Grid> {
+pub fn grid(settlement: u32, code: u32, leg: &Leg, units: f64, calls: &Calls, puts: &Calls, settings: (u32, u32)) -> Outcome<Grid> {
     let (mut place, mut maturity_time, mut steps) = (0xdead_beef, PATTERN, 0xdead_beef);
-    let (mut cashflows, mut marks, mut prices) = ([PATTERN; 513], [9u8; 513], [PATTERN; 513]);
+    let mut cashflows = [PATTERN; 513];
+    let (mut marks, mut prices, mut put_marks, mut put_prices) = ([9u8; 513], [PATTERN; 513], [9u8; 513], [PATTERN; 513]);
     let number = unsafe {
         c::gutirapeo_grid(
             settlement,
@@ -75,6 +88,12 @@ pub fn grid(settlement: u32, code: u32, leg: &Leg, units: f64, calls: &Calls, se
             calls.ends.len(),
             calls.strikes.as_ptr(),
             calls.strikes.len(),
+            puts.starts.as_ptr(),
+            puts.starts.len(),
+            puts.ends.as_ptr(),
+            puts.ends.len(),
+            puts.strikes.as_ptr(),
+            puts.strikes.len(),
             settings.0,
             settings.1,
             &mut place,
@@ -83,22 +102,18 @@ pub fn grid(settlement: u32, code: u32, leg: &Leg, units: f64, calls: &Calls, se
             &mut cashflows,
             &mut marks,
             &mut prices,
+            &mut put_marks,
+            &mut put_prices,
         )
     };
     if number != 0 {
         assert!(maturity_time.to_bits() == 0 && steps == 0, "a refused grid is not zero");
-        assert!(cashflows.iter().chain(&prices).all(|x| x.to_bits() == 0) && marks.iter().all(|&m| m == 0), "a refused grid is not zero");
+        let mut numbers = cashflows.iter().chain(&prices).chain(&put_prices);
+        assert!(numbers.all(|x| x.to_bits() == 0) && marks.iter().chain(&put_marks).all(|&m| m == 0), "a refused grid is not zero");
         return Err(Refusal { number, place });
     }
     assert_eq!(place, 0, "an accepted call wrote a place");
-    let calls = marks.iter().zip(&prices).map(|(&mark, &price)| match mark {
-        0 => {
-            assert_eq!(price.to_bits(), 0, "an unmarked step has a price");
-            None
-        }
-        _ => Some(price),
-    });
-    Ok(Grid { maturity_time, steps, cashflows: cashflows.to_vec(), calls: calls.collect() })
+    Ok(Grid { maturity_time, steps, cashflows: cashflows.to_vec(), calls: marked(&marks, &prices), puts: marked(&put_marks, &put_prices) })
 }
 
 /// The straight value entry.

@@ -103,8 +103,9 @@ pub fn grid(settlement: u32, code: u32, leg: &Flows, units: f64, calls: &Calls, 
     Some((g.maturity_time, g.steps, g.cashflows.iter().map(|c| c.0).collect(), g.calls.iter().map(|c| c.call_price).collect()))
 }
 
-/// The tree value; nothing where the text refuses.
+/// The tree value of a bond without puts, which the text doesn't know; nothing where the text refuses.
 pub fn tree(terms: &reading::treebasedbondpricer::Terms) -> Option<f64> {
+    assert!(terms.puts.starts.is_empty(), "the text has no puts");
     let g = events(terms.settlement, terms.code, &terms.leg, terms.units, &terms.calls, terms.settings).ok()?;
     let sigma = sigmas(&terms.sigma);
     let factor = |t: f64| Ok(Tested(or_unwind(curve(terms.settlement, terms.code, &terms.pillars, t, 0))));

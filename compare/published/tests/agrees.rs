@@ -1,9 +1,10 @@
-//! The second reading and the published text on random terms under every code, without the library.
+//! The second reading and the published text on random terms without puts under every code, without the library.
 use published::AVAILABLE;
 use random::Random;
 use reading::bondanalytics::{self, Rate};
 use reading::bondevents;
 use reading::bondpricer;
+use reading::terms::Calls;
 use reading::treebasedbondpricer::{tree_value, Room, Terms};
 use std::panic::{catch_unwind, set_hook, AssertUnwindSafe};
 
@@ -27,7 +28,7 @@ fn bits(x: f64) -> u64 {
 }
 
 fn grids(t: &Terms) {
-    let Ok(grid) = bondevents::grid(t.settlement, t.code, &t.leg, t.units, &t.calls, t.settings) else { return };
+    let Ok(grid) = bondevents::grid(t.settlement, t.code, &t.leg, t.units, &t.calls, &t.puts, t.settings) else { return };
     let (time, steps, cashflows, calls) = text(|| published::grid(t.settlement, t.code, &t.leg, t.units, &t.calls, t.settings)).expect("accepted");
     assert_eq!((bits(time), steps), (bits(grid.maturity_time), grid.steps as usize), "{t:?}");
     for step in 0..=steps {
@@ -68,7 +69,7 @@ fn on_random_terms() {
     }));
     let mut random = Random(5);
     for case in 0..4_000 {
-        let t = Terms { code: case % 3, ..terms::terms(&mut random) };
+        let t = Terms { code: case % 3, puts: Calls::default(), ..terms::terms(&mut random) };
         grids(&t);
         values(&t);
         let rate = Rate { compounding: random.below(5) as u32, frequency: terms::pick(&mut random, &[1, 2, 4, 12, 365]) };

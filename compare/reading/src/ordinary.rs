@@ -23,6 +23,7 @@ pub fn bond(steps: u32) -> Terms {
         leg,
         units: 100.0,
         calls: Calls { starts: years.clone(), ends: years, strikes: vec![100.0; 8] },
+        puts: Calls::default(),
         settings: (366, steps),
         alpha: 0.05,
         sigma: Sigma { times: vec![0.0], sigmas: vec![0.01] },

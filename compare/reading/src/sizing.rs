@@ -76,9 +76,10 @@ fn flat(steps: u32, slice: usize) -> Outcome<Vec<usize>> {
     }
 }
 
-/// The grid's T and steps, which no call changes; then variances and layers.
+/// The grid's T and steps, which no call or put changes; then variances and layers.
 fn widths(terms: &Terms, slice: usize) -> Outcome<Vec<usize>> {
-    let grid = bond_event_grid(terms.settlement, terms.code, &terms.leg, terms.units, &Calls::default(), terms.settings)?;
+    let none = Calls::default();
+    let grid = bond_event_grid(terms.settlement, terms.code, &terms.leg, terms.units, &none, &none, terms.settings)?;
     let time_step = tested(grid.maturity_time / f64::from(grid.steps), 0)?;
     let variances = transition_variances(terms.alpha, &terms.sigma, grid.steps, time_step)?;
     if variances.iter().all(|&v| v <= f64::EPSILON) {

@@ -1,4 +1,4 @@
-//! What a call brings, the input checks 1 to 9, 33 to 35 and 44, and the curve.
+//! What a call brings, the input checks 1 to 9, 33 to 35, 37 and 44, and the curve.
 use alloc::vec::Vec;
 use crate::daycount::{year_fraction, LAST_CODE};
 use crate::elementary::{exp_at, ln_at, tested};
@@ -11,6 +11,7 @@ pub struct Leg {
     pub amounts: Vec<f64>,
 }
 
+/// Call entries or put entries.
 #[derive(Clone, Debug, Default)]
 pub struct Calls {
     pub starts: Vec<u32>,
@@ -38,6 +39,7 @@ pub struct Input<'a> {
     pub leg: Option<&'a Leg>,
     pub units: Option<f64>,
     pub calls: Option<&'a Calls>,
+    pub puts: Option<&'a Calls>,
     pub settings: Option<(u32, u32)>,
     pub alpha: Option<f64>,
     pub sigma: Option<&'a Sigma>,
@@ -80,7 +82,7 @@ pub fn frequency_known(code: u32) -> bool {
 }
 
 impl Input<'_> {
-    /// Number by number over all that is taken; inside a number single fields, cashflows, calls,
+    /// Number by number over all that is taken; inside a number single fields, cashflows, calls, puts,
     /// sigma, pillars; then the lowest index.
     pub fn checked(&self) -> Outcome<()> {
         if let Some((per_year, maximum)) = self.settings {
@@ -88,9 +90,10 @@ impl Input<'_> {
         }
         when(33, self.code > LAST_CODE)?;
         self.counts()?;
+        when(37, self.puts.is_some_and(|p| p.starts.len() > 64))?;
         self.days()?;
         self.numbers()?;
-        if let Some(c) = self.calls {
+        for c in self.sides() {
             indexed(5, c.starts.len(), |i| c.ends[i] < c.starts[i])?;
         }
         if let Some(s) = self.sigma {
@@ -115,6 +118,11 @@ impl Input<'_> {
             indexed(44, p.factors.len(), |i| !(p.factors[i] > 0.0))?;
         }
         Ok(())
+    }
+
+    /// The calls, then the puts.
+    fn sides(&self) -> impl Iterator<Item = &Calls> {
+        [self.calls, self.puts].into_iter().flatten()
     }
 
     fn time(&self, day: u32) -> f64 {
@@ -143,6 +151,11 @@ impl Input<'_> {
             let n = c.starts.len();
             when(2, n > 64 || c.ends.len() != n || c.strikes.len() != n)?;
         }
+        // More than 64 puts are not 2 but 37.
+        if let Some(p) = self.puts {
+            let n = p.starts.len();
+            when(2, p.ends.len() != n || p.strikes.len() != n)?;
+        }
         if let Some(s) = self.sigma {
             let n = s.times.len();
             when(2, !(1..=64).contains(&n) || s.sigmas.len() != n)?;
@@ -161,7 +174,7 @@ impl Input<'_> {
                 l.days[i] > LAST_DAY || i > 0 && l.days[i] < l.days[i - 1] || l.kinds[i] > 1
             })?;
         }
-        if let Some(c) = self.calls {
+        for c in self.sides() {
             indexed(3, c.starts.len(), |i| c.starts[i] > LAST_DAY || c.ends[i] > LAST_DAY)?;
         }
         if let Some(p) = self.pillars {
@@ -182,7 +195,7 @@ impl Input<'_> {
         if let Some(l) = self.leg {
             indexed(4, l.amounts.len(), |i| !inside(l.amounts[i], 1e12))?;
         }
-        if let Some(c) = self.calls {
+        for c in self.sides() {
             indexed(4, c.strikes.len(), |i| !(c.strikes[i] > 0.0 && inside(c.strikes[i], 1e6)))?;
         }
         if let Some(s) = self.sigma {

@@ -23,6 +23,7 @@ pub struct Terms {
     pub leg: Leg,
     pub units: f64,
     pub calls: Calls,
+    pub puts: Calls,
     pub settings: (u32, u32),
     pub alpha: f64,
     pub sigma: Sigma,
@@ -187,6 +188,9 @@ fn walked(grid: &Grid, tree: &Tree, shifts: &[f64], time_step: f64, spread: f64)
             if let Some(price) = grid.calls[step] {
                 value = min_at(value, price, k)?;
             }
+            if let Some(price) = grid.puts[step] {
+                value = max_at(value, price, k)?;
+            }
             row.insert(node, t(value + grid.cashflows[step])?);
         }
         values = row;
@@ -201,6 +205,7 @@ pub(crate) fn input(terms: &Terms) -> Input<'_> {
         leg: Some(&terms.leg),
         units: Some(terms.units),
         calls: Some(&terms.calls),
+        puts: Some(&terms.puts),
         settings: Some(terms.settings),
         alpha: Some(terms.alpha),
         sigma: Some(&terms.sigma),
@@ -230,7 +235,7 @@ fn tree_of(terms: &Terms, room: Room, grid: &Grid, time_step: f64) -> Outcome<Tr
 /// The least room for the tree of these terms, where it can be grown within a given one.
 pub fn least_room(terms: &Terms, within: Room) -> Option<Room> {
     input(terms).checked().ok()?;
-    let grid = bond_event_grid(terms.settlement, terms.code, &terms.leg, terms.units, &terms.calls, terms.settings).ok()?;
+    let grid = bond_event_grid(terms.settlement, terms.code, &terms.leg, terms.units, &terms.calls, &terms.puts, terms.settings).ok()?;
     let time_step = tested(grid.maturity_time / f64::from(grid.steps), 0).ok()?;
     let tree = tree_of(terms, within, &grid, time_step).ok()?;
     let all = tree.nodes as usize;
@@ -239,7 +244,7 @@ pub fn least_room(terms: &Terms, within: Room) -> Option<Room> {
 }
 
 fn valued(terms: &Terms, room: Room) -> Outcome<(f64, u64)> {
-    let grid = bond_event_grid(terms.settlement, terms.code, &terms.leg, terms.units, &terms.calls, terms.settings)?;
+    let grid = bond_event_grid(terms.settlement, terms.code, &terms.leg, terms.units, &terms.calls, &terms.puts, terms.settings)?;
     let time_step = tested(grid.maturity_time / f64::from(grid.steps), 0)?;
     let tree = tree_of(terms, room, &grid, time_step)?;
     let shifts = fitted(terms, &tree, time_step)?;

@@ -20,6 +20,7 @@ fn bond(settlement: u32, maturity: u32) -> Terms {
         leg: Leg { days: vec![maturity], kinds: vec![1], amounts: vec![100.0] },
         units: 100.0,
         calls: Calls::default(),
+        puts: Calls::default(),
         settings: (366, 2),
         alpha: 0.0,
         sigma: Sigma { times: vec![0.0], sigmas: vec![0.0] },
@@ -33,7 +34,7 @@ fn call(start: u32, end: u32) -> Calls {
 }
 
 fn grid(t: &Terms) -> Outcome<Grid> {
-    bondevents::grid(t.settlement, t.code, &t.leg, t.units, &t.calls, t.settings)
+    bondevents::grid(t.settlement, t.code, &t.leg, t.units, &t.calls, &t.puts, t.settings)
 }
 
 /// The steps with a call price, and the prices.

@@ -1,7 +1,7 @@
 //! The elementary functions: every result against the reading of 01; sqrt, mul_add, round and ceil
 //! against the hardware's too, with 01's signs of zero.
 use crate::random::Random;
-use crate::tally::Tally;
+use crate::tally::{Found, Tally};
 use reading::{elementary as reading01, Answer};
 
 fn compare(tally: &mut Tally, name: &str, arguments: &[f64], ours: Answer, theirs: Answer, whose: &str) {
@@ -38,7 +38,7 @@ fn hardware(name: &str, x: f64) -> Option<f64> {
     }
 }
 
-fn one(name: &'static str, ours: One, theirs: One, cases: u64, seed: u64) -> u64 {
+fn one(name: &'static str, ours: One, theirs: One, cases: u64, seed: u64) -> Found {
     let mut random = Random(seed);
     let mut tally = Tally::new(name);
     for _ in 0..cases {
@@ -86,7 +86,7 @@ fn argument(random: &mut Random, name: &str) -> f64 {
     }
 }
 
-fn two(name: &'static str, ours: Two, theirs: Two, cases: u64, seed: u64) -> u64 {
+fn two(name: &'static str, ours: Two, theirs: Two, cases: u64, seed: u64) -> Found {
     let mut random = Random(seed);
     let mut tally = Tally::new(name);
     for _ in 0..cases {
@@ -103,7 +103,7 @@ fn two(name: &'static str, ours: Two, theirs: Two, cases: u64, seed: u64) -> u64
     tally.done()
 }
 
-fn three(cases: u64, seed: u64) -> u64 {
+fn three(cases: u64, seed: u64) -> Found {
     let mut random = Random(seed);
     let mut tally = Tally::new("mul_add");
     for _ in 0..cases {
@@ -119,7 +119,7 @@ fn three(cases: u64, seed: u64) -> u64 {
     tally.done()
 }
 
-pub fn round(long: bool, seed: u64, wanted: &dyn Fn(&str) -> bool) -> u64 {
+pub fn round(long: bool, seed: u64, wanted: &dyn Fn(&str) -> bool) -> Found {
     let cases = if long { 10_000_000 } else { 200_000 };
     let ones: [(&str, One, One); 6] = [
         ("sqrt", host::sqrt, reading01::sqrt),
@@ -135,19 +135,19 @@ pub fn round(long: bool, seed: u64, wanted: &dyn Fn(&str) -> bool) -> u64 {
         ("powf", host::powf, reading01::powf),
         ("midpoint", host::midpoint, reading01::midpoint),
     ];
-    let mut differences = 0;
+    let mut found = Found::default();
     for (name, ours, theirs) in ones {
         if wanted(name) {
-            differences += one(name, ours, theirs, cases, seed);
+            found = found + one(name, ours, theirs, cases, seed);
         }
     }
     for (name, ours, theirs) in twos {
         if wanted(name) {
-            differences += two(name, ours, theirs, cases, seed);
+            found = found + two(name, ours, theirs, cases, seed);
         }
     }
     if wanted("mul_add") {
-        differences += three(cases, seed);
+        found = found + three(cases, seed);
     }
-    differences
+    found
 }

@@ -1,7 +1,7 @@
 //! Month ends, one after the other: settlement from the end of January to the beginning of March in leap and common years and around a
 //! new year, maturity on each of the days behind it, under every code; the grid, the tree value, the straight value and the price.
 use crate::random::Random;
-use crate::tally::Tally;
+use crate::tally::{Found, Tally};
 use crate::terms::pick;
 use crate::{grid, straight, tree, yields};
 use reading::bondanalytics::Rate;
@@ -40,6 +40,7 @@ fn terms(random: &mut Random, settlement: u32, code: u32, maturity: u32) -> Term
         leg: Leg { days, kinds: vec![pick(random, &[0, 1]), 1, 1], amounts: vec![5.0, 40.0, 60.0] },
         units: 100.0,
         calls: Calls { starts: vec![call, window], ends: vec![call, start + random.below(3) as u32], strikes: vec![99.0, 98.5] },
+        puts: Calls::default(),
         settings: (pick(random, &[12, 52, 360, 365]), 1 + random.below(6) as u32),
         alpha: 0.05,
         sigma: Sigma { times: vec![0.0], sigmas: vec![0.01] },
@@ -48,7 +49,7 @@ fn terms(random: &mut Random, settlement: u32, code: u32, maturity: u32) -> Term
     }
 }
 
-pub fn round(_: bool, seed: u64) -> u64 {
+pub fn round(_: bool, seed: u64) -> Found {
     let mut random = Random(seed);
     let [mut grids, mut trees, mut texts] = ["ends, grid", "ends, tree", "ends, text"].map(Tally::new);
     let [mut straights, mut prices] = ["ends, flat", "ends, price"].map(Tally::new);
@@ -65,6 +66,6 @@ pub fn round(_: bool, seed: u64) -> u64 {
         let rate = Rate { compounding: random.below(5) as u32, frequency: pick(&mut random, &[1, 2, 4, 12, 365]) };
         let _ = yields::price(&mut random, &mut prices, &t, rate);
     }
-    let missing = grids.missing(&[20, 35]) + trees.missing(&[8, 20, 34, 35]) + straights.missing(&[8, 34]);
-    [grids, trees, texts, straights, prices].into_iter().map(Tally::done).sum::<u64>() + missing
+    let missing = grids.missing(&[20, 35]) + trees.missing(&[8, 20, 34]) + straights.missing(&[8, 34]);
+    [grids, trees, texts, straights, prices].into_iter().map(Tally::done).sum::<Found>() + missing
 }

@@ -1,6 +1,6 @@
 //! Call notices against the second reading (list, number, place), and shuffled: the same list, and the same number of a refusal.
 use crate::random::Random;
-use crate::tally::Tally;
+use crate::tally::{Found, Tally};
 use crate::terms::pick;
 use reading::notices::{self, Notices};
 use reading::terms::{Calls, Input};
@@ -144,7 +144,7 @@ pub fn parallel(n: &Notices) -> bool {
     lengths == [n.series.len(); 5]
 }
 
-pub fn round(long: bool, seed: u64) -> u64 {
+pub fn round(long: bool, seed: u64) -> Found {
     let cases = if long { 1_000_000 } else { 10_000 };
     let mut random = Random(seed ^ 0xca11);
     let mut readings = Tally::new("notices");

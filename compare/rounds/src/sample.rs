@@ -1,9 +1,10 @@
 //! Writes the stored sample that the program `replay` runs without Rust: `rounds --sample FILE`.
 //!
-//! A record is 160 words of 64 bits, little-endian, at the places below; floats as their bits. Accepted answers are the
-//! published text's, refusals, the call lists of notices and the lines of the closing sheet the second reading's.
+//! Records are written little-endian. Accepted answers are the published text's where there are no puts; with puts, refusals, lengths of
+//! slices, the call lists of notices and the lines of the closing sheet are the second reading's.
 use crate::notices::{damage, good, parallel};
 use crate::random::Random;
+use crate::record::*;
 use crate::sheet::{bond_number, value};
 use crate::sizing::{sized_terms, SIZED};
 use crate::spreadterms::{spread_terms, target};
@@ -11,6 +12,7 @@ use crate::tally::published;
 use crate::terms;
 use crate::tree::tree_terms;
 use reading::bondanalytics::{self, Rate};
+use reading::bondevents::Grid;
 use reading::notices::{self, Notices};
 use reading::sheet;
 use reading::sizing;
@@ -18,58 +20,6 @@ use reading::treebasedbondpricer::{self, Room, Terms};
 use reading::{bondevents, bondpricer, elementary, Answer, Refusal};
 use std::collections::BTreeMap;
 use std::io::Write;
-
-const WORDS: usize = 160;
-const FLOWS: usize = 8;
-const CALLS: usize = 4;
-const STEPS: usize = 24;
-
-/// Where the count of call entries stands.
-const CALL_COUNT: usize = 29;
-
-type Record = [u64; WORDS];
-
-fn floats(record: &mut Record, at: usize, values: &[f64]) {
-    for (i, x) in values.iter().enumerate() {
-        record[at + i] = x.to_bits();
-    }
-}
-
-fn numbers(record: &mut Record, at: usize, values: impl Iterator<Item = u64>) {
-    for (i, n) in values.enumerate() {
-        record[at + i] = n;
-    }
-}
-
-/// The inputs of any entry.
-fn inputs(kind: u64, t: &Terms) -> Record {
-    let mut r = [0; WORDS];
-    (r[0], r[1], r[2]) = (kind, u64::from(t.settlement), u64::from(t.code));
-    r[3] = t.leg.days.len() as u64;
-    numbers(&mut r, 4, t.leg.days.iter().map(|&n| u64::from(n)));
-    numbers(&mut r, 12, t.leg.kinds.iter().map(|&n| u64::from(n)));
-    floats(&mut r, 20, &t.leg.amounts);
-    floats(&mut r, 28, &[t.units]);
-    r[CALL_COUNT] = t.calls.starts.len() as u64;
-    numbers(&mut r, 30, t.calls.starts.iter().map(|&n| u64::from(n)));
-    numbers(&mut r, 34, t.calls.ends.iter().map(|&n| u64::from(n)));
-    floats(&mut r, 38, &t.calls.strikes);
-    (r[42], r[43]) = (u64::from(t.settings.0), u64::from(t.settings.1));
-    floats(&mut r, 44, &[t.alpha]);
-    r[45] = t.sigma.times.len() as u64;
-    floats(&mut r, 46, &t.sigma.times);
-    floats(&mut r, 50, &t.sigma.sigmas);
-    floats(&mut r, 54, &[t.spread]);
-    r[55] = t.pillars.days.len() as u64;
-    numbers(&mut r, 56, t.pillars.days.iter().map(|&n| u64::from(n)));
-    floats(&mut r, 64, &t.pillars.factors);
-    r
-}
-
-fn refused(mut r: Record, refusal: Refusal) -> Record {
-    (r[80], r[81]) = (u64::from(refusal.number), u64::from(refusal.place));
-    r
-}
 
 /// Terms small enough for a record, with no NaN.
 fn small(random: &mut Random, terms: fn(&mut Random) -> Terms) -> Terms {
@@ -84,13 +34,16 @@ fn small(random: &mut Random, terms: fn(&mut Random) -> Terms) -> Terms {
             && t.calls.starts.len() <= CALLS
             && t.calls.ends.len() == t.calls.starts.len()
             && t.calls.strikes.len() == t.calls.starts.len()
+            && t.puts.starts.len() <= CALLS
+            && t.puts.ends.len() == t.puts.starts.len()
+            && t.puts.strikes.len() == t.puts.starts.len()
             && t.sigma.times.len() <= CALLS
             && t.sigma.sigmas.len() == t.sigma.times.len()
             && t.pillars.days.len() <= FLOWS
             && t.pillars.factors.len() == t.pillars.days.len()
             && t.settings.1 as usize <= STEPS;
         let all = [t.units, t.alpha, t.spread];
-        let lists = [&t.leg.amounts, &t.calls.strikes, &t.sigma.times, &t.sigma.sigmas, &t.pillars.factors];
+        let lists = [&t.leg.amounts, &t.calls.strikes, &t.puts.strikes, &t.sigma.times, &t.sigma.sigmas, &t.pillars.factors];
         if fits && !all.iter().chain(lists.into_iter().flatten()).any(|x| x.is_nan()) {
             return t;
         }
@@ -119,38 +72,54 @@ fn elementary_record(random: &mut Random, kind: u64) -> Record {
     };
     let mut r = [0; WORDS];
     r[0] = kind;
-    floats(&mut r, 73, &[a, b, c]);
+    floats(&mut r, ARGUMENTS, &[a, b, c]);
     match answer {
         Ok(x) => {
-            floats(&mut r, 82, &[x]);
+            floats(&mut r, VALUE, &[x]);
             r
         }
         Err(refusal) => refused(r, refusal),
     }
+}
+
+/// A mark and a price for each step.
+fn steps(record: &mut Record, at: usize, prices: &[Option<f64>]) {
+    numbers(record, at, prices.iter().map(|c| u64::from(c.is_some())));
+    floats(record, at + STEPS + 1, &prices.iter().map(|c| c.unwrap_or(0.0)).collect::<Vec<_>>());
 }
 
 fn grid_record(random: &mut Random) -> Record {
     let t = small(random, terms::terms);
     let mut r = inputs(12, &t);
-    match bondevents::grid(t.settlement, t.code, &t.leg, t.units, &t.calls, t.settings) {
+    match bondevents::grid(t.settlement, t.code, &t.leg, t.units, &t.calls, &t.puts, t.settings) {
         Err(refusal) => refused(r, refusal),
-        Ok(_) => {
-            let (maturity, steps, cashflows, calls) =
-                published(|| published::grid(t.settlement, t.code, &t.leg, t.units, &t.calls, t.settings)).expect("the published text accepts");
-            floats(&mut r, 82, &[maturity]);
-            r[84] = steps as u64;
-            floats(&mut r, 85, &cashflows);
-            numbers(&mut r, 110, calls.iter().map(|c| u64::from(c.is_some())));
-            floats(&mut r, 135, &calls.iter().map(|c| c.unwrap_or(0.0)).collect::<Vec<_>>());
+        Ok(mut grid) => {
+            if t.puts.starts.is_empty() {
+                let text = published(|| published::grid(t.settlement, t.code, &t.leg, t.units, &t.calls, t.settings));
+                let (maturity_time, steps, cashflows, calls) = text.expect("the published text accepts");
+                grid = Grid { maturity_time, steps: steps as u32, cashflows, calls, puts: Vec::new() };
+            }
+            floats(&mut r, VALUE, &[grid.maturity_time]);
+            r[COUNT] = u64::from(grid.steps);
+            let last = grid.steps as usize;
+            floats(&mut r, LISTS, &grid.cashflows[..=last]);
+            steps(&mut r, LISTS + STEPS + 1, &grid.calls[..=last]);
+            grid.puts.resize(last + 1, None);
+            steps(&mut r, LISTS + 3 * (STEPS + 1), &grid.puts);
             r
         }
     }
 }
 
-/// 60 grids: 40 accepted, 3 each of 33 and 35, 14 of other refusals.
+/// 80 grids: 30 accepted without puts and 25 with, 3 each of 33 and 35, 5 of 38, 14 of other refusals. A record can't hold as many puts
+/// as are 37.
 fn grid_records(random: &mut Random) -> Vec<Record> {
-    let left = BTreeMap::from([(0, 40), (33, 3), (35, 3), (PLAIN, 14)]);
-    sorted(random, left, grid_record, |r| if matches!(r[80], 0 | 33 | 35) { r[80] } else { PLAIN })
+    let left = BTreeMap::from([(0, 30), (PUT, 25), (33, 3), (35, 3), (38, 5), (PLAIN, 14)]);
+    sorted(random, left, grid_record, |r| match r[REFUSAL] {
+        0 if r[PUT_LIST] > 0 => PUT,
+        number @ (0 | 33 | 35 | 38) => number,
+        _ => PLAIN,
+    })
 }
 
 /// What the replayed tree is lent at the most.
@@ -167,27 +136,41 @@ fn tree_record(random: &mut Random) -> Record {
         slices.into_iter().for_each(|length| *length = random.below(*length as u64 / 4) as usize);
     }
     let mut r = inputs(13, &t);
-    numbers(&mut r, 76, [room.nodes, room.probabilities, room.first, room.second].into_iter().map(|n| n as u64));
+    numbers(&mut r, LENGTHS, [room.nodes, room.probabilities, room.first, room.second].into_iter().map(|n| n as u64));
     match treebasedbondpricer::tree_value(&t, room).0 {
         Err(refusal) => refused(r, refusal),
-        Ok((_, count)) => {
-            floats(&mut r, 82, &[published(|| published::tree(&t)).expect("the published text accepts")]);
-            r[83] = count;
+        Ok((mut value, count)) => {
+            if t.puts.starts.is_empty() {
+                value = published(|| published::tree(&t)).expect("the published text accepts");
+            }
+            floats(&mut r, VALUE, &[value]);
+            r[NODES] = count;
             r
         }
     }
 }
 
-/// The refusals of the tree value that can be met.
-const TREE: [u64; 19] = [1, 2, 3, 4, 5, 6, 7, 8, 20, 21, 22, 23, 25, 26, 27, 33, 34, 35, 44];
+/// The refusals of the tree value that can be met by what a record holds.
+const TREE: [u64; 20] = [1, 2, 3, 4, 5, 6, 7, 8, 20, 21, 22, 23, 25, 26, 27, 33, 34, 35, 38, 44];
 /// Of any other kind, beside those that are counted one by one.
 const PLAIN: u64 = 100;
+/// Accepted with a put.
+const PUT: u64 = 101;
 
-/// 218 tree values: 6 of each refusal that can be met, 20 accepted of any kind, the rest accepted with calls and some nodes.
+/// What is counted of a tree value or a spread: its refusal, or, accepted, whether there are puts, or calls and so many nodes.
+fn counted(r: &Record, nodes: u64) -> u64 {
+    match r[REFUSAL] {
+        0 if r[PUT_LIST] > 0 => PUT,
+        0 if r[CALL_LIST] == 0 || r[NODES] < nodes => PLAIN,
+        number => number,
+    }
+}
+
+/// 240 tree values: 6 of each refusal that can be met, 50 accepted with puts, 20 of any other kind, the rest with calls and some nodes.
 fn tree_records(random: &mut Random) -> Vec<Record> {
     let mut left: BTreeMap<u64, u32> = TREE.into_iter().map(|number| (number, 6)).collect();
-    left.extend([(PLAIN, 20), (0, 84)]);
-    sorted(random, left, tree_record, |r| if r[80] == 0 && (r[CALL_COUNT] == 0 || r[83] < 10) { PLAIN } else { r[80] })
+    left.extend([(PUT, 50), (PLAIN, 20), (0, 50)]);
+    sorted(random, left, tree_record, |r| counted(r, 10))
 }
 
 /// Spread from price: the target stands where the spread stood.
@@ -208,15 +191,18 @@ fn spread_record(random: &mut Random) -> Record {
     };
     t.spread = target;
     let mut r = inputs(14, &t);
-    numbers(&mut r, 76, [room.nodes, room.probabilities, room.first, room.second].into_iter().map(|n| n as u64));
+    numbers(&mut r, LENGTHS, [room.nodes, room.probabilities, room.first, room.second].into_iter().map(|n| n as u64));
     let solved = bondanalytics::spread_from_price(&t, target, room, &mut |_, _| ());
-    r[84] = u64::from(solved.search.tried);
+    r[COUNT] = u64::from(solved.search.tried);
     match solved.spread {
         Err(refusal) => refused(r, refusal),
-        Ok(_) => {
-            let (spread, tried) = published(|| published::spread_of(&t, target)).expect("the published text accepts");
-            floats(&mut r, 82, &[spread]);
-            r[84] = u64::from(tried);
+        Ok(mut spread) => {
+            if t.puts.starts.is_empty() {
+                let (found, tried) = published(|| published::spread_of(&t, target)).expect("the published text accepts");
+                spread = found;
+                r[COUNT] = u64::from(tried);
+            }
+            floats(&mut r, VALUE, &[spread]);
             r
         }
     }
@@ -235,11 +221,11 @@ fn sorted(random: &mut Random, mut left: BTreeMap<u64, u32>, record: fn(&mut Ran
     records
 }
 
-/// 109 spreads from prices: 3 of each refusal of the tree value, 6 each of 29 and 36, 10 accepted of any kind, 30 accepted with calls.
+/// 122 spreads from prices: 3 of each refusal of the tree value, 6 each of 29 and 36, 20 accepted with puts, 10 of any other kind, 20 with calls.
 fn spread_records(random: &mut Random) -> Vec<Record> {
     let mut left: BTreeMap<u64, u32> = TREE.into_iter().map(|number| (number, 3)).collect();
-    left.extend([(29, 6), (36, 6), (PLAIN, 10), (0, 30)]);
-    sorted(random, left, spread_record, |r| if r[80] == 0 && r[CALL_COUNT] == 0 { PLAIN } else { r[80] })
+    left.extend([(29, 6), (36, 6), (PUT, 20), (PLAIN, 10), (0, 20)]);
+    sorted(random, left, spread_record, |r| counted(r, 0))
 }
 
 fn sizes_record(random: &mut Random) -> Record {
@@ -249,21 +235,25 @@ fn sizes_record(random: &mut Random) -> Record {
     }
     let places = if random.below(4) == 0 { random.below(60) as usize } else { LENT.nodes };
     let mut r = inputs(20, &t);
-    r[76] = places as u64;
+    r[LENGTHS] = places as u64;
     match sizing::sizes(&t, places).0 {
         Err(refusal) => refused(r, refusal),
         Ok(s) => {
-            numbers(&mut r, 84, [s.nodes, s.probabilities, s.row, s.count].into_iter());
+            numbers(&mut r, COUNT, [s.nodes, s.probabilities, s.row, s.count].into_iter());
             r
         }
     }
 }
 
-/// 112 sizings: 4 of each refusal that can be met, the rest accepted with some nodes.
+/// 112 sizings: 4 of each refusal that a record can hold, the rest accepted with some nodes, half of them with puts.
 fn sizes_records(random: &mut Random) -> Vec<Record> {
-    let mut left: BTreeMap<u64, u32> = SIZED.into_iter().map(|number| (u64::from(number), 4)).collect();
-    left.insert(0, 44);
-    sorted(random, left, sizes_record, |r| if r[80] == 0 && r[87] < 10 { PLAIN } else { r[80] })
+    let mut left: BTreeMap<u64, u32> = SIZED.into_iter().filter(|&number| number != 37).map(|number| (u64::from(number), 4)).collect();
+    left.extend([(0, 22), (PUT, 22)]);
+    sorted(random, left, sizes_record, |r| match r[REFUSAL] {
+        0 if r[COUNT + 3] < 10 => PLAIN,
+        0 if r[PUT_LIST] > 0 => PUT,
+        number => number,
+    })
 }
 
 fn straight_record(random: &mut Random) -> Record {
@@ -273,7 +263,7 @@ fn straight_record(random: &mut Random) -> Record {
         Err(refusal) => refused(r, refusal),
         Ok(_) => {
             let value = published(|| published::straight(t.settlement, t.code, &t.leg, t.spread, &t.pillars)).expect("the published text accepts");
-            floats(&mut r, 82, &[value]);
+            floats(&mut r, VALUE, &[value]);
             r
         }
     }
@@ -283,29 +273,29 @@ fn yield_record(random: &mut Random, kind: u64) -> Record {
     let t = small(random, terms::terms);
     let rate = Rate { compounding: random.below(6) as u32, frequency: [1, 2, 4, 12, 365, 7][random.below(6) as usize] };
     let mut r = inputs(kind, &t);
-    (r[72], r[73]) = (u64::from(rate.compounding), u64::from(rate.frequency));
+    (r[RATE], r[RATE + 1]) = (u64::from(rate.compounding), u64::from(rate.frequency));
     if kind == 16 {
         let y = random.between(-0.3, 0.5);
-        floats(&mut r, 74, &[y]);
+        floats(&mut r, RATE + 2, &[y]);
         return match bondanalytics::price_from_yield(t.settlement, t.code, &t.leg, rate, y) {
             Err(refusal) => refused(r, refusal),
             Ok(_) => {
                 let (price, derivative) =
                     published(|| published::price(t.settlement, t.code, &t.leg, rate.compounding, rate.frequency, y)).expect("the published text accepts");
-                floats(&mut r, 82, &[price, derivative]);
+                floats(&mut r, VALUE, &[price, derivative]);
                 r
             }
         };
     }
     let target = random.between(-20.0, 200.0);
-    floats(&mut r, 74, &[target]);
+    floats(&mut r, RATE + 2, &[target]);
     let (answer, evaluations) = bondanalytics::yield_from_price(t.settlement, t.code, &t.leg, rate, target);
-    r[84] = u64::from(evaluations);
+    r[COUNT] = u64::from(evaluations);
     match answer {
         Err(refusal) => refused(r, refusal),
         Ok(_) => {
             let y = published(|| published::yield_of(t.settlement, t.code, &t.leg, rate.compounding, rate.frequency, target)).expect("the published text accepts");
-            floats(&mut r, 82, &[y]);
+            floats(&mut r, VALUE, &[y]);
             r
         }
     }
@@ -336,10 +326,10 @@ fn notice_record(random: &mut Random) -> Record {
     match notices::call_list(&n) {
         Err(refusal) => refused(r, refusal),
         Ok(calls) => {
-            r[84] = calls.starts.len() as u64;
-            numbers(&mut r, 85, calls.starts.iter().map(|&n| u64::from(n)));
-            numbers(&mut r, 93, calls.ends.iter().map(|&n| u64::from(n)));
-            floats(&mut r, 101, &calls.strikes);
+            r[COUNT] = calls.starts.len() as u64;
+            numbers(&mut r, LISTS, calls.starts.iter().map(|&n| u64::from(n)));
+            numbers(&mut r, LISTS + FLOWS, calls.ends.iter().map(|&n| u64::from(n)));
+            floats(&mut r, LISTS + 2 * FLOWS, &calls.strikes);
             r
         }
     }
@@ -349,7 +339,7 @@ fn notice_record(random: &mut Random) -> Record {
 fn notice_records(random: &mut Random) -> Vec<Record> {
     let mut left: BTreeMap<u64, u32> = [3, 4, 5, 42, 43].into_iter().map(|number| (number, 10)).collect();
     left.extend([(PLAIN, 5), (0, 45)]);
-    sorted(random, left, notice_record, |r| if r[80] == 0 && r[84] == 0 { PLAIN } else { r[80] })
+    sorted(random, left, notice_record, |r| if r[REFUSAL] == 0 && r[COUNT] == 0 { PLAIN } else { r[REFUSAL] })
 }
 
 /// A line of the closing sheet: a bond number, and a value with its count or a refusal with its place.
@@ -373,9 +363,9 @@ fn sheet_record(random: &mut Random) -> Record {
         Ok((x, count))
     };
     let (number, place, line) = sheet::line(bond, &answer);
-    (r[80], r[81]) = (u64::from(number), u64::from(place));
+    (r[REFUSAL], r[REFUSAL + 1]) = (u64::from(number), u64::from(place));
     for (i, &byte) in line.iter().enumerate() {
-        r[82 + i / 8] |= u64::from(byte) << (8 * (i % 8));
+        r[VALUE + i / 8] |= u64::from(byte) << (8 * (i % 8));
     }
     r
 }

@@ -1,7 +1,9 @@
 //! Lines of the closing sheet against the second reading (number, place, 35 bytes, lent slices): of bonds worth a given double,
-//! which Rust prints too, and of random terms, each beside a list made from its own.
+//! which Rust prints too, and of random terms, each beside a call or put list made from its own.
+use crate::calllists::{made_from, Side};
+use crate::faults;
 use crate::random::Random;
-use crate::tally::Tally;
+use crate::tally::{Found, Tally};
 use crate::terms::{self, pick};
 use crate::tree::{self, tree_terms};
 use host::Lent;
@@ -10,7 +12,7 @@ use reading::terms::{Calls, Leg, Pillars, Sigma};
 use reading::treebasedbondpricer::{tree_value, Room, Terms};
 
 /// What a run must meet, 0 for a value.
-const MET: [u32; 19] = [0, 1, 2, 3, 4, 5, 6, 7, 8, 20, 21, 22, 23, 25, 26, 27, 31, 32, 44];
+const MET: [u32; 24] = [0, 1, 2, 3, 4, 5, 6, 7, 8, 20, 21, 22, 23, 25, 26, 27, 31, 32, 33, 34, 35, 37, 38, 44];
 const SMALL: Room = Room { nodes: 4, probabilities: 6, first: 1, second: 1 };
 
 pub fn bond_number(random: &mut Random) -> u32 {
@@ -56,6 +58,7 @@ fn repaying(amounts: &[f64]) -> Terms {
         leg: Leg { days: vec![365; amounts.len()], kinds: vec![1; amounts.len()], amounts: amounts.to_vec() },
         units: 100.0,
         calls: Calls::default(),
+        puts: Calls::default(),
         settings: (1, 512),
         alpha: 0.0,
         sigma: Sigma { times: vec![0.0], sigmas: vec![0.0] },
@@ -92,31 +95,14 @@ fn cents(line: &Line) -> i128 {
     value.replace('.', "").parse().unwrap()
 }
 
-/// Whether a line of a list made from another's is as the call-list rule has it.
-fn no_lower(first: &Line, second: &Line, above: bool) -> bool {
+/// Whether a line of a list made from another's is as the rule of its side has it.
+fn in_order(side: Side, first: &Line, second: &Line, outside: bool) -> bool {
     match second.0 {
-        0 => cents(second) >= cents(first),
-        4 => above,
-        27 | 32 => !above,
+        0 => side.in_order(cents(first) as f64, cents(second) as f64),
+        4 => outside,
+        27 | 32 => !outside,
         _ => false,
     }
-}
-
-/// A list with an entry less, with strikes raised, or both.
-fn thinned(random: &mut Random, calls: &Calls) -> Calls {
-    let mut made = calls.clone();
-    let mut i = 0;
-    while i < made.starts.len() {
-        if random.below(3) == 0 {
-            made.starts.remove(i);
-            made.ends.remove(i);
-            made.strikes.remove(i);
-        } else {
-            made.strikes[i] *= pick(random, &[1.0, 1.0 + 1e-9, 1.01, 1e3, 1e5]);
-            i += 1;
-        }
-    }
-    made
 }
 
 /// What Rust prints with two decimals; its zero has a sign.
@@ -128,15 +114,11 @@ fn rusts(x: f64) -> String {
     text
 }
 
-pub fn round(long: bool, seed: u64) -> u64 {
-    let cases = if long { 1_000_000 } else { 20_000 };
-    let mut random = Random(seed ^ 0x5bee7);
+fn of_values(cases: u32, random: &mut Random) -> Found {
     let mut doubles = Tally::new("sheet, value");
-    let mut lines = Tally::new("sheet");
-    let mut rule = Tally::new("sheet, calls");
     for _ in 0..cases {
-        let x = value(&mut random);
-        let bond = bond_number(&mut random);
+        let x = value(random);
+        let bond = bond_number(random);
         let ours = compare(&mut doubles, bond, &worth(x), SMALL);
         if ours.0 == 0 {
             let shown = String::from_utf8_lossy(&ours.2[6..22]).trim().to_owned();
@@ -144,24 +126,43 @@ pub fn round(long: bool, seed: u64) -> u64 {
             doubles.case(0, same, || format!("{x:e} prints {shown}, in Rust {}", rusts(x)));
         }
     }
-    for _ in 0..cases / 4 {
-        let mut t = tree_terms(&mut random);
+    doubles.done()
+}
+
+fn of_terms(cases: u32, random: &mut Random) -> Found {
+    let mut lines = Tally::new("sheet");
+    let [mut calls, mut puts] = ["sheet, calls", "sheet, puts"].map(Tally::new);
+    for _ in 0..cases {
+        let mut t = tree_terms(random);
+        if random.below(20) == 0 {
+            faults::several(random, &mut t);
+        }
         if random.below(4) == 0 {
-            terms::damage(&mut random, &mut t);
+            terms::damage(random, &mut t);
         }
         if random.below(16) == 0 {
             t.leg.amounts.iter_mut().for_each(|amount| *amount *= 1e10);
         }
-        let room = tree::room(&mut random, &t, tree::AMPLE);
-        let bond = bond_number(&mut random);
+        let room = tree::room(random, &t, tree::AMPLE);
+        let bond = bond_number(random);
         let first = compare(&mut lines, bond, &t, room);
-        if first.0 == 0 {
-            t.calls = thinned(&mut random, &t.calls);
-            let above = t.calls.strikes.iter().any(|&strike| strike > 1e6);
-            let second = compare(&mut lines, bond, &t, room);
-            rule.case(second.0, no_lower(&first, &second, above), || format!("{t:?} prints {second:?} behind {first:?}"));
+        if first.0 != 0 {
+            continue;
+        }
+        for (side, rule) in [(Side::Call, &mut calls), (Side::Put, &mut puts)] {
+            let (list, _) = made_from(random, side, side.list(&t));
+            let outside = side.outside(&list).is_some();
+            let made = side.with(&t, list);
+            let second = compare(&mut lines, bond, &made, room);
+            rule.case(second.0, in_order(side, &first, &second, outside), || format!("{made:?} prints {second:?} behind {first:?}"));
         }
     }
     let missing = lines.missing(&MET);
-    doubles.done() + lines.done() + rule.done() + missing
+    lines.done() + calls.done() + puts.done() + missing
+}
+
+pub fn round(long: bool, seed: u64) -> Found {
+    let mut random = Random(seed ^ 0x5bee7);
+    let values = of_values(if long { 1_000_000 } else { 20_000 }, &mut random);
+    values + of_terms(if long { 1_000_000 } else { 5_000 }, &mut random)
 }

@@ -1,9 +1,10 @@
 //! Sizing against the second reading (number, place, lengths, node count, the lent slice), and against the entries that it sizes for:
 //! the tree value in slices of just these lengths and in each four with one shorter by a place, spread from price in the same,
-//! and sizing again with a call list made from an accepted one.
-use crate::calllists::made_from;
+//! and sizing again with a call or put list made from an accepted one.
+use crate::calllists::{made_from, Side};
+use crate::faults;
 use crate::random::Random;
-use crate::tally::Tally;
+use crate::tally::{Found, Tally};
 use crate::terms::{self, pick};
 use crate::tree::{tree_terms, AMPLE};
 use host::Lent;
@@ -12,8 +13,8 @@ use reading::terms::{Calls, Leg, Pillars, Sigma};
 use reading::treebasedbondpricer::{least_room, Room, Terms};
 use reading::{Outcome, Refusal};
 
-/// The refusals that can be met; a run must meet each.
-pub const SIZED: [u32; 17] = [1, 2, 3, 4, 5, 6, 7, 8, 21, 22, 23, 26, 27, 33, 34, 35, 44];
+/// The refusals that can be met; a run must meet each. 38 isn't there: no price is made.
+pub const SIZED: [u32; 18] = [1, 2, 3, 4, 5, 6, 7, 8, 21, 22, 23, 26, 27, 33, 34, 35, 37, 44];
 
 /// One step of so many years, with an alpha far below 0: exp is near its limit, and variances are near the greatest doubles.
 fn steep(random: &mut Random) -> Terms {
@@ -21,7 +22,7 @@ fn steep(random: &mut Random) -> Terms {
     let years = random.between(33.0, 72.0);
     let last = t.settlement + (365.0 * years) as u32;
     t.leg = Leg { days: vec![last], kinds: vec![1], amounts: vec![100.0] };
-    t.calls = Calls::default();
+    (t.calls, t.puts) = (Calls::default(), Calls::default());
     (t.alpha, t.settings) = (-10.0, (1, 1));
     let times = vec![0.0, years * random.between(0.3, 0.7)];
     t.sigma = Sigma { times, sigmas: vec![random.between(0.1, 10.0), random.between(0.1, 10.0)] };
@@ -132,19 +133,20 @@ fn solved(spreads: &mut Tally, random: &mut Random, t: &Terms, sizes: Sizes) {
     spreads.case(number(&answer), right, || format!("{t:?} at {target}, sized {sizes:?}, in {short:?} gives {answer:?}"));
 }
 
-/// A list made from an accepted one: 4 exactly where a strike is above 1,000,000, else the same answer.
+/// A list made from an accepted one: 4 exactly where a strike is outside its range, else the same answer.
 fn thinned(lists: &mut Tally, random: &mut Random, t: &Terms, places: usize, first: &Outcome<Sizes>) {
-    let (second, _) = made_from(random, t);
-    let above = second.calls.strikes.iter().position(|&strike| strike > 1e6);
+    let side = pick(random, &[Side::Call, Side::Put]);
+    let (list, _) = made_from(random, side, side.list(t));
+    let second = side.with(t, list.clone());
     let again = host::sizes(&second, &mut slice_of(places));
-    let right = match above {
+    let right = match side.outside(&list) {
         Some(i) => again == Err(Refusal { number: 4, place: i as u32 }),
         None => again == *first,
     };
-    lists.case(number(&again), right, || format!("{t:?} gives {first:?}, {:?} {again:?}", second.calls));
+    lists.case(number(&again), right, || format!("{t:?} gives {first:?}, {list:?} {again:?}"));
 }
 
-pub fn round(long: bool, seed: u64) -> u64 {
+pub fn round(long: bool, seed: u64) -> Found {
     let cases = if long { 1_000_000 } else { 10_000 };
     let mut random = Random(seed ^ 0x512e);
     let mut readings = Tally::new("sizing");
@@ -153,6 +155,9 @@ pub fn round(long: bool, seed: u64) -> u64 {
     let mut lists = Tally::new("sized lists");
     for case in 0..cases {
         let mut t = sized_terms(&mut random);
+        if random.below(20) == 0 {
+            faults::several(&mut random, &mut t);
+        }
         if pick(&mut random, &[false, false, true]) {
             terms::damage(&mut random, &mut t);
         }

@@ -13,7 +13,7 @@ fn cliff(random: &mut Random, t: &mut Terms) {
     let low = if random.below(2) == 0 { -20.0 } else { 7.0 };
     let size = 10f64.powf(random.between(low, 11.9));
     t.leg = Leg { days: vec![middle, last], kinds: vec![0, 1], amounts: vec![size * random.between(-0.1, 0.1), size] };
-    t.calls = Calls::default();
+    (t.calls, t.puts) = (Calls::default(), Calls::default());
     t.settings = (366, 2);
     t.sigma = Sigma { times: vec![0.0], sigmas: vec![[0.0, 0.001][random.below(2) as usize]] };
     t.pillars.days = vec![t.settlement, middle, last];

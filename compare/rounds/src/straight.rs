@@ -1,6 +1,7 @@
 //! The straight value against the second reading and, where accepted, the published text.
+use crate::faults;
 use crate::random::Random;
-use crate::tally::{published, same_number, Tally};
+use crate::tally::{published, same_number, Found, Tally};
 use crate::terms;
 use reading::bondpricer;
 use reading::treebasedbondpricer::Terms;
@@ -23,12 +24,15 @@ pub fn compare(tally: &mut Tally, t: &Terms) {
     }
 }
 
-pub fn round(long: bool, seed: u64) -> u64 {
+pub fn round(long: bool, seed: u64) -> Found {
     let cases = if long { 1_000_000 } else { 10_000 };
     let mut random = Random(seed);
     let mut tally = Tally::new("straight");
     for _ in 0..cases {
         let mut t = terms::terms(&mut random);
+        if random.below(20) == 0 {
+            faults::several(&mut random, &mut t);
+        }
         if random.below(4) == 0 {
             terms::damage(&mut random, &mut t);
         }

@@ -1,6 +1,28 @@
 //! Counts outcomes by refusal number and prints the first few differences.
 use std::collections::BTreeMap;
+use std::iter::Sum;
+use std::ops::Add;
 use std::panic;
+
+/// What a round found: answers that differ, and refusals that it must meet and didn't.
+#[derive(Clone, Copy, Default)]
+pub struct Found {
+    pub differences: u64,
+    pub unmet: u64,
+}
+
+impl Add for Found {
+    type Output = Found;
+    fn add(self, other: Found) -> Found {
+        Found { differences: self.differences + other.differences, unmet: self.unmet + other.unmet }
+    }
+}
+
+impl Sum for Found {
+    fn sum<I: Iterator<Item = Found>>(all: I) -> Found {
+        all.fold(Found::default(), Found::add)
+    }
+}
 
 pub struct Tally {
     name: &'static str,
@@ -26,23 +48,23 @@ impl Tally {
         }
     }
 
-    /// How many of these numbers were not met.
-    pub fn missing(&self, numbers: &[u32]) -> u64 {
+    /// Which of these numbers were not met.
+    pub fn missing(&self, numbers: &[u32]) -> Found {
         let missing: Vec<u32> = numbers.iter().copied().filter(|n| !self.outcomes.contains_key(n)).collect();
         if !missing.is_empty() {
             println!("{}: not met in this run: {missing:?}", self.name);
         }
-        missing.len() as u64
+        Found { unmet: missing.len() as u64, ..Found::default() }
     }
 
-    pub fn done(self) -> u64 {
+    pub fn done(self) -> Found {
         let outcomes: Vec<String> = self
             .outcomes
             .iter()
             .map(|(number, count)| if *number == 0 { format!("accepted {count}") } else { format!("{number}: {count}") })
             .collect();
         println!("{:12} {:9} comparisons, {} differences ({})", self.name, self.cases, self.differences, outcomes.join(", "));
-        self.differences
+        Found { differences: self.differences, ..Found::default() }
     }
 }
 

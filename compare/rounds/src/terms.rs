@@ -127,6 +127,29 @@ pub fn calls(random: &mut Random, settlement: u32, leg: &Leg) -> Calls {
     calls
 }
 
+/// None for half of all; else entries such as calls are, for the most part with lower strikes, and some on the days of a call with a
+/// strike below its, or equal, or beside it.
+pub fn puts(random: &mut Random, settlement: u32, leg: &Leg, calls: &Calls) -> Calls {
+    if random.below(2) == 0 {
+        return Calls::default();
+    }
+    let mut puts = self::calls(random, settlement, leg);
+    for i in 0..puts.starts.len() {
+        puts.strikes[i] *= random.between(0.4, 1.0);
+        if !calls.starts.is_empty() && random.below(3) > 0 {
+            let near = random.below(calls.starts.len() as u64) as usize;
+            (puts.starts[i], puts.ends[i]) = (calls.starts[near], calls.ends[near]);
+            let strike = calls.strikes[near];
+            puts.strikes[i] = match random.below(5) {
+                0 => strike,
+                1 => random.beside(strike),
+                _ => strike * random.between(0.7, 1.0),
+            };
+        }
+    }
+    puts
+}
+
 pub fn sigma(random: &mut Random) -> Sigma {
     let count = match random.below(3) {
         0 => 1,
@@ -189,6 +212,7 @@ pub fn terms(random: &mut Random) -> Terms {
     let settlement = settlement(random);
     let leg = leg(random, settlement);
     let calls = calls(random, settlement, &leg);
+    let puts = puts(random, settlement, &leg, &calls);
     let last = *leg.days.last().unwrap();
     let per_year = pick(random, &[1, 1, 2, 4, 12]);
     let maximum = match random.below(20) {
@@ -203,6 +227,7 @@ pub fn terms(random: &mut Random) -> Terms {
             _ => pick(random, &[1.0, 100.0, 1000.0]),
         },
         calls,
+        puts,
         settings: (per_year, maximum),
         alpha: match random.below(8) {
             0 => 0.0,
@@ -262,11 +287,18 @@ fn spoil<T: Copy>(random: &mut Random, list: &mut Vec<T>, value: T) {
     }
 }
 
+/// So many entries.
+fn many(entries: &mut Calls, n: usize, day: u32, strike: f64) {
+    entries.starts.resize(n, day);
+    entries.ends.resize(n, day);
+    entries.strikes.resize(n, strike);
+}
+
 /// Changes one or two fields so that they may break a rule, at the limits and one past them.
 pub fn damage(random: &mut Random, terms: &mut Terms) {
     for _ in 0..1 + random.below(2) {
         let near = terms.settlement;
-        match random.below(19) {
+        match random.below(23) {
             0 => terms.settlement = bad_day(random, near),
             1 => {
                 let v = bad_day(random, near);
@@ -321,11 +353,25 @@ pub fn damage(random: &mut Random, terms: &mut Terms) {
                 terms.leg.amounts.resize(n, 1.0);
             }
             17 => terms.code = pick(random, &[0, 1, 2, 3, 3, 3, u32::MAX]),
+            18 => {
+                let v = bad_day(random, near);
+                spoil(random, &mut terms.puts.starts, v);
+            }
+            19 => {
+                let v = bad_day(random, near);
+                spoil(random, &mut terms.puts.ends, v);
+            }
+            20 => {
+                let v = bad(random, &[1e6]);
+                spoil(random, &mut terms.puts.strikes, v);
+            }
+            21 => {
+                let n = pick(random, &[63, 64, 65, 300]);
+                many(&mut terms.puts, n, near, 50.0);
+            }
             _ => {
                 let n = pick(random, &[63, 64, 65]);
-                terms.calls.starts.resize(n, near);
-                terms.calls.ends.resize(n, near);
-                terms.calls.strikes.resize(n, 100.0);
+                many(&mut terms.calls, n, near, 100.0);
             }
         }
     }

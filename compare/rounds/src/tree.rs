@@ -1,7 +1,8 @@
-//! The tree value against the second reading (number, place, value, node count, lent slices) and against the published text
+//! The tree value against the second reading (number, place, value, node count, lent slices) and, without puts, against the published text
 //! (value and node count where accepted; that it refuses too where we do).
+use crate::faults;
 use crate::random::Random;
-use crate::tally::{published, same_number, Tally};
+use crate::tally::{published, same_number, Found, Tally};
 use crate::terms;
 use host::Lent;
 use reading::ordinary;
@@ -14,7 +15,7 @@ pub const AMPLE: Room = Room { nodes: 24_000, probabilities: 36_000, first: 2_00
 pub const LARGE: Room = Room { nodes: 2 * 513 * 513, probabilities: 3 * 513 * 513, first: 4_000, second: 4_000 };
 
 /// What a run must meet: every refusal of the tree but 24, which is never given, and all of the input's.
-const MET: [u32; 19] = [1, 2, 3, 4, 5, 6, 7, 8, 20, 21, 22, 23, 25, 26, 27, 33, 34, 35, 44];
+const MET: [u32; 21] = [1, 2, 3, 4, 5, 6, 7, 8, 20, 21, 22, 23, 25, 26, 27, 33, 34, 35, 37, 38, 44];
 
 /// Sigma up to its greatest count, each entry of another size than the one before.
 fn jagged(random: &mut Random) -> Sigma {
@@ -100,7 +101,7 @@ pub fn compare(readings: &mut Tally, texts: &mut Tally, t: &Terms, room: Room) -
     readings.case(number, left && same(&ours, &theirs), || {
         format!("{t:?} {room:?} gives {ours:?} (slices as they must be: {left}), the reading {theirs:?}")
     });
-    if !published::AVAILABLE {
+    if !published::AVAILABLE || !t.puts.starts.is_empty() {
         return ours;
     }
     match ours {
@@ -128,6 +129,7 @@ fn examples(readings: &mut Tally, texts: &mut Tally) {
         leg: leg.clone(),
         units: 100.0,
         calls: Calls { starts: vec![0], ends: vec![365], strikes: vec![99.0] },
+        puts: Calls::default(),
         settings: (1, 512),
         alpha: 0.0,
         sigma: Sigma { times: vec![0.0], sigmas: vec![0.0] },
@@ -149,7 +151,7 @@ fn examples(readings: &mut Tally, texts: &mut Tally) {
     let _ = compare(readings, texts, &ordinary::bond(512), ordinary::room(512));
 }
 
-pub fn round(long: bool, seed: u64) -> u64 {
+pub fn round(long: bool, seed: u64) -> Found {
     let cases = if long { 2_000_000 } else { 20_000 };
     let mut random = Random(seed);
     let mut readings = Tally::new("tree value");
@@ -157,6 +159,9 @@ pub fn round(long: bool, seed: u64) -> u64 {
     examples(&mut readings, &mut texts);
     for _ in 0..cases {
         let mut t = tree_terms(&mut random);
+        if random.below(20) == 0 {
+            faults::several(&mut random, &mut t);
+        }
         if random.below(8) == 0 {
             terms::damage(&mut random, &mut t);
         }

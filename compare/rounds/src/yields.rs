@@ -1,6 +1,6 @@
 //! Price from yield and yield from price against the second reading and, where accepted, the published text.
 use crate::random::Random;
-use crate::tally::{published, same_number, Tally};
+use crate::tally::{published, same_number, Found, Tally};
 use crate::terms;
 use reading::bondanalytics::{self, Rate};
 use reading::terms::Leg;
@@ -65,7 +65,7 @@ fn examples(tally: &mut Tally) {
     }
 }
 
-pub fn round(long: bool, seed: u64) -> u64 {
+pub fn round(long: bool, seed: u64) -> Found {
     let cases = if long { 1_000_000 } else { 10_000 };
     let mut random = Random(seed);
     let mut prices = Tally::new("price");

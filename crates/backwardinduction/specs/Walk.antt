@@ -1,4 +1,4 @@
--- Definitions only. Walking back: continuation, then the lower of it and the call price, then the step's cashflow.
+-- Definitions only. Walking back: continuation, then the lower of it and the call price, then the higher of that and the put price, then the step's cashflow.
 use Prim.Native.Nat.{ℕ, suc}
 use mathlib.Core.Bool.{cond}
 use mathlib.Core.List.{List, [], _∷_}
@@ -7,16 +7,17 @@ use lib.IntN.{ℤ}
 use lib.Ieee.{Float, binary64, add, mul, neg}
 use Rattle.floats.specs.declared.Answer.{Answer}
 use Rattle.floats.specs.Answers.{plusZero, andThen, tested, whenFinite}
-use Rattle.floats.specs.Extremes.{minOf}
+use Rattle.floats.specs.Extremes.{minOf, maxOf}
 use Rattle.elementary.specs.Exponential.{expAt}
 use Rattle.terms.specs.Outcomes.{Outcome, given, follow, valued}
+use Rattle.bondevents.specs.declared.Exercise.{Exercise}
 use Rattle.bondevents.specs.declared.CallStep.{CallStep}
 use Rattle.bondevents.specs.Calls.{newStep}
 use Rattle.lattice.specs.declared.Transition.{Transition}
 use Rattle.lattice.specs.Layers.{At, valueAt, nodeFloat}
 use Rattle.lattice.specs.Lattice.{Layer}
 
--- What a step of the walk reads beside the next row: spacing, time_step, shift, spread, the call step and the cashflow.
+-- What a step of the walk reads beside the next row: spacing, time_step, shift, spread, the step's call and put, and the cashflow.
 pub record Reads : Type 0 where
   pub spacing : Float
   pub dt : Float
@@ -43,15 +44,19 @@ discountOf r node place =
     whenFinite (mul binary64 rate (neg (r .dt))) place λ x. expAt x place
 
 -- The lower of continuation and call price.
-abbrev pub called : CallStep → Float → Float
-called c continuation = cond (c .marked) (minOf continuation (c .«call_price»)) continuation
+abbrev pub called : Exercise → Float → Float
+called c continuation = cond (c .marked) (minOf continuation (c .price)) continuation
+
+-- The higher of that and the put price.
+abbrev pub exercised : CallStep → Float → Float
+exercised s continuation = cond (s .put .marked) (maxOf (called (s .call) continuation) (s .put .price)) (called (s .call) continuation)
 
 unfoldable pub nodeValue : Reads → ℤ → Transition → List At → ℕ → Answer
-unfolding valueAt minOf add mul neg
+unfolding valueAt minOf maxOf add mul neg
 nodeValue r node t next place =
     andThen (expected t next place) λ e.
     andThen (discountOf r node place) λ d.
-    whenFinite (mul binary64 e d) place λ continuation. tested (add binary64 (called (r .call) continuation) (r .cashflow)) place
+    whenFinite (mul binary64 e d) place λ continuation. tested (add binary64 (exercised (r .call) continuation) (r .cashflow)) place
 
 -- One layer, nodes rising.
 unfoldable pub rolled : Reads → List ℤ → List Transition → List At → ℕ → Outcome (List At)

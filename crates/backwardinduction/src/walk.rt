@@ -1,9 +1,11 @@
-// Walking back, one layer: continuation, the lower of it and the call price, then the step's cashflow.
+// Walking back, one layer: continuation, the lower of it and the call price, the higher of that and the put price, then the step's cashflow.
 
 use bondevents::CallStep;
+use bondevents::Exercise;
 use elementary::exp::exp_at;
 use floats::Answer;
 use floats::finite::not_finite;
+use floats::max::greater;
 use floats::min::lesser;
 use floats::refusals::overflow;
 use forwardinduction::fit::spot;
@@ -82,18 +84,28 @@ fn discount(rates: Rates, node: f64, place: u32) -> Answer
 }
 
 // The lower of continuation and call price.
-fn lower(call: CallStep, continuation: f64) -> f64
+fn lower(call: Exercise, continuation: f64) -> f64
     ensures { λ r. ⌜ r ≡ Walk.called call continuation ⌝ }
 {
-    let marked = call.marked;
-    let price = call.call_price;
-    if marked {
-        return lesser(continuation, price);
+    if call.marked {
+        return lesser(continuation, call.price);
     }
     continuation
 }
 
-// Continuation, the lower of it and the call price, then the cashflow.
+// The lower of continuation and call price, then the higher of that and the put price.
+fn exercised(step: CallStep, continuation: f64) -> f64
+    ensures { λ r. ⌜ r ≡ Walk.exercised step continuation ⌝ }
+{
+    let put = step.put;
+    let held = lower(step.call, continuation);
+    if put.marked {
+        return greater(held, put.price);
+    }
+    held
+}
+
+// Continuation, what is exercised, then the cashflow.
 fn worth(call: CallStep, cashflow: f64, place: u32, expected: f64, factor: f64) -> Answer
     ensures { λ r. ⌜ r ≡ worthOf call cashflow place expected factor ⌝ }
 {
@@ -101,7 +113,7 @@ fn worth(call: CallStep, cashflow: f64, place: u32, expected: f64, factor: f64) 
     if not_finite(continuation) {
         return overflow(place);
     }
-    let held = lower(call, continuation);
+    let held = exercised(call, continuation);
     let value = held + cashflow;
     if not_finite(value) {
         return overflow(place);

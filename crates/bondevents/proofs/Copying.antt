@@ -12,7 +12,7 @@ use Rattle.bondevents.proofs.Filling.{Filling}
 
 -- What stands past the end of a row of steps.
 abbrev pub pastEnd : CallStep
-pastEnd = record { marked = false; «call_price» = nan }
+pastEnd = record { call = record { marked = false; price = nan }; put = record { marked = false; price = nan } }
 
 module _ {A B : Type 0} (f : A → B) (d : A) (size : ℕ) (source : List A) where
   -- The places before i hold the rule's values.

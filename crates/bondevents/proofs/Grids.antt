@@ -24,9 +24,9 @@ use Rattle.bondevents.specs.declared.CallsAnswer.{CallsAnswer}
 use Rattle.bondevents.specs.declared.BondEventGrid.{BondEventGrid}
 use Rattle.bondevents.specs.declared.EventGrid.{EventGrid}
 use Rattle.bondevents.specs.Steps.{Axis, stepsOf, paidInto, stepCashflows}
-use Rattle.bondevents.specs.Calls.{overEntries}
+use Rattle.bondevents.specs.Calls.{callSteps}
 use Rattle.bondevents.specs.Grid.{axisOf, eventGrid, refusedGrid, acceptedGrid, gridAnswer}
-use Rattle.bondevents.specs.Parts.{axisAt, noCalls, noGrid, callsAnswer, refusalIn, gridOutcome}
+use Rattle.bondevents.specs.Parts.{axisAt, noGrid, callsAnswer, refusalIn, gridOutcome}
 use Rattle.bondevents.proofs.Outcomes.{calls-passed, calls-refused}
 
 -- At least one step, and no more than the maximum.
@@ -47,12 +47,12 @@ module _ (settlement : Settlement) (bond : Bond) (calls : CallSchedule) (control
   axis-is = rw (q, p, l, d) refl
 
   -- The grid from the calls of each step.
-  grid-is : eventGrid settlement bond calls controls ≡ follow (overEntries (axisAt s m n) bond (calls .starts) (calls .ends) (calls .strikes) noCalls) λ cs. given (record { «maturity_time» = m; steps = n; cashflows = stepCashflows (axisAt s m n) (bond .leg); calls = cs })
-  unfolding eventGrid noCalls
-  grid-is = ap (λ (a : Axis). follow (overEntries a bond (calls .starts) (calls .ends) (calls .strikes) noCalls) λ cs. given (record { «maturity_time» = a .maturity; steps = a .steps; cashflows = stepCashflows a (bond .leg); calls = cs })) (sym axis-is)
+  grid-is : eventGrid settlement bond calls controls ≡ follow (callSteps (axisAt s m n) bond calls) λ cs. given (record { «maturity_time» = m; steps = n; cashflows = stepCashflows (axisAt s m n) (bond .leg); calls = cs })
+  unfolding eventGrid
+  grid-is = ap (λ (a : Axis). follow (callSteps a bond calls) λ cs. given (record { «maturity_time» = a .maturity; steps = a .steps; cashflows = stepCashflows a (bond .leg); calls = cs })) (sym axis-is)
 
-  module _ {r : CallsAnswer} (e : r ≡ callsAnswer (overEntries (axisAt s m n) bond (calls .starts) (calls .ends) (calls .strikes) noCalls)) where
-    on-steps : {o : Outcome (List CallStep)} → overEntries (axisAt s m n) bond (calls .starts) (calls .ends) (calls .strikes) noCalls ≡ o → gridOutcome (eventGrid settlement bond calls controls) ≡ gridOutcome (follow o λ cs. given (record { «maturity_time» = m; steps = n; cashflows = stepCashflows (axisAt s m n) (bond .leg); calls = cs }))
+  module _ {r : CallsAnswer} (e : r ≡ callsAnswer (callSteps (axisAt s m n) bond calls)) where
+    on-steps : {o : Outcome (List CallStep)} → callSteps (axisAt s m n) bond calls ≡ o → gridOutcome (eventGrid settlement bond calls controls) ≡ gridOutcome (follow o λ cs. given (record { «maturity_time» = m; steps = n; cashflows = stepCashflows (axisAt s m n) (bond .leg); calls = cs }))
     on-steps f = ap gridOutcome (grid-is ∙ ap (λ (z : Outcome (List CallStep)). follow z λ cs. given (record { «maturity_time» = m; steps = n; cashflows = stepCashflows (axisAt s m n) (bond .leg); calls = cs })) f)
 
     pub grid-refused : {t : Refusal} {z : BondEventGrid} → r .check ≡ Refused t → z ≡ noGrid → record { check = r .check; grid = z } ≡ gridOutcome (eventGrid settlement bond calls controls)
@@ -60,13 +60,13 @@ module _ (settlement : Settlement) (bond : Bond) (calls : CallSchedule) (control
     grid-refused {t} {z} c w =
         ap (λ (y : BondEventGrid). record { check = r .check; grid = y }) w
         ∙ ap (λ (y : Check). record { check = y; grid = noGrid }) c
-        ∙ sym (on-steps (calls-refused (overEntries (axisAt s m n) bond (calls .starts) (calls .ends) (calls .strikes) noCalls) e c))
+        ∙ sym (on-steps (calls-refused (callSteps (axisAt s m n) bond calls) e c))
 
     pub grid-given : {row : List Float} → r .check ≡ Passed → row ≡ paidInto (axisAt s m n) (bond .leg .days) (bond .leg .amounts) (replicate 513 plusZero) → record { check = Passed; grid = record { «maturity_time» = m; steps = n; cashflows = row; calls = r .calls } } ≡ gridOutcome (eventGrid settlement bond calls controls)
     unfolding onOutcome
     grid-given {row} c w =
         ap (λ (y : List Float). record { check = Passed; grid = record { «maturity_time» = m; steps = n; cashflows = y; calls = r .calls } }) w
-        ∙ sym (on-steps (calls-passed (overEntries (axisAt s m n) bond (calls .starts) (calls .ends) (calls .strikes) noCalls) e c))
+        ∙ sym (on-steps (calls-passed (callSteps (axisAt s m n) bond calls) e c))
 
 -- ---- the grid entry
 
@@ -110,3 +110,6 @@ module _ (settlement : Settlement) (bond : Bond) (calls : CallSchedule) (control
 
   pub calls-sized : k ≡ Passed → CallCounted calls
   calls-sized c = call-counted calls (grid-calls settlement bond calls controls (sym e ∙ c) .counted)
+
+  pub puts-sized : k ≡ Passed → CallCounted (bond .puts)
+  puts-sized c = call-counted (bond .puts) (grid-terms settlement bond calls controls (sym e ∙ c) .puts .counted)

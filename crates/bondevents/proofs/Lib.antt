@@ -1,3 +1,4 @@
+pub mod BothLists
 pub mod Clamps
 pub mod Copying
 pub mod Counting
@@ -8,4 +9,6 @@ pub mod Grids
 pub mod Outcomes
 pub mod Paying
 pub mod Scanning
+pub mod SideBySide
+pub mod Sides
 pub mod Single

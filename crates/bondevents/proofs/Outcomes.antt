@@ -14,11 +14,14 @@ use Rattle.terms.specs.declared.Check.the-variants.{Passed}
 use Rattle.terms.specs.declared.Check.the-variants as check
 use Rattle.terms.specs.Outcomes.{Outcome, given, refused, follow, onOutcome, valued}
 use Rattle.terms.specs.Checks.{refusedBy}
+use Rattle.bondevents.specs.declared.Side.{Side}
+use Rattle.bondevents.specs.declared.Exercise.{Exercise}
+use Rattle.bondevents.specs.declared.SideAnswer.{SideAnswer}
 use Rattle.bondevents.specs.declared.CallStep.{CallStep}
 use Rattle.bondevents.specs.declared.CallsAnswer.{CallsAnswer}
-use Rattle.bondevents.specs.Calls.{newStep, keepLowest}
+use Rattle.bondevents.specs.Calls.{none, keep}
 use Rattle.terms.proofs.Laws.{same-at}
-use Rattle.bondevents.specs.Parts.{noCalls, callsAnswer}
+use Rattle.bondevents.specs.Parts.{noExercises, sideAnswer, callsAnswer}
 
 -- What only hands on changes nothing.
 pub follow-given : {A : Type 0} (o : Outcome A) → follow o given ≡ o
@@ -45,6 +48,16 @@ valued-follow (Refused r) f g = refl
 
 -- ---- read back from the struct
 
+pub side-passed : (o : Outcome (List Exercise)) {r : SideAnswer} → r ≡ sideAnswer o → r .check ≡ Passed → o ≡ given (r .steps)
+unfolding onOutcome
+side-passed (given cs) e p = ap given (sym (ap (λ (z : SideAnswer). z .steps) e))
+side-passed (refused q) e p = let z : _≡_ {A = ℕ} 0 1 = cc (ap (λ (z : SideAnswer). z .check) e, p) in absurd (omega arith)
+
+pub side-refused : (o : Outcome (List Exercise)) {q : Refusal} {r : SideAnswer} → r ≡ sideAnswer o → r .check ≡ check.Refused q → o ≡ refused q
+unfolding onOutcome
+side-refused (given cs) e p = let z : _≡_ {A = ℕ} 0 1 = cc (ap (λ (z : SideAnswer). z .check) e, p) in absurd (omega arith)
+side-refused (refused s) e p = cc (ap (λ (z : SideAnswer). z .check) e, p)
+
 pub calls-passed : (o : Outcome (List CallStep)) {r : CallsAnswer} → r ≡ callsAnswer o → r .check ≡ Passed → o ≡ given (r .calls)
 unfolding onOutcome
 calls-passed (given cs) e p = ap given (sym (ap (λ (z : CallsAnswer). z .calls) e))
@@ -57,19 +70,19 @@ calls-refused (refused s) e p = cc (ap (λ (z : CallsAnswer). z .check) e, p)
 
 -- ---- an answer that a call gave, taken apart, in the struct
 
-module _ (a : Answer) (f : Float → Outcome (List CallStep)) {s : Answer} (e : s ≡ a) where
+module _ (a : Answer) (f : Float → Outcome (List Exercise)) {s : Answer} (e : s ≡ a) where
   -- A refusal is handed up.
-  pub handed-up : {q : Refusal} {k : Check} {r : CallsAnswer} → s ≡ Refused q → k ≡ refusedBy s → r ≡ record { check = k; calls = noCalls } → r ≡ callsAnswer (valued a f)
+  pub handed-up : {q : Refusal} {k : Check} {r : SideAnswer} → s ≡ Refused q → k ≡ refusedBy s → r ≡ record { check = k; steps = noExercises } → r ≡ sideAnswer (valued a f)
   unfolding onOutcome onAnswer
   handed-up {q} {k} {r} v g p =
       let w : k ≡ check.Refused q = g ∙ ap refusedBy v in
-      p ∙ ap (λ (z : Check). record { check = z; calls = noCalls }) w ∙ ap (λ (z : Answer). callsAnswer (valued z f)) (sym v ∙ e)
+      p ∙ ap (λ (z : Check). record { check = z; steps = noExercises }) w ∙ ap (λ (z : Answer). sideAnswer (valued z f)) (sym v ∙ e)
 
   -- A value goes on.
-  pub went-on : {x : Float} {cs : List CallStep} → s ≡ Value x → f x ≡ given cs → record { check = Passed; calls = cs } ≡ callsAnswer (valued a f)
+  pub went-on : {x : Float} {cs : List Exercise} → s ≡ Value x → f x ≡ given cs → record { check = Passed; steps = cs } ≡ sideAnswer (valued a f)
   unfolding onOutcome onAnswer
-  went-on {x} {cs} v g = sym (ap callsAnswer g) ∙ ap (λ (z : Answer). callsAnswer (valued z f)) (sym v ∙ e)
+  went-on {x} {cs} v g = sym (ap sideAnswer g) ∙ ap (λ (z : Answer). sideAnswer (valued z f)) (sym v ∙ e)
 
--- A step of an array, read, lowered and written back.
-pub kept-at : (cs : List CallStep) (i : ℕ) {k : CallStep} (x : Float) (d : CallStep) → k ≡ keepLowest (getD cs i d) x → i < length cs → _≡_ {A = Outcome (List CallStep)} (given (set cs i (keepLowest (getD cs i newStep) x))) (given (set cs i k))
-kept-at cs i {k} x d e h = ap (λ (z : CallStep). given (set cs i z)) (sym (e ∙ ap (λ (z : CallStep). keepLowest z x) (same-at cs i d newStep h)))
+-- A step of an array, read, priced and written back.
+pub kept-at : (side : Side) (cs : List Exercise) (i : ℕ) {k : Exercise} (x : Float) (d : Exercise) → k ≡ keep side (getD cs i d) x → i < length cs → _≡_ {A = Outcome (List Exercise)} (given (set cs i (keep side (getD cs i none) x))) (given (set cs i k))
+kept-at side cs i {k} x d e h = ap (λ (z : Exercise). given (set cs i z)) (sym (e ∙ ap (λ (z : Exercise). keep side z x) (same-at cs i d none h)))

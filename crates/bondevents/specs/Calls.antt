@@ -1,26 +1,31 @@
--- Definitions only. Which steps a call entry reaches, the principal and the price there, and the lowest price kept.
+-- Definitions only. Which steps a call or put entry reaches, the principal and the price there, and the price kept: of calls the lowest, of puts the highest.
 use Prim.Native.Nat.{ℕ, zero, suc}
 use mathlib.Core.Bool.{Bool, true, false, cond, not, _&&_}
 use mathlib.Core.List.{List, [], _∷_}
-use lib.ListN.{replicate}
+use lib.ListN.{getD, replicate}
 use lib.Dec.{eqb, ltb}
-use lib.Ieee.{Float, binary64, add, mul, div, le}
+use lib.Ieee.{Float, binary64, add, mul, div, le, lt}
 use Rattle.floats.specs.declared.Answer.{Answer}
 use Rattle.floats.specs.Answers.{plusZero, refusal, tested, whenFinite}
-use Rattle.floats.specs.Extremes.{minOf}
+use Rattle.floats.specs.Extremes.{minOf, maxOf}
 use Rattle.terms.specs.Numbers.{float, tolerance}
 use Rattle.terms.specs.Terms.{Leg, CallSchedule, Bond}
-use Rattle.terms.specs.Outcomes.{Outcome, given, follow, valued}
+use Rattle.terms.specs.declared.Check.{Check}
+use Rattle.terms.specs.Checks.{onCheck, indexed, lowest}
+use Rattle.terms.specs.Outcomes.{Outcome, given, refused, follow, valued}
+use Rattle.bondevents.specs.declared.Side.{Side}
+use Rattle.bondevents.specs.declared.Side.the-variants.{Call, Put}
+use Rattle.bondevents.specs.declared.Exercise.{Exercise}
 use Rattle.bondevents.specs.declared.CallStep.{CallStep}
 use Rattle.bondevents.specs.Steps.{Axis, timeOf, stepOf, callStepOf}
 
--- One call entry.
+-- One call or put entry.
 pub record Entry : Type 0 where
   pub start : ℕ
   pub end : ℕ
   pub strike : Float
 
--- Equal days make a discrete call, otherwise a window.
+-- Equal days make it discrete, otherwise a window.
 abbrev pub discrete : Entry → Bool
 discrete e = eqb (e .start) (e .end)
 
@@ -68,38 +73,69 @@ callPrice a bond e step =
     (refusal 20 0)
     (whenFinite (mul binary64 (e .strike) (principal a (bond .leg) e step)) 0 λ paid. tested (div binary64 paid (bond .units)) 0)
 
--- CallStep::new makes a step without a call price. Its price is 0 then.
-abbrev pub newStep : CallStep
-newStep = record { marked = false; «call_price» = plusZero }
+-- No exercise: unmarked, and the price is 0 then.
+abbrev pub none : Exercise
+none = record { marked = false; price = plusZero }
 
--- The lowest per step is kept.
-unfoldable pub keepLowest : CallStep → Float → CallStep
-unfolding minOf
-keepLowest c price = record { marked = true; «call_price» = cond (c .marked) (minOf (c .«call_price») price) price }
+-- CallStep::new makes a step without a call price, and without a put price.
+abbrev pub newStep : CallStep
+newStep = record { call = none; put = none }
+
+-- Of calls the lowest per step is kept, of puts the highest.
+unfoldable pub kept : Side → Float → Float → Float
+unfolding minOf maxOf
+kept Call x y = minOf x y
+kept Put x y = maxOf x y
+
+unfoldable pub keep : Side → Exercise → Float → Exercise
+unfolding kept
+keep side c price = record { marked = true; price = cond (c .marked) (kept side (c .price) price) price }
 
 -- One entry over the count steps from step on; a step that isn't eligible computes nothing.
-unfoldable pub overSteps : Axis → Bond → Entry → ℕ → ℕ → List CallStep → Outcome (List CallStep)
-unfolding eligible callPrice keepLowest
-overSteps a bond e (suc count) step (c ∷ cs) =
+unfoldable pub overSteps : Side → Axis → Bond → Entry → ℕ → ℕ → List Exercise → Outcome (List Exercise)
+unfolding eligible callPrice keep
+overSteps side a bond e (suc count) step (c ∷ cs) =
     follow
-    (cond (eligible a e step) (valued (callPrice a bond e step) λ price. given (keepLowest c price)) (given c))
-    λ c. follow (overSteps a bond e count (suc step) cs) λ cs. given (c ∷ cs)
-overSteps a bond e (suc count) step [] = given []
-overSteps a bond e zero step cs = given cs
+    (cond (eligible a e step) (valued (callPrice a bond e step) λ price. given (keep side c price)) (given c))
+    λ c. follow (overSteps side a bond e count (suc step) cs) λ cs. given (c ∷ cs)
+overSteps side a bond e (suc count) step [] = given []
+overSteps side a bond e zero step cs = given cs
 
 -- Entries ending before settlement are skipped; steps 0 to steps−1 are tried.
-unfoldable pub withEntry : Axis → Bond → Entry → List CallStep → Outcome (List CallStep)
+unfoldable pub withEntry : Side → Axis → Bond → Entry → List Exercise → Outcome (List Exercise)
 unfolding overSteps
-withEntry a bond e cs = cond (ltb (e .end) (a .settlement)) (given cs) (overSteps a bond e (a .steps) 0 cs)
+withEntry side a bond e cs = cond (ltb (e .end) (a .settlement)) (given cs) (overSteps side a bond e (a .steps) 0 cs)
 
 -- Entry 0 over all its steps, then entry 1.
-unfoldable pub overEntries : Axis → Bond → List ℕ → List ℕ → List Float → List CallStep → Outcome (List CallStep)
+unfoldable pub overEntries : Side → Axis → Bond → List ℕ → List ℕ → List Float → List Exercise → Outcome (List Exercise)
 unfolding withEntry
-overEntries a bond (s ∷ starts) (e ∷ ends) (k ∷ strikes) cs =
-    follow (withEntry a bond (record { start = s; end = e; strike = k }) cs) λ cs. overEntries a bond starts ends strikes cs
-overEntries a bond (s ∷ starts) (e ∷ ends) [] cs = given cs
-overEntries a bond (s ∷ starts) [] strikes cs = given cs
-overEntries a bond [] ends strikes cs = given cs
+overEntries side a bond (s ∷ starts) (e ∷ ends) (k ∷ strikes) cs =
+    follow (withEntry side a bond (record { start = s; end = e; strike = k }) cs) λ cs. overEntries side a bond starts ends strikes cs
+overEntries side a bond (s ∷ starts) (e ∷ ends) [] cs = given cs
+overEntries side a bond (s ∷ starts) [] strikes cs = given cs
+overEntries side a bond [] ends strikes cs = given cs
 
-abbrev pub callSteps : Axis → Bond → CallSchedule → Outcome (List CallStep)
-callSteps a bond calls = overEntries a bond (calls .starts) (calls .ends) (calls .strikes) (replicate 513 newStep)
+-- One list over all its entries.
+abbrev pub exercises : Side → Axis → Bond → CallSchedule → Outcome (List Exercise)
+exercises side a bond entries = overEntries side a bond (entries .starts) (entries .ends) (entries .strikes) (replicate 513 none)
+
+-- Calls and puts of each step.
+unfoldable pub joined : List Exercise → List Exercise → List CallStep
+joined (c ∷ cs) (p ∷ ps) = record { call = c; put = p } ∷ joined cs ps
+joined (c ∷ cs) [] = []
+joined [] ps = []
+
+-- A put above the call.
+abbrev pub putAbove : CallStep → Bool
+putAbove c = (c .call .marked && c .put .marked) && lt (c .call .price) (c .put .price)
+
+-- 38: a put above the call at a step, lowest step as its place.
+abbrev pub putsBelow : List CallStep → Check
+putsBelow steps = indexed 38 (λ k. putAbove (getD steps k newStep)) steps
+
+-- The steps of a grid: all calls are filled in, then all puts, and 38 is tried once the whole is filled.
+unfoldable pub callSteps : Axis → Bond → CallSchedule → Outcome (List CallStep)
+unfolding overEntries joined lowest onCheck
+callSteps a bond calls =
+    follow (exercises Call a bond calls) λ cs.
+    follow (exercises Put a bond (bond .puts)) λ ps. onCheck (putsBelow (joined cs ps)) refused (given (joined cs ps))

@@ -13,7 +13,7 @@ use Rattle.bondevents.specs.declared.CallStep.{CallStep}
 use Rattle.bondevents.specs.declared.BondEventGrid.{BondEventGrid}
 use Rattle.bondevents.specs.declared.GridAnswer.{GridAnswer}
 use Rattle.bondevents.specs.Steps.{Axis, maturityTime, stepsOf, stepCashflows}
-use Rattle.bondevents.specs.Calls.{newStep, callSteps, overEntries}
+use Rattle.bondevents.specs.Calls.{newStep, callSteps}
 
 -- T and steps of a bond's grid.
 unfoldable pub axisOf : Settlement → Leg → TimeGrid → Axis
@@ -26,9 +26,9 @@ axisOf settlement leg controls =
       steps = stepsOf (maturityTime settlement leg) controls;
     }
 
--- bond_event_grid: the grid of checked terms, or 20 or 27 at place 0.
+-- bond_event_grid: the grid of checked terms, or 20 or 27 at place 0, or 38 at its step.
 unfoldable pub eventGrid : Settlement → Bond → CallSchedule → TimeGrid → Outcome BondEventGrid
-unfolding axisOf overEntries
+unfolding axisOf callSteps
 eventGrid settlement bond calls controls =
     let a = axisOf settlement (bond .leg) controls in
     follow (callSteps a bond calls) λ cs.

@@ -22,7 +22,7 @@ unrepaid settlement (day ∷ days) (kind ∷ kinds) [] = []
 unrepaid settlement (day ∷ days) [] xs = []
 unrepaid settlement [] kinds xs = []
 
--- The bond without its repaid redemptions: the same units, and all other cashflows in their order.
+-- The bond without its repaid redemptions: the same units and puts, and all other cashflows in their order.
 abbrev pub withoutRepaid : ℕ → Bond → Bond
 withoutRepaid settlement bond =
     record {
@@ -32,6 +32,7 @@ withoutRepaid settlement bond =
         amounts = unrepaid settlement (bond .leg .days) (bond .leg .kinds) (bond .leg .amounts);
       };
       units = bond .units;
+      puts = bond .puts;
     }
 
 -- Of terms that pass the checks, maturity, steps, cashflows, call prices and refusal are those of the bond without its repaid redemptions.

@@ -1,7 +1,8 @@
-// The call price of each step: the lowest that an entry gives there.
+// The price of each step on one side: of calls the lowest that an entry gives there, of puts the highest.
 
-use crate::CallStep;
-use crate::CallsAnswer;
+use crate::Exercise;
+use crate::Side;
+use crate::SideAnswer;
 use crate::principal::call_principal;
 use crate::steps::call_step_of;
 use floats::Answer;
@@ -18,8 +19,8 @@ ghost use Prim.Native.Nat.{ℕ, _≤_, _<_};
 ghost use lib.ListN.{length, getD, set, replicate};
 ghost use lib.Ieee.{nan};
 ghost use Rattle.terms.specs.Outcomes.{given, valued};
-ghost use Rattle.bondevents.specs.Calls.{newStep, keepLowest, overSteps, withEntry};
-ghost use Rattle.bondevents.specs.Parts.{axisAt, noEpoch, bondOf, entryOf, priced, inWindow, overPrices, Principals, noCalls, callsAnswer};
+ghost use Rattle.bondevents.specs.Calls.{none, keep, overSteps, withEntry};
+ghost use Rattle.bondevents.specs.Parts.{axisAt, noEpoch, bondOf, entryOf, priced, inWindow, overPrices, Principals, noExercises, sideAnswer};
 
 // Strike × principal/units, refused where there is no principal.
 fn call_price(strike: f64, principal: f64, units: f64) -> Answer
@@ -54,17 +55,18 @@ fn in_window(maturity: f64, steps: usize, from: f64, to: f64, step: usize) -> bo
     false
 }
 
-// No call price at any step, beside a refusal.
-pub fn no_calls(check: Check) -> CallsAnswer
-    ensures { λ r. ⌜ r ≡ record { check = check; calls = noCalls } ⌝ }
+// No price at any step, beside a refusal.
+pub fn no_exercises(check: Check) -> SideAnswer
+    ensures { λ r. ⌜ r ≡ record { check = check; steps = noExercises } ⌝ }
 {
-    let none = CallStep::new();
-    let calls = [none; 513];
-    CallsAnswer { check, calls }
+    let none = Exercise::none();
+    let steps = [none; 513];
+    SideAnswer { check, steps }
 }
 
 // A window over its steps; `principals` has the principal at each step.
 fn over_window(
+    side: Side,
     maturity: f64,
     steps: usize,
     from: f64,
@@ -72,12 +74,12 @@ fn over_window(
     strike: f64,
     units: f64,
     principals: &[f64; 513],
-    calls: [CallStep; 513],
-) -> CallsAnswer
+    row: [Exercise; 513],
+) -> SideAnswer
     requires { ⌜ steps ≤ 512 ⌝ }
-    ensures { λ r. ⌜ r ≡ callsAnswer (overPrices (inWindow (axisAt noEpoch maturity steps) from to) (λ step. priced strike (getD (now (principals .entry)) step nan) units) steps 0 calls) ⌝ }
+    ensures { λ r. ⌜ r ≡ sideAnswer (overPrices side (inWindow (axisAt noEpoch maturity steps) from to) (λ step. priced strike (getD (now (principals .entry)) step nan) units) steps 0 row) ⌝ }
 {
-    let mut kept = calls;
+    let mut kept = row;
     let mut i = 0;
     while i < steps {
         let step = i;
@@ -85,44 +87,46 @@ fn over_window(
         if in_window(maturity, steps, from, to, step) {
             let answer = call_price(strike, principals[step], units);
             let Answer::Value(price) = answer else {
-                return no_calls(refused_by(answer));
+                return no_exercises(refused_by(answer));
             };
-            let call = kept[step];
-            kept[step] = call.keep_lowest(price);
+            let exercise = kept[step];
+            kept[step] = exercise.keep(side, price);
         }
     }
-    CallsAnswer {
+    SideAnswer {
         check: Check::Passed,
-        calls: kept,
+        steps: kept,
     }
 }
 
-// A discrete call at its step.
+// A discrete call or put at its step.
 fn at_step(
+    side: Side,
     step: usize,
     strike: f64,
     principal: f64,
     units: f64,
-    calls: [CallStep; 513],
-) -> CallsAnswer
+    row: [Exercise; 513],
+) -> SideAnswer
     requires { ⌜ step ≤ 512 ⌝ }
-    ensures { λ r. ⌜ r ≡ callsAnswer (valued (priced strike principal units) λ x. given (set calls step (keepLowest (getD calls step newStep) x))) ⌝ }
+    ensures { λ r. ⌜ r ≡ sideAnswer (valued (priced strike principal units) λ x. given (set row step (keep side (getD row step none) x))) ⌝ }
 {
     let answer = call_price(strike, principal, units);
     let Answer::Value(price) = answer else {
-        return no_calls(refused_by(answer));
+        return no_exercises(refused_by(answer));
     };
-    let mut kept = calls;
-    let call = kept[step];
-    kept[step] = call.keep_lowest(price);
-    CallsAnswer {
+    let mut kept = row;
+    let exercise = kept[step];
+    kept[step] = exercise.keep(side, price);
+    SideAnswer {
         check: Check::Passed,
-        calls: kept,
+        steps: kept,
     }
 }
 
-// A discrete call: on settlement step 0, otherwise the day's step, where that is tried.
+// A discrete call or put: on settlement step 0, otherwise the day's step, where that is tried.
 fn with_call(
+    side: Side,
     settlement: Epoch,
     maturity: f64,
     steps: usize,
@@ -132,28 +136,29 @@ fn with_call(
     units: f64,
     date: u32,
     strike: f64,
-    calls: [CallStep; 513],
-) -> CallsAnswer
+    row: [Exercise; 513],
+) -> SideAnswer
     requires { ⌜ (1 ≤ steps) × (steps ≤ 512) ⌝ }
     requires { ⌜ (length (now kinds) ≡ length (now days)) × (length (now amounts) ≡ length (now days)) ⌝ }
-    ensures { λ r. ⌜ r ≡ callsAnswer (overSteps (axisAt settlement maturity steps) (bondOf (now (days .entry)) (now (kinds .entry)) (now (amounts .entry)) units) (entryOf date date strike) steps 0 calls) ⌝ }
+    ensures { λ r. ⌜ r ≡ sideAnswer (overSteps side (axisAt settlement maturity steps) (bondOf (now (days .entry)) (now (kinds .entry)) (now (amounts .entry)) units) (entryOf date date strike) steps 0 row) ⌝ }
 {
     let principal = call_principal(days, kinds, amounts, date);
     if date == settlement.day {
-        return at_step(0, strike, principal, units, calls);
+        return at_step(side, 0, strike, principal, units, row);
     }
     let step = call_step_of(settlement, maturity, steps, date);
     if step < steps {
-        return at_step(step, strike, principal, units, calls);
+        return at_step(side, step, strike, principal, units, row);
     }
-    CallsAnswer {
+    SideAnswer {
         check: Check::Passed,
-        calls,
+        steps: row,
     }
 }
 
 // One entry. Those ending before settlement are skipped; a window finds its principals in the table.
 pub fn with_entry(
+    side: Side,
     settlement: Epoch,
     maturity: f64,
     steps: usize,
@@ -165,21 +170,22 @@ pub fn with_entry(
     end: u32,
     strike: f64,
     principals: &[f64; 513],
-    calls: [CallStep; 513],
-) -> CallsAnswer
+    row: [Exercise; 513],
+) -> SideAnswer
     requires { ⌜ (1 ≤ steps) × (steps ≤ 512) ⌝ }
     requires { ⌜ (length (now kinds) ≡ length (now days)) × (length (now amounts) ≡ length (now days)) ⌝ }
     requires { ⌜ ((start ≡ end → ⊥) → Principals (axisAt settlement maturity steps) (bondOf (now days) (now kinds) (now amounts) units .leg) steps (now principals)) ⌝ }
-    ensures { λ r. ⌜ r ≡ callsAnswer (withEntry (axisAt settlement maturity steps) (bondOf (now (days .entry)) (now (kinds .entry)) (now (amounts .entry)) units) (entryOf start end strike) calls) ⌝ }
+    ensures { λ r. ⌜ r ≡ sideAnswer (withEntry side (axisAt settlement maturity steps) (bondOf (now (days .entry)) (now (kinds .entry)) (now (amounts .entry)) units) (entryOf start end strike) row) ⌝ }
 {
     if end < settlement.day {
-        return CallsAnswer {
+        return SideAnswer {
             check: Check::Passed,
-            calls,
+            steps: row,
         };
     }
     if start == end {
         return with_call(
+            side,
             settlement,
             maturity,
             steps,
@@ -189,10 +195,20 @@ pub fn with_entry(
             units,
             start,
             strike,
-            calls,
+            row,
         );
     }
     let from = time_from(settlement, start);
     let to = time_from(settlement, end);
-    over_window(maturity, steps, from, to, strike, units, principals, calls)
+    over_window(
+        side,
+        maturity,
+        steps,
+        from,
+        to,
+        strike,
+        units,
+        principals,
+        row,
+    )
 }

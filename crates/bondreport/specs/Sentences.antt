@@ -37,11 +37,20 @@ advice =
     ∷ about 30 (bytes "The search did not settle: the price is far from any market's.")
     ∷ about 31 (bytes "Give the bond a number from 1 to 999,999.")
     ∷ about 32 (bytes "This value or node count is too wide for the closing sheet.")
+    ∷ about 33 (bytes "Correct the day-count code: it is 0, 1 or 2.")
+    ∷ about 34 (bytes "Two pillars stand at one time: leave one of them out.")
+    ∷ about 35 (bytes "The last cashflow is at time 0: check the settlement day.")
     ∷ about 36 (bytes "The price is far below what the bond is worth: look at it.")
+    ∷ about 37 (bytes "Too many puts: at most 64 are taken.")
+    ∷ about 38 (bytes "A put is above the call at this step: look at their strikes.")
+    ∷ about 39 (bytes "A book has 1 to 32 bonds.")
+    ∷ about 40 (bytes "Give the bond a desk from 0 to 7.")
     ∷ about 41 (bytes "Too many notices: at most 256 are taken in one go.")
     ∷ about 42 (bytes "Look at this notice: its series, its version or its action.")
     ∷ about 43 (bytes "This notice repeats the series and version of an earlier one.")
     ∷ about 44 (bytes "A discount factor must be above 0: look at this pillar.")
+    ∷ about 45 (bytes "A table has 1 to 16 spreads and 1 to 16 shifts.")
+    ∷ about 46 (bytes "The shift takes a sigma out of its range: look at the shift.")
     ∷ []
 
 abbrev pub unknown : List ℕ

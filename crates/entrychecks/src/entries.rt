@@ -1,4 +1,4 @@
-// The input checks of each entry: in number order, inside one number by single fields, cashflows, calls, sigma, pillars. Each entry checks only what it takes.
+// The input checks of each entry: in number order, inside one number by single fields, cashflows, calls, puts, sigma, pillars. Each entry checks only what it takes.
 
 use crate::grid_stages::grid_counts;
 use crate::grid_stages::grid_days;
@@ -19,6 +19,7 @@ use crate::yield_stages::yield_numbers;
 use terms::Check;
 use terms::Settlement;
 use terms::cashflows::any_paid;
+use terms::counts::put_most;
 use terms::limits::Spread;
 use terms::limits::Target;
 use terms::limits::Yields;
@@ -38,11 +39,14 @@ pub fn grid_checks(
     starts: &[u32],
     ends: &[u32],
     strikes: &[f64],
+    put_starts: &[u32],
+    put_ends: &[u32],
+    put_strikes: &[f64],
     yearly: u32,
     maximum: u32,
 ) -> Check
     ensures { λ r. ⌜ r ≡ gridChecks settlement
-        (record { leg = legIn days kinds amounts; units = units })
+        (record { leg = legIn days kinds amounts; units = units; puts = callsIn «put_starts» «put_ends» «put_strikes» })
         (callsIn starts ends strikes)
         (record { perYear = yearly; maximum = maximum }) ⌝ }
 {
@@ -56,19 +60,34 @@ pub fn grid_checks(
         starts,
         ends,
         strikes,
+        put_starts,
+        put_ends,
+        put_strikes,
     );
     let Check::Passed = a else {
         return a;
     };
-    let b = grid_days(settlement.day, days, kinds, starts, ends);
+    let b = put_most(put_starts);
     let Check::Passed = b else {
         return b;
     };
-    let c = grid_numbers(units, amounts, strikes);
+    let c = grid_days(
+        settlement.day,
+        days,
+        kinds,
+        starts,
+        ends,
+        put_starts,
+        put_ends,
+    );
     let Check::Passed = c else {
         return c;
     };
-    grid_orders(settlement, days, starts, ends)
+    let d = grid_numbers(units, amounts, strikes, put_strikes);
+    let Check::Passed = d else {
+        return d;
+    };
+    grid_orders(settlement, days, starts, ends, put_starts, put_ends)
 }
 
 // What the straight value checks.
@@ -170,6 +189,9 @@ fn market_checks(
     starts: &[u32],
     ends: &[u32],
     strikes: &[f64],
+    put_starts: &[u32],
+    put_ends: &[u32],
+    put_strikes: &[f64],
     yearly: u32,
     maximum: u32,
     alpha: f64,
@@ -182,7 +204,7 @@ fn market_checks(
 ) -> Check
     requires { ⌜ CurveTimes settlement (now pillars) (now «curve_times») ⌝ }
     ensures { λ r. ⌜ r ≡ marketChecks limit
-        (marketIn settlement (legIn days kinds amounts) units yearly maximum alpha (sigmaIn times sigmas) x (pillarsIn pillars factors))
+        (marketIn settlement (legIn days kinds amounts) units (callsIn «put_starts» «put_ends» «put_strikes») yearly maximum alpha (sigmaIn times sigmas) x (pillarsIn pillars factors))
         (callsIn starts ends strikes) ⌝ }
 {
     let a = tree_counts(
@@ -195,6 +217,9 @@ fn market_checks(
         starts,
         ends,
         strikes,
+        put_starts,
+        put_ends,
+        put_strikes,
         times,
         sigmas,
         pillars,
@@ -203,27 +228,49 @@ fn market_checks(
     let Check::Passed = a else {
         return a;
     };
-    let b = tree_days(settlement.day, days, kinds, starts, ends, pillars);
+    let b = put_most(put_starts);
     let Check::Passed = b else {
         return b;
     };
-    let c = tree_numbers(
+    let c = tree_days(
+        settlement.day,
+        days,
+        kinds,
+        starts,
+        ends,
+        put_starts,
+        put_ends,
+        pillars,
+    );
+    let Check::Passed = c else {
+        return c;
+    };
+    let d = tree_numbers(
         limit,
         units,
         alpha,
         x,
         amounts,
         strikes,
+        put_strikes,
         times,
         sigmas,
         factors,
     );
-    let Check::Passed = c else {
-        return c;
-    };
-    let d = tree_orders(settlement.day, days, starts, ends, times);
     let Check::Passed = d else {
         return d;
+    };
+    let e = tree_orders(
+        settlement.day,
+        days,
+        starts,
+        ends,
+        put_starts,
+        put_ends,
+        times,
+    );
+    let Check::Passed = e else {
+        return e;
     };
     late_checks(settlement, days, pillars, curve_times, factors)
 }
@@ -238,6 +285,9 @@ pub fn tree_checks(
     starts: &[u32],
     ends: &[u32],
     strikes: &[f64],
+    put_starts: &[u32],
+    put_ends: &[u32],
+    put_strikes: &[f64],
     yearly: u32,
     maximum: u32,
     alpha: f64,
@@ -250,7 +300,7 @@ pub fn tree_checks(
 ) -> Check
     requires { ⌜ CurveTimes settlement (now pillars) (now «curve_times») ⌝ }
     ensures { λ r. ⌜ r ≡ treeChecks
-        (marketIn settlement (legIn days kinds amounts) units yearly maximum alpha (sigmaIn times sigmas) spread (pillarsIn pillars factors))
+        (marketIn settlement (legIn days kinds amounts) units (callsIn «put_starts» «put_ends» «put_strikes») yearly maximum alpha (sigmaIn times sigmas) spread (pillarsIn pillars factors))
         (callsIn starts ends strikes) ⌝ }
 {
     market_checks(
@@ -263,6 +313,9 @@ pub fn tree_checks(
         starts,
         ends,
         strikes,
+        put_starts,
+        put_ends,
+        put_strikes,
         yearly,
         maximum,
         alpha,
@@ -285,6 +338,9 @@ pub fn spread_checks(
     starts: &[u32],
     ends: &[u32],
     strikes: &[f64],
+    put_starts: &[u32],
+    put_ends: &[u32],
+    put_strikes: &[f64],
     yearly: u32,
     maximum: u32,
     alpha: f64,
@@ -297,7 +353,7 @@ pub fn spread_checks(
 ) -> Check
     requires { ⌜ CurveTimes settlement (now pillars) (now «curve_times») ⌝ }
     ensures { λ r. ⌜ r ≡ spreadChecks
-        (marketIn settlement (legIn days kinds amounts) units yearly maximum alpha (sigmaIn times sigmas) target (pillarsIn pillars factors))
+        (marketIn settlement (legIn days kinds amounts) units (callsIn «put_starts» «put_ends» «put_strikes») yearly maximum alpha (sigmaIn times sigmas) target (pillarsIn pillars factors))
         (callsIn starts ends strikes) ⌝ }
 {
     market_checks(
@@ -310,6 +366,9 @@ pub fn spread_checks(
         starts,
         ends,
         strikes,
+        put_starts,
+        put_ends,
+        put_strikes,
         yearly,
         maximum,
         alpha,

@@ -25,6 +25,7 @@ ghost use Rattle.terms.specs.Entries.{settingChecks, modelCounts, treeCounts, t
 ghost use Rattle.terms.specs.laws.Stages.{Tells};
 ghost use Rattle.terms.specs.laws.TermChecks.{LegCounted, PillarsCounted, SigmaCounted};
 ghost use Rattle.terms.specs.laws.CallChecks.{CallCounted};
+ghost use Rattle.terms.specs.CallLists.{Entries};
 ghost use Rattle.terms.specs.Slices.{legIn, callsIn, sigmaIn, pillarsIn};
 
 // 2: the counts of sigma and pillars.
@@ -51,6 +52,9 @@ pub fn tree_counts(
     starts: &[u32],
     ends: &[u32],
     strikes: &[f64],
+    put_starts: &[u32],
+    put_ends: &[u32],
+    put_strikes: &[f64],
     times: &[f64],
     sigmas: &[f64],
     pillars: &[u32],
@@ -58,8 +62,8 @@ pub fn tree_counts(
 ) -> Check
     ensures { λ r. ⌜ Tells r
         (firstOf
-        (settingChecks (record { perYear = yearly; maximum = maximum }) code ++ treeCounts (legIn days kinds amounts) (callsIn starts ends strikes) (sigmaIn times sigmas) (pillarsIn pillars factors)))
-        ((LegCounted (legIn days kinds amounts) × CallCounted (callsIn starts ends strikes)) ×
+        (settingChecks (record { perYear = yearly; maximum = maximum }) code ++ treeCounts (legIn days kinds amounts) (callsIn starts ends strikes) (callsIn «put_starts» «put_ends» «put_strikes») (sigmaIn times sigmas) (pillarsIn pillars factors)))
+        ((LegCounted (legIn days kinds amounts) × CallCounted (callsIn starts ends strikes) × Entries (callsIn «put_starts» «put_ends» «put_strikes»)) ×
         (SigmaCounted (sigmaIn times sigmas) × PillarsCounted (pillarsIn pillars factors))) ⌝ }
 {
     let a = grid_counts(
@@ -72,6 +76,9 @@ pub fn tree_counts(
         starts,
         ends,
         strikes,
+        put_starts,
+        put_ends,
+        put_strikes,
     );
     let Check::Passed = a else {
         return a;
@@ -86,19 +93,24 @@ pub fn tree_days(
     kinds: &[u8],
     starts: &[u32],
     ends: &[u32],
+    put_starts: &[u32],
+    put_ends: &[u32],
     pillars: &[u32],
 ) -> Check
     requires { ⌜ length (now days) ≤ 256 ⌝ }
     requires { ⌜ length (now starts) ≤ 64 ⌝ }
+    requires { ⌜ length (now «put_starts») ≤ 64 ⌝ }
     requires { ⌜ length (now pillars) ≤ 256 ⌝ }
     requires { ⌜ length (now kinds) ≡ length (now days) ⌝ }
     requires { ⌜ length (now ends) ≡ length (now starts) ⌝ }
+    requires { ⌜ length (now «put_ends») ≡ length (now «put_starts») ⌝ }
     ensures { λ r. ⌜ r ≡ firstOf
         (treeDays settlement (record { days = now (days .entry); kinds = now (kinds .entry); amounts = [] })
         (record { starts = now (starts .entry); ends = now (ends .entry); strikes = [] })
+        (record { starts = now («put_starts» .entry); ends = now («put_ends» .entry); strikes = [] })
         (record { days = now (pillars .entry); factors = [] })) ⌝ }
 {
-    let a = grid_days(settlement, days, kinds, starts, ends);
+    let a = grid_days(settlement, days, kinds, starts, ends, put_starts, put_ends);
     let Check::Passed = a else {
         return a;
     };
@@ -128,25 +140,28 @@ pub fn tree_numbers(
     x: f64,
     amounts: &[f64],
     strikes: &[f64],
+    put_strikes: &[f64],
     times: &[f64],
     sigmas: &[f64],
     factors: &[f64],
 ) -> Check
     requires { ⌜ length (now amounts) ≤ 256 ⌝ }
     requires { ⌜ length (now strikes) ≤ 64 ⌝ }
+    requires { ⌜ length (now «put_strikes») ≤ 64 ⌝ }
     requires { ⌜ length (now times) ≤ 64 ⌝ }
     requires { ⌜ length (now factors) ≤ 256 ⌝ }
     requires { ⌜ length (now sigmas) ≡ length (now times) ⌝ }
     ensures { λ r. ⌜ r ≡ firstOf
         (treeNumbers limit units alpha x (record { days = []; kinds = []; amounts = now (amounts .entry) })
-        (record { starts = []; ends = []; strikes = now (strikes .entry) }) (sigmaIn times sigmas)
+        (record { starts = []; ends = []; strikes = now (strikes .entry) })
+        (record { starts = []; ends = []; strikes = now («put_strikes» .entry) }) (sigmaIn times sigmas)
         (record { days = []; factors = now (factors .entry) })) ⌝ }
 {
     let a = tree_fields(limit, units, alpha, x);
     let Check::Passed = a else {
         return a;
     };
-    let b = list_numbers(amounts, strikes);
+    let b = list_numbers(amounts, strikes, put_strikes);
     let Check::Passed = b else {
         return b;
     };
@@ -157,29 +172,38 @@ pub fn tree_numbers(
     factor_range(factors)
 }
 
-// 5 to 7: a call that ends before it starts, sigma times, nothing paid.
+// 5 to 7: a call or a put that ends before it starts, sigma times, nothing paid.
 pub fn tree_orders(
     settlement: u32,
     days: &[u32],
     starts: &[u32],
     ends: &[u32],
+    put_starts: &[u32],
+    put_ends: &[u32],
     times: &[f64],
 ) -> Check
     requires { ⌜ length (now starts) ≤ 64 ⌝ }
+    requires { ⌜ length (now «put_starts») ≤ 64 ⌝ }
     requires { ⌜ length (now times) ≤ 64 ⌝ }
     requires { ⌜ length (now ends) ≡ length (now starts) ⌝ }
+    requires { ⌜ length (now «put_ends») ≡ length (now «put_starts») ⌝ }
     ensures { λ r. ⌜ r ≡ firstOf
         (treeOrders settlement (record { days = now (days .entry); kinds = []; amounts = [] })
         (record { starts = now (starts .entry); ends = now (ends .entry); strikes = [] })
+        (record { starts = now («put_starts» .entry); ends = now («put_ends» .entry); strikes = [] })
         (record { times = now (times .entry); sigmas = [] })) ⌝ }
 {
     let a = call_order(starts, ends);
     let Check::Passed = a else {
         return a;
     };
-    let b = sigma_order(times);
+    let b = call_order(put_starts, put_ends);
     let Check::Passed = b else {
         return b;
+    };
+    let c = sigma_order(times);
+    let Check::Passed = c else {
+        return c;
     };
     any_paid(settlement, days)
 }

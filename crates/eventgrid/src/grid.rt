@@ -18,7 +18,8 @@ ghost use mathlib.Core.Path.{_≡_};
 ghost use Prim.Native.Nat.{_≤_};
 ghost use lib.ListN.{length};
 ghost use Rattle.bondevents.specs.Grid.{eventGrid, gridAnswer};
-ghost use Rattle.bondevents.specs.Parts.{bondOf, noGrid, refusalIn, gridOutcome};
+ghost use Rattle.bondevents.specs.Parts.{noGrid, refusalIn, gridOutcome};
+ghost use Rattle.terms.specs.Slices.{legIn, callsIn};
 
 // The grid that is all zero.
 fn zero_grid() -> BondEventGrid
@@ -35,7 +36,7 @@ fn zero_grid() -> BondEventGrid
     }
 }
 
-// The grid of terms that are checked, or 20 or 27 beside a grid that is all zero.
+// The grid of terms that are checked, or 20, 27 or 38 beside a grid that is all zero.
 pub fn event_grid(
     settlement: Settlement,
     days: &[u32],
@@ -45,13 +46,17 @@ pub fn event_grid(
     starts: &[u32],
     ends: &[u32],
     strikes: &[f64],
+    put_starts: &[u32],
+    put_ends: &[u32],
+    put_strikes: &[f64],
     yearly: u32,
     maximum: u32,
 ) -> EventGrid
     requires { ⌜ (1 ≤ maximum) × (maximum ≤ 512) ⌝ }
     requires { ⌜ (length (now days) ≤ 256) × (length (now kinds) ≡ length (now days)) × (length (now amounts) ≡ length (now days)) ⌝ }
     requires { ⌜ (length (now ends) ≡ length (now starts)) × (length (now strikes) ≡ length (now starts)) ⌝ }
-    ensures { λ r. ⌜ r ≡ gridOutcome (eventGrid settlement (bondOf (now (days .entry)) (now (kinds .entry)) (now (amounts .entry)) units) (record { starts = now (starts .entry); ends = now (ends .entry); strikes = now (strikes .entry) }) (record { perYear = yearly; maximum = maximum })) ⌝ }
+    requires { ⌜ (length (now «put_ends») ≡ length (now «put_starts»)) × (length (now «put_strikes») ≡ length (now «put_starts»)) ⌝ }
+    ensures { λ r. ⌜ r ≡ gridOutcome (eventGrid settlement (record { leg = legIn days kinds amounts; units = units; puts = callsIn «put_starts» «put_ends» «put_strikes» }) (callsIn starts ends strikes) (record { perYear = yearly; maximum = maximum })) ⌝ }
 {
     let epoch = epoch_of(settlement);
     let maturity = time_from(epoch, last_day(days));
@@ -67,6 +72,9 @@ pub fn event_grid(
         starts,
         ends,
         strikes,
+        put_starts,
+        put_ends,
+        put_strikes,
     );
     let check = answer.check;
     let Check::Passed = check else {
@@ -111,10 +119,13 @@ pub fn bond_event_grid(
     call_starts: &[u32],
     call_ends: &[u32],
     call_strikes: &[f64],
+    put_starts: &[u32],
+    put_ends: &[u32],
+    put_strikes: &[f64],
     steps_per_year: u32,
     max_steps: u32,
 ) -> GridAnswer
-    ensures { λ r. ⌜ r ≡ gridAnswer settlement (record { leg = record { days = now («cashflow_days» .entry); kinds = now («cashflow_kinds» .entry); amounts = now («cashflow_amounts» .entry) }; units = units }) (record { starts = now («call_starts» .entry); ends = now («call_ends» .entry); strikes = now («call_strikes» .entry) }) (record { perYear = «steps_per_year»; maximum = «max_steps» }) ⌝ }
+    ensures { λ r. ⌜ r ≡ gridAnswer settlement (record { leg = legIn «cashflow_days» «cashflow_kinds» «cashflow_amounts»; units = units; puts = callsIn «put_starts» «put_ends» «put_strikes» }) (callsIn «call_starts» «call_ends» «call_strikes») (record { perYear = «steps_per_year»; maximum = «max_steps» }) ⌝ }
 {
     let check = grid_checks(
         settlement,
@@ -125,6 +136,9 @@ pub fn bond_event_grid(
         call_starts,
         call_ends,
         call_strikes,
+        put_starts,
+        put_ends,
+        put_strikes,
         steps_per_year,
         max_steps,
     );
@@ -143,6 +157,9 @@ pub fn bond_event_grid(
         call_starts,
         call_ends,
         call_strikes,
+        put_starts,
+        put_ends,
+        put_strikes,
         steps_per_year,
         max_steps,
     );

@@ -2,7 +2,7 @@
 use Prim.Native.Nat.{ℕ}
 use mathlib.Core.List.{List, map}
 use lib.ListN.{take}
-use Rattle.terms.specs.Terms.{Leg, CallSchedule, SigmaSchedule, Pillars, Market}
+use Rattle.terms.specs.Terms.{Leg, CallSchedule, SigmaSchedule, Pillars, Market, noEntries}
 use Rattle.bondfile.specs.Entries.{firstWhole, secondWhole, flowKind, firstNumber, secondNumber}
 use Rattle.bondfile.specs.File.{Numbered, entriesOf, ofKind, fieldOf}
 
@@ -49,7 +49,7 @@ abbrev pub marketOf : List ℕ → Market
 marketOf text =
     record {
       settlement = record { day = firstWhole (fieldOf 1 text); code = 0 };
-      bond = record { leg = legOf text; units = firstNumber (fieldOf 2 text) };
+      bond = record { leg = legOf text; units = firstNumber (fieldOf 2 text); puts = noEntries };
       controls = record { perYear = firstWhole (fieldOf 3 text); maximum = secondWhole (fieldOf 3 text) };
       model = record { alpha = firstNumber (fieldOf 4 text); sigma = sigmaOf text };
       spread = firstNumber (fieldOf 5 text);

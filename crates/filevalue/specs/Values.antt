@@ -5,7 +5,7 @@ use mathlib.Core.List.{List, []}
 use lib.Ieee.{Float, binary64, sub}
 use Rattle.floats.specs.declared.Answer.{Answer}
 use Rattle.floats.specs.Answers.{tested, onAnswer}
-use Rattle.terms.specs.Terms.{Leg, CallSchedule, SigmaSchedule, Pillars, Market}
+use Rattle.terms.specs.Terms.{Leg, CallSchedule, SigmaSchedule, Pillars, Market, noEntries}
 use Rattle.filebond.specs.Bond.{legOf, pillarsOf, marketOf}
 use Rattle.lattice.specs.Layers.{Room}
 use Rattle.treebasedbondpricer.specs.declared.TreeValue.{TreeValue}
@@ -75,7 +75,7 @@ abbrev pub marketWith : List ℕ → Leg → SigmaSchedule → Pillars → Marke
 marketWith text leg sigma pillars =
     record {
       settlement = marketOf text .settlement;
-      bond = record { leg = leg; units = marketOf text .bond .units };
+      bond = record { leg = leg; units = marketOf text .bond .units; puts = noEntries };
       controls = marketOf text .controls;
       model = record { alpha = marketOf text .model .alpha; sigma = sigma };
       spread = marketOf text .spread;

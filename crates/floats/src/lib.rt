@@ -27,7 +27,7 @@ impl Refusal {
     pub const DAY: u32 = 3;
     // A number that isn't finite or lies outside its range.
     pub const NUMBER: u32 = 4;
-    // A call's end before its start.
+    // A call's or a put's end before its start.
     pub const CALL_ORDER: u32 = 5;
     // Sigma times not strictly rising.
     pub const SIGMA_ORDER: u32 = 6;
@@ -43,6 +43,12 @@ impl Refusal {
     pub const SAME_TIME: u32 = 34;
     // A maturity whose time is 0.
     pub const NO_TIME: u32 = 35;
+    // More than 64 puts.
+    pub const PUT_COUNT: u32 = 37;
+    // A book of no bonds, or of more than 32.
+    pub const BOOK_SIZE: u32 = 39;
+    // A desk outside 0 to 7.
+    pub const DESK: u32 = 40;
     // More than 256 call notices.
     pub const NOTICE_COUNT: u32 = 41;
     // A notice's series, version or action out of range.
@@ -51,6 +57,8 @@ impl Refusal {
     pub const NOTICE_REPEATED: u32 = 43;
     // A pillar factor that isn't positive.
     pub const FACTOR_NOT_POSITIVE: u32 = 44;
+    // No spreads or shifts of a table, or more than 16 of either.
+    pub const TABLE_SIZE: u32 = 45;
 
     // Found in the working state.
     // No principal at an eligible step.
@@ -81,6 +89,10 @@ impl Refusal {
     pub const TOO_WIDE: u32 = 32;
     // The tried spread is above 1.
     pub const SPREAD_ABOVE: u32 = 36;
+    // A put above the call at a step.
+    pub const PUT_ABOVE: u32 = 38;
+    // A shifted sigma that isn't finite or lies outside its range.
+    pub const SHIFTED_SIGMA: u32 = 46;
 }
 
 // What a function on floats answers.

@@ -21,7 +21,7 @@ use Rattle.host.specs.Handed.{Handed, HandedGrid, HandedList, HandedValu
 pub handed-as : {a b : Answer} {result place : ℕ} {value : Float} → a ≡ b → Handed a result place value → Handed b result place value
 handed-as e h = rw (← e) h
 
-pub grid-as : {a b : GridAnswer} {result place steps : ℕ} {maturity : Float} {cashflows prices : List Float} {marks : List ℕ} → a ≡ b → HandedGrid a result place maturity steps cashflows marks prices → HandedGrid b result place maturity steps cashflows marks prices
+pub grid-as : {a b : GridAnswer} {result place steps : ℕ} {maturity : Float} {cashflows prices put-prices : List Float} {marks put-marks : List ℕ} → a ≡ b → HandedGrid a result place maturity steps cashflows marks prices put-marks put-prices → HandedGrid b result place maturity steps cashflows marks prices put-marks put-prices
 grid-as e h = rw (← e) h
 
 pub list-as : {a b : CallList} {result place count : ℕ} {starts ends : List ℕ} {strikes : List Float} → a ≡ b → HandedList a result place count starts ends strikes → HandedList b result place count starts ends strikes

@@ -9,7 +9,8 @@ use Rattle.floats.specs.declared.Answer.{Answer}
 use Rattle.floats.specs.Answers.{numberOf, placeOf, valueOf}
 use Rattle.callnotices.specs.declared.CallList.{CallList}
 use Rattle.bondevents.specs.declared.GridAnswer.{GridAnswer}
-use Rattle.bondevents.specs.Parts.{markOf, priceOfStep}
+use Rattle.bondevents.specs.declared.Side.the-variants.{Call, Put}
+use Rattle.bondevents.specs.Parts.{sideMark, sidePrice}
 use Rattle.treebasedbondpricer.specs.declared.TreeValue.{TreeValue}
 use Rattle.terms.specs.Terms.{CallSchedule, Market}
 use Rattle.treebasedbondpricer.specs.Tree.{treeValue, Lent, roomOf, lentAfter}
@@ -29,15 +30,17 @@ pub record Handed (answer : Answer) (result place : ℕ) (value : Float) : Type 
   pub place-is : place ≡ placeOf answer
   pub value-is : value ≡ valueOf answer
 
--- Of the grid: all 513 cashflows, marks and prices.
-pub record HandedGrid (answer : GridAnswer) (result place : ℕ) (maturity : Float) (steps : ℕ) (cashflows : List Float) (marks : List ℕ) (prices : List Float) : Type 0 where
+-- Of the grid: all 513 cashflows, and marks and prices of calls and of puts.
+pub record HandedGrid (answer : GridAnswer) (result place : ℕ) (maturity : Float) (steps : ℕ) (cashflows : List Float) (marks : List ℕ) (prices : List Float) (put-marks : List ℕ) (put-prices : List Float) : Type 0 where
   pub number-is : result ≡ answer .refusal .number
   pub place-is : place ≡ answer .refusal .place
   pub maturity-is : maturity ≡ answer .grid .«maturity_time»
   pub steps-is : steps ≡ answer .grid .steps
   pub cashflows-are : cashflows ≡ answer .grid .cashflows
-  pub marks-are : marks ≡ map markOf (answer .grid .calls)
-  pub prices-are : prices ≡ map priceOfStep (answer .grid .calls)
+  pub marks-are : marks ≡ map (sideMark Call) (answer .grid .calls)
+  pub prices-are : prices ≡ map (sidePrice Call) (answer .grid .calls)
+  pub put-marks-are : put-marks ≡ map (sideMark Put) (answer .grid .calls)
+  pub put-prices-are : put-prices ≡ map (sidePrice Put) (answer .grid .calls)
 
 -- Of the call list that notices give: all 64 places.
 pub record HandedList (answer : CallList) (result place count : ℕ) (starts ends : List ℕ) (strikes : List Float) : Type 0 where

@@ -116,7 +116,7 @@ pub extern "C" fn gutirapeo_midpoint(a: f64, b: f64, place: &mut u32, value: &mu
     hand_over(floats::midpoint::midpoint(a, b), place, value)
 }
 
-// The event grid: maturity time, steps, and all 513 cashflows, marks and call prices.
+// The event grid: maturity time, steps, and all 513 cashflows, call marks and prices, put marks and prices.
 #[no_mangle]
 pub extern "C" fn gutirapeo_grid(
     settlement: u32,
@@ -128,6 +128,9 @@ pub extern "C" fn gutirapeo_grid(
     starts: &[u32],
     ends: &[u32],
     strikes: &[f64],
+    put_starts: &[u32],
+    put_ends: &[u32],
+    put_strikes: &[f64],
     yearly: u32,
     maximum: u32,
     place: &mut u32,
@@ -136,13 +139,15 @@ pub extern "C" fn gutirapeo_grid(
     cashflows: &mut [f64; 513],
     marks: &mut [u8; 513],
     prices: &mut [f64; 513],
+    put_marks: &mut [u8; 513],
+    put_prices: &mut [f64; 513],
 ) -> u32
     ensures { λ r. ⌜ HandedGrid
         (gridAnswer (record { day = settlement; code = code })
-        (record { leg = legIn days kinds amounts; units = units })
+        (record { leg = legIn days kinds amounts; units = units; puts = callsIn «put_starts» «put_ends» «put_strikes» })
         (callsIn starts ends strikes)
         (record { perYear = yearly; maximum = maximum }))
-        r (now (place .exit)) (now (maturity .exit)) (now (steps .exit)) (now (cashflows .exit)) (now (marks .exit)) (now (prices .exit)) ⌝ }
+        r (now (place .exit)) (now (maturity .exit)) (now (steps .exit)) (now (cashflows .exit)) (now (marks .exit)) (now (prices .exit)) (now («put_marks» .exit)) (now («put_prices» .exit)) ⌝ }
 {
     let answer = eventgrid::grid::bond_event_grid(
         Settlement {
@@ -156,10 +161,23 @@ pub extern "C" fn gutirapeo_grid(
         starts,
         ends,
         strikes,
+        put_starts,
+        put_ends,
+        put_strikes,
         yearly,
         maximum,
     );
-    hand_grid(answer, place, maturity, steps, cashflows, marks, prices)
+    hand_grid(
+        answer,
+        place,
+        maturity,
+        steps,
+        cashflows,
+        marks,
+        prices,
+        put_marks,
+        put_prices,
+    )
 }
 
 // What the bond is worth without its calls.

@@ -20,6 +20,9 @@ pub extern "C" fn gutirapeo_spread_from_price(
     call_starts: &[u32],
     call_ends: &[u32],
     call_strikes: &[f64],
+    put_starts: &[u32],
+    put_ends: &[u32],
+    put_strikes: &[f64],
     steps_per_year: u32,
     max_steps: u32,
     alpha: f64,
@@ -37,7 +40,7 @@ pub extern "C" fn gutirapeo_spread_from_price(
     tried: &mut u32,
 ) -> u32
     ensures { λ r. ⌜ HandedSpread
-        (quotedIn (record { day = settlement; code = code }) (legIn «cashflow_days» «cashflow_kinds» «cashflow_amounts») units «steps_per_year» «max_steps» alpha
+        (quotedIn (record { day = settlement; code = code }) (legIn «cashflow_days» «cashflow_kinds» «cashflow_amounts») units (callsIn «put_starts» «put_ends» «put_strikes») «steps_per_year» «max_steps» alpha
         (sigmaIn «sigma_times» sigmas) target (pillarsIn «pillar_days» «pillar_factors»))
         (callsIn «call_starts» «call_ends» «call_strikes»)
         (lentIn nodes probabilities «first_row» «second_row»)
@@ -56,6 +59,9 @@ pub extern "C" fn gutirapeo_spread_from_price(
         call_starts,
         call_ends,
         call_strikes,
+        put_starts,
+        put_ends,
+        put_strikes,
         steps_per_year,
         max_steps,
         alpha,

@@ -31,6 +31,9 @@ pub extern "C" fn gutirapeo_closing_line(
     call_starts: &[u32],
     call_ends: &[u32],
     call_strikes: &[f64],
+    put_starts: &[u32],
+    put_ends: &[u32],
+    put_strikes: &[f64],
     steps_per_year: u32,
     max_steps: u32,
     alpha: f64,
@@ -48,7 +51,7 @@ pub extern "C" fn gutirapeo_closing_line(
 ) -> u32
     ensures { λ r. ⌜ HandedSheet
         bond
-        (marketIn (record { day = settlement; code = code }) (legIn «cashflow_days» «cashflow_kinds» «cashflow_amounts») units «steps_per_year» «max_steps» alpha
+        (marketIn (record { day = settlement; code = code }) (legIn «cashflow_days» «cashflow_kinds» «cashflow_amounts») units (callsIn «put_starts» «put_ends» «put_strikes») «steps_per_year» «max_steps» alpha
         (sigmaIn «sigma_times» sigmas) spread (pillarsIn «pillar_days» «pillar_factors»))
         (callsIn «call_starts» «call_ends» «call_strikes»)
         (lentIn nodes probabilities «first_row» «second_row»)
@@ -68,6 +71,9 @@ pub extern "C" fn gutirapeo_closing_line(
         call_starts,
         call_ends,
         call_strikes,
+        put_starts,
+        put_ends,
+        put_strikes,
         steps_per_year,
         max_steps,
         alpha,

@@ -48,6 +48,9 @@ pub extern "C" fn gutirapeo_sizes(
     call_starts: &[u32],
     call_ends: &[u32],
     call_strikes: &[f64],
+    put_starts: &[u32],
+    put_ends: &[u32],
+    put_strikes: &[f64],
     steps_per_year: u32,
     max_steps: u32,
     alpha: f64,
@@ -64,7 +67,7 @@ pub extern "C" fn gutirapeo_sizes(
     node_count: &mut u64,
 ) -> u32
     ensures { λ r. ⌜ HandedSizes
-        (marketIn (record { day = settlement; code = code }) (legIn «cashflow_days» «cashflow_kinds» «cashflow_amounts») units «steps_per_year» «max_steps» alpha
+        (marketIn (record { day = settlement; code = code }) (legIn «cashflow_days» «cashflow_kinds» «cashflow_amounts») units (callsIn «put_starts» «put_ends» «put_strikes») «steps_per_year» «max_steps» alpha
         (sigmaIn «sigma_times» sigmas) spread (pillarsIn «pillar_days» «pillar_factors»))
         (callsIn «call_starts» «call_ends» «call_strikes»)
         (now (nodes .entry))
@@ -83,6 +86,9 @@ pub extern "C" fn gutirapeo_sizes(
         call_starts,
         call_ends,
         call_strikes,
+        put_starts,
+        put_ends,
+        put_strikes,
         steps_per_year,
         max_steps,
         alpha,

@@ -7,7 +7,7 @@ ghost use Rattle.terms.specs.declared.Settlement.{Settlement};
 ghost use Rattle.terms.specs.Slices.{legIn, callsIn, sigmaIn, pillarsIn, marketIn};
 ghost use Rattle.treebasedbondpricer.specs.Slices.{lentIn, lentOut};
 
-// What the bond is worth with its calls, and the nodes of the tree.
+// What the bond is worth with its calls and puts, and the nodes of the tree.
 #[no_mangle]
 pub extern "C" fn gutirapeo_tree_value(
     settlement: u32,
@@ -19,6 +19,9 @@ pub extern "C" fn gutirapeo_tree_value(
     call_starts: &[u32],
     call_ends: &[u32],
     call_strikes: &[f64],
+    put_starts: &[u32],
+    put_ends: &[u32],
+    put_strikes: &[f64],
     steps_per_year: u32,
     max_steps: u32,
     alpha: f64,
@@ -36,7 +39,7 @@ pub extern "C" fn gutirapeo_tree_value(
     node_count: &mut u64,
 ) -> u32
     ensures { λ r. ⌜ HandedTree
-        (marketIn (record { day = settlement; code = code }) (legIn «cashflow_days» «cashflow_kinds» «cashflow_amounts») units «steps_per_year» «max_steps» alpha
+        (marketIn (record { day = settlement; code = code }) (legIn «cashflow_days» «cashflow_kinds» «cashflow_amounts») units (callsIn «put_starts» «put_ends» «put_strikes») «steps_per_year» «max_steps» alpha
         (sigmaIn «sigma_times» sigmas) spread (pillarsIn «pillar_days» «pillar_factors»))
         (callsIn «call_starts» «call_ends» «call_strikes»)
         (lentIn nodes probabilities «first_row» «second_row»)
@@ -55,6 +58,9 @@ pub extern "C" fn gutirapeo_tree_value(
         call_starts,
         call_ends,
         call_strikes,
+        put_starts,
+        put_ends,
+        put_strikes,
         steps_per_year,
         max_steps,
         alpha,

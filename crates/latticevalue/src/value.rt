@@ -1,8 +1,8 @@
 // lattice_value: the tree's value of a grid, and the nodes of all layers.
 
 use bondevents::BondEventGrid;
-use bondevents::marks::marks_of;
-use bondevents::marks::prices_of;
+use bondevents::marks::step_marks;
+use bondevents::marks::step_prices;
 use floats::Answer;
 use floats::refusals::refusal_of;
 use latticetransitions::transitions::node_count;
@@ -54,7 +54,7 @@ fn value_over(
     first: &mut [f64],
     second: &mut [f64],
 ) -> TreeValue
-    requires { ⌜ (0 < steps) × (steps ≤ 512) × (length (now cashflows) ≡ 513) × (length (now marks) ≡ 513) × (length (now prices) ≡ 513) ⌝ }
+    requires { ⌜ (0 < steps) × (steps ≤ 512) × (length (now cashflows) ≡ 513) × (length (now marks) ≡ 513) × (length (now prices) ≡ 1026) ⌝ }
     requires { ⌜ (length (now counts) ≡ steps + 1) × (length (now spacings) ≡ steps) × (length (now shifts) ≡ steps) ⌝ }
     ensures { λ r. ⌜ r ≡ treeOf (follow (finiteThen (div binary64 maturity (float steps)) 0 λ dt. fittedOver (curveOver (now («curve_times» .entry)) (now (factors .entry))) (modelOf alpha (now (times .entry)) (now (sigmas .entry))) (roomLeft (now (nodes .entry)) (now (probabilities .entry)) (length (now (first .entry))) (length (now (second .entry)))) steps dt) λ f. walked spread (now (cashflows .entry)) (callsOf (now (marks .entry)) (now (prices .entry))) f) ⌝ }
 {
@@ -116,8 +116,8 @@ pub fn lattice_value(
     let steps = grid.steps;
     let cashflows = grid.cashflows;
     let calls = grid.calls;
-    let marks = marks_of(calls);
-    let prices = prices_of(calls);
+    let marks = step_marks(calls);
+    let prices = step_prices(calls);
     let mut counts = [0usize; 513];
     let mut spacings = [0.0; 512];
     let mut shifts = [0.0; 512];

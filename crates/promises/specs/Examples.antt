@@ -16,7 +16,7 @@ use Rattle.elementary.specs.Exponential.{expAlone, expAt}
 use Rattle.elementary.specs.Logarithm.{lnAlone, lnAt}
 use Rattle.rounded.specs.Fused.{mulAddAlone, mulAdd}
 use Rattle.terms.specs.declared.Settlement.{Settlement}
-use Rattle.terms.specs.Terms.{Leg, CallSchedule, SigmaSchedule, Pillars, Bond, TimeGrid, HullWhite, Market}
+use Rattle.terms.specs.Terms.{Leg, CallSchedule, SigmaSchedule, Pillars, Bond, TimeGrid, HullWhite, Market, noEntries}
 use Rattle.terms.specs.Numbers.{float, epsilon}
 use Rattle.terms.specs.Checks.{lowest, onCheck}
 use Rattle.terms.specs.Outcomes.{Outcome, given, refused, onOutcome}
@@ -59,6 +59,7 @@ bondOn day =
     record {
       leg = record { days = day ∷ day ∷ []; kinds = 0 ∷ 1 ∷ []; amounts = float 5 ∷ float 100 ∷ [] };
       units = float 100;
+      puts = noEntries;
     }
 
 -- Day 0, times by Actual/365.

@@ -26,7 +26,9 @@ pub record GridCall (m : Market) (calls : CallSchedule) : Type 0 where
   pub cashflows : List Float
   pub marks : List ℕ
   pub prices : List Float
-  pub handed : HandedGrid (gridAnswer (m .settlement) (m .bond) calls (m .controls)) number place maturity steps cashflows marks prices
+  pub put-marks : List ℕ
+  pub put-prices : List Float
+  pub handed : HandedGrid (gridAnswer (m .settlement) (m .bond) calls (m .controls)) number place maturity steps cashflows marks prices put-marks put-prices
 
 -- gutirapeo_tree_value
 pub record TreeCall (m : Market) (calls : CallSchedule) : Type 0 where
@@ -88,7 +90,7 @@ HostCallListRule =
 
 -- ---- reordering
 
-pub record SameGrids {m : Market} {first second : CallSchedule} (a : GridCall m first) (b : GridCall m second) : Type 0 where
+pub record SameGrids {m n : Market} {first second : CallSchedule} (a : GridCall m first) (b : GridCall n second) : Type 0 where
   pub number : b .number ≡ a .number
   pub place : b .place ≡ a .place
   pub maturity : b .maturity ≡ a .maturity
@@ -96,30 +98,32 @@ pub record SameGrids {m : Market} {first second : CallSchedule} (a : GridCall m 
   pub cashflows : b .cashflows ≡ a .cashflows
   pub marks : b .marks ≡ a .marks
   pub prices : b .prices ≡ a .prices
+  pub put-marks : b .put-marks ≡ a .put-marks
+  pub put-prices : b .put-prices ≡ a .put-prices
 
 -- With slices as long; where they also hold the same before, they hold the same afterwards.
-pub record SameValues {m : Market} {first second : CallSchedule} (a : TreeCall m first) (b : TreeCall m second) : Type 0 where
+pub record SameValues {m n : Market} {first second : CallSchedule} (a : TreeCall m first) (b : TreeCall n second) : Type 0 where
   pub number : b .number ≡ a .number
   pub place : b .place ≡ a .place
   pub value : b .value ≡ a .value
   pub nodes : b .nodes ≡ a .nodes
   pub slices : b .lent ≡ a .lent → b .left ≡ a .left
 
-pub record SameSpreads {m : Market} {target : Float} {first second : CallSchedule} (a : SpreadCall m target first) (b : SpreadCall m target second) : Type 0 where
+pub record SameSpreads {m n : Market} {target : Float} {first second : CallSchedule} (a : SpreadCall m target first) (b : SpreadCall n target second) : Type 0 where
   pub number : b .number ≡ a .number
   pub place : b .place ≡ a .place
   pub spread : b .spread ≡ a .spread
   pub tried : b .tried ≡ a .tried
   pub slices : b .lent ≡ a .lent → b .left ≡ a .left
 
-pub record SameLines {bond : ℕ} {m : Market} {first second : CallSchedule} (a : SheetCall bond m first) (b : SheetCall bond m second) : Type 0 where
+pub record SameLines {bond : ℕ} {m n : Market} {first second : CallSchedule} (a : SheetCall bond m first) (b : SheetCall bond n second) : Type 0 where
   pub number : b .number ≡ a .number
   pub place : b .place ≡ a .place
   pub line : b .line ≡ a .line
   pub slices : b .lent ≡ a .lent → b .left ≡ a .left
 
 -- With a node slice as long; where it also holds the same before, it holds the same afterwards.
-pub record SameSizes {m : Market} {first second : CallSchedule} (a : SizesCall m first) (b : SizesCall m second) : Type 0 where
+pub record SameSizes {m n : Market} {first second : CallSchedule} (a : SizesCall m first) (b : SizesCall n second) : Type 0 where
   pub number : b .number ≡ a .number
   pub place : b .place ≡ a .place
   pub nodes : b .nodes ≡ a .nodes

@@ -5,6 +5,8 @@ pub mod MonthEnds
 pub mod Rooms
 pub mod RefusalNumbers
 pub mod Probabilities
+pub mod Callable
+pub mod Puts
 pub mod NoticeLists
 pub mod SpreadReordering
 pub mod Evaluations

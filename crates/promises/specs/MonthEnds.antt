@@ -14,12 +14,12 @@ use Rattle.elementary.specs.Logarithm.{lnAt}
 use Rattle.calendar.specs.Calendar.{thirties}
 use Rattle.terms.specs.declared.Settlement.{Settlement}
 use Rattle.terms.specs.Numbers.{float}
-use Rattle.terms.specs.Terms.{Leg, CallSchedule, Pillars, Bond, TimeGrid}
+use Rattle.terms.specs.Terms.{Leg, CallSchedule, Pillars, Bond, TimeGrid, noEntries}
 use Rattle.terms.specs.Times.{timeFrom, yearFraction}
 use Rattle.terms.specs.Checks.{lowest, onCheck}
 use Rattle.terms.specs.Outcomes.{onOutcome}
 use Rattle.terms.specs.Curve.{curveOver}
-use Rattle.bondevents.specs.declared.CallStep.{CallStep}
+use Rattle.bondevents.specs.declared.Exercise.{Exercise}
 use Rattle.bondevents.specs.Steps.{rawStep, paidInto}
 use Rattle.bondevents.specs.Calls.{newStep}
 use Rattle.bondevents.specs.Grid.{gridAnswer}
@@ -43,13 +43,13 @@ abbrev pillarsOn : ℕ → ℕ → Pillars
 pillarsOn first last = record { days = first ∷ last ∷ []; factors = one ∷ one ∷ [] }
 
 -- The calls of the grid of 100 redeemed on one day, by 30E/360 from 30 January 1900, and its refusal.
-abbrev callAt : ℕ → CallSchedule → ℕ → ℕ → CallStep
+abbrev callAt : ℕ → CallSchedule → ℕ → ℕ → Exercise
 callAt day calls yearly step =
-    getD (gridAnswer (by 2 29) (record { leg = redeemed day; units = float 100 }) calls (record { perYear = yearly; maximum = 512 }) .grid .calls) step newStep
+    getD (gridAnswer (by 2 29) (record { leg = redeemed day; units = float 100; puts = noEntries }) calls (record { perYear = yearly; maximum = 512 }) .grid .calls) step newStep .call
 
 abbrev numberOf : ℕ → CallSchedule → ℕ → ℕ
 numberOf day calls yearly =
-    gridAnswer (by 2 29) (record { leg = redeemed day; units = float 100 }) calls (record { perYear = yearly; maximum = 512 }) .refusal .number
+    gridAnswer (by 2 29) (record { leg = redeemed day; units = float 100; puts = noEntries }) calls (record { perYear = yearly; maximum = 512 }) .refusal .number
 
 pub record Starred : Type 0 where
   -- 30E: no day from 30 to 31 January 1900, nor back; 3 from 28 February 1901 to 1 March; 31 from 29 February 1904 to 31 March; 30 from 31 December 1900 to 31 January.

@@ -22,7 +22,7 @@ pub record Among (numbers : List ℕ) (n : ℕ) : Type 0 where
 
 -- The tree value's.
 abbrev pub treeRefusals : List ℕ
-treeRefusals = 1 ∷ 2 ∷ 3 ∷ 4 ∷ 5 ∷ 6 ∷ 7 ∷ 8 ∷ 20 ∷ 21 ∷ 22 ∷ 23 ∷ 25 ∷ 26 ∷ 27 ∷ 33 ∷ 34 ∷ 35 ∷ 44 ∷ []
+treeRefusals = 1 ∷ 2 ∷ 3 ∷ 4 ∷ 5 ∷ 6 ∷ 7 ∷ 8 ∷ 20 ∷ 21 ∷ 22 ∷ 23 ∷ 25 ∷ 26 ∷ 27 ∷ 33 ∷ 34 ∷ 35 ∷ 37 ∷ 38 ∷ 44 ∷ []
 
 -- A spread's: these, no bracket, and a spread above 1.
 abbrev pub spreadRefusals : List ℕ

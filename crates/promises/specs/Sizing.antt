@@ -91,9 +91,9 @@ SizingRule = (m : Market) (calls : CallSchedule) (s : SizesCall m calls) → s .
 
 -- ---- its refusals
 
--- All input checks; it makes no call prices and reads no curve, so it never answers 20 or 25.
+-- All input checks; it makes no prices of calls or puts and reads no curve, so it never answers 20, 25 or 38.
 abbrev pub sizingRefusals : List ℕ
-sizingRefusals = 1 ∷ 2 ∷ 3 ∷ 4 ∷ 5 ∷ 6 ∷ 7 ∷ 8 ∷ 21 ∷ 22 ∷ 23 ∷ 26 ∷ 27 ∷ 33 ∷ 34 ∷ 35 ∷ 44 ∷ []
+sizingRefusals = 1 ∷ 2 ∷ 3 ∷ 4 ∷ 5 ∷ 6 ∷ 7 ∷ 8 ∷ 21 ∷ 22 ∷ 23 ∷ 26 ∷ 27 ∷ 33 ∷ 34 ∷ 35 ∷ 37 ∷ 44 ∷ []
 
 abbrev pub SizingNumbers : Type 0
 SizingNumbers = (m : Market) (calls : CallSchedule) (s : SizesCall m calls) → Among (0 ∷ sizingRefusals) (s .number)

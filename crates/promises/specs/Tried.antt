@@ -4,6 +4,7 @@ use mathlib.Core.Path.{_≡_, refl}
 use mathlib.Core.Bool.{cond}
 use mathlib.Core.List.{List, [], _∷_}
 use lib.Ieee.{Float, binary64, ofBits, lt}
+use lib.ListN.{replicate}
 use lib.Ieee as ieee
 use Rattle.floats.specs.declared.Answer.the-variants as answer
 use Rattle.floats.specs.Answers.{onAnswer, one}
@@ -13,7 +14,7 @@ use Rattle.elementary.specs.Exponential.{expAt, expM1At}
 use Rattle.elementary.specs.Logarithm.{lnAt}
 use Rattle.calendar.specs.Calendar.{thirties}
 use Rattle.terms.specs.declared.Settlement.{Settlement}
-use Rattle.terms.specs.Terms.{Leg, CallSchedule, Pillars, TimeGrid, Market}
+use Rattle.terms.specs.Terms.{Leg, CallSchedule, Pillars, TimeGrid, Market, noEntries, withPuts}
 use Rattle.terms.specs.Numbers.{float}
 use Rattle.terms.specs.Checks.{lowest, onCheck}
 use Rattle.terms.specs.Outcomes.{onOutcome}
@@ -21,7 +22,7 @@ use Rattle.terms.specs.Curve.{curveOver}
 use Rattle.bondevents.specs.Steps.{paidInto, rawStep}
 use Rattle.treebasedbondpricer.specs.declared.TreeValue.the-variants as tree
 use Rattle.lattice.specs.Layers.{Room}
-use Rattle.treebasedbondpricer.specs.Tree.{treeValue}
+use Rattle.treebasedbondpricer.specs.Tree.{treeValue, numberOf}
 use Rattle.bondpricer.specs.Straight.{straightValue}
 use Rattle.interestrate.specs.declared.YieldPrice.the-variants as price
 use Rattle.brackets.specs.declared.Root.the-variants as root
@@ -55,7 +56,7 @@ abbrev marketBy : Settlement → Leg → Float → TimeGrid → Float → List F
 marketBy settlement leg units controls alpha times sigmas spread pillars =
     record {
       settlement = settlement;
-      bond = record { leg = leg; units = units };
+      bond = record { leg = leg; units = units; puts = noEntries };
       controls = controls;
       model = record { alpha = alpha; sigma = record { times = times; sigmas = sigmas } };
       spread = spread;
@@ -170,6 +171,21 @@ number-34 = refl
 pub number-35 : treeValue (marketBy (thirty 29) (leg (30 ∷ []) (1 ∷ []) ((float 100) ∷ [])) (float 100) (steps 2 512) (ofBits binary64 0x3fb999999999999a) ((float 0) ∷ []) ((ofBits binary64 0x3f847ae147ae147b) ∷ []) (float 0) (pillars (29 ∷ 40 ∷ []) ((float 1) ∷ (float 1) ∷ []))) (calls [] [] []) (room 64 96 9 9) ≡ tree.Refused (record { number = 35; place = 0 })
 unfolding treeValue paidInto rawStep curveOver onOutcome onCheck lowest onAnswer rounded thirties ieee.ofBits ieee.add ieee.sub ieee.mul ieee.div ieee.neg ieee.lt ieee.le ieee.eq ieee.ofInt ieee.toSigned
 number-35 = refl
+
+-- 65 puts.
+pub number-37 : treeValue (withPuts (market 100 (leg (465 ∷ []) (1 ∷ []) ((float 100) ∷ [])) (float 100) (steps 2 512) (ofBits binary64 0x3fb999999999999a) ((float 0) ∷ []) ((ofBits binary64 0x3f847ae147ae147b) ∷ []) (float 0) (pillars (100 ∷ 465 ∷ []) ((float 1) ∷ (float 1) ∷ []))) (calls (replicate 65 465) (replicate 65 465) (replicate 65 (float 99)))) (calls [] [] []) (room 64 96 9 9) ≡ tree.Refused (record { number = 37; place = 0 })
+unfolding treeValue paidInto rawStep curveOver onOutcome onCheck lowest onAnswer rounded thirties ieee.ofBits ieee.add ieee.sub ieee.mul ieee.div ieee.neg ieee.lt ieee.le ieee.eq ieee.ofInt ieee.toSigned
+number-37 = refl
+
+-- A put at 101 beside a call at 99: the day's step is 2.
+pub number-38 : treeValue (withPuts (market 100 (leg (465 ∷ 830 ∷ []) (0 ∷ 1 ∷ []) ((float 5) ∷ (float 100) ∷ [])) (float 100) (steps 2 512) (ofBits binary64 0x3fb999999999999a) ((float 0) ∷ []) ((ofBits binary64 0x3f847ae147ae147b) ∷ []) (float 0) (pillars (100 ∷ 830 ∷ []) ((float 1) ∷ (float 1) ∷ []))) (calls (465 ∷ []) (465 ∷ []) ((float 101) ∷ []))) (calls (465 ∷ []) (465 ∷ []) ((float 99) ∷ [])) (room 64 96 9 9) ≡ tree.Refused (record { number = 38; place = 2 })
+unfolding treeValue paidInto rawStep curveOver onOutcome onCheck lowest onAnswer rounded thirties ieee.ofBits ieee.add ieee.sub ieee.mul ieee.div ieee.neg ieee.lt ieee.le ieee.eq ieee.ofInt ieee.toSigned
+number-38 = refl
+
+-- Once the call is dropped, the same puts are accepted.
+gone-38 : numberOf (treeValue (withPuts (market 100 (leg (465 ∷ 830 ∷ []) (0 ∷ 1 ∷ []) ((float 5) ∷ (float 100) ∷ [])) (float 100) (steps 2 512) (ofBits binary64 0x3fb999999999999a) ((float 0) ∷ []) ((ofBits binary64 0x3f847ae147ae147b) ∷ []) (float 0) (pillars (100 ∷ 830 ∷ []) ((float 1) ∷ (float 1) ∷ []))) (calls (465 ∷ []) (465 ∷ []) ((float 101) ∷ []))) (calls [] [] []) (room 64 96 9 9)) ≡ 0
+unfolding treeValue paidInto rawStep curveOver expAt expM1At lnAt sqrtAt onOutcome onCheck lowest onAnswer rounded ieee.ofBits ieee.add ieee.sub ieee.mul ieee.div ieee.neg ieee.lt ieee.le ieee.ofInt ieee.toSigned
+gone-38 = refl
 
 pub number-44 : treeValue (market 100 (leg (465 ∷ 830 ∷ 830 ∷ []) (0 ∷ 0 ∷ 1 ∷ []) ((float 5) ∷ (float 5) ∷ (float 100) ∷ [])) (float 100) (steps 2 512) (ofBits binary64 0x3fb999999999999a) ((float 0) ∷ (float 1) ∷ []) ((ofBits binary64 0x3f847ae147ae147b) ∷ (ofBits binary64 0x3f889374bc6a7efa) ∷ []) (ofBits binary64 0x3f747ae147ae147b) (pillars (100 ∷ 465 ∷ 900 ∷ []) ((float 1) ∷ (ofBits binary64 0x3fef0a3d70a3d70a) ∷ (ofBits binary64 0xbfedc28f5c28f5c3) ∷ []))) (calls (465 ∷ []) (465 ∷ []) ((float 101) ∷ [])) (room 64 96 9 9) ≡ tree.Refused (record { number = 44; place = 2 })
 unfolding treeValue paidInto rawStep curveOver expAt expM1At lnAt sqrtAt onOutcome onCheck lowest onAnswer rounded ieee.ofBits ieee.add ieee.sub ieee.mul ieee.div ieee.neg ieee.lt ieee.le ieee.ofInt ieee.toSigned

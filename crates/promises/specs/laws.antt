@@ -23,6 +23,8 @@ pub mod SizedValues
 pub mod SizedSpreads
 pub mod SizingNumbers
 pub mod HostCallLists
+pub mod Puts
+pub mod WithoutPuts
 pub mod ClosingSheet
 pub mod Sizing
 pub mod SortedSets

@@ -30,17 +30,17 @@ fn is_answer(answer: Answer, number: u32, place: u32, value: f64) -> bool {
     }
 }
 
-pub(crate) fn same(kind: u64, record: &[u8; 1280]) -> bool {
+pub(crate) fn same(kind: u64, record: &[u8; 1784]) -> bool {
     let answer = answer_to(
         kind,
-        float(record, 73),
-        float(record, 74),
-        float(record, 75),
+        float(record, 86),
+        float(record, 87),
+        float(record, 88),
     );
     is_answer(
         answer,
-        number(record, 80),
-        number(record, 81),
-        float(record, 82),
+        number(record, 93),
+        number(record, 94),
+        float(record, 95),
     )
 }

@@ -6,10 +6,10 @@ use crate::record::number;
 ghost use mathlib.Core.Path.{_≡_};
 ghost use lib.ListN.{length};
 
-pub(crate) fn eight_numbers(r: &[u8; 1280], at: usize) -> [u32; 8]
+pub(crate) fn eight_numbers(r: &[u8; 1784], at: usize) -> [u32; 8]
     ensures { λ r. ⌜ length r ≡ 8 ⌝ }
 {
-    if at > 150 {
+    if at > 213 {
         return [0; 8];
     }
     [
@@ -24,10 +24,10 @@ pub(crate) fn eight_numbers(r: &[u8; 1280], at: usize) -> [u32; 8]
     ]
 }
 
-pub(crate) fn eight_bytes(r: &[u8; 1280], at: usize) -> [u8; 8]
+pub(crate) fn eight_bytes(r: &[u8; 1784], at: usize) -> [u8; 8]
     ensures { λ r. ⌜ length r ≡ 8 ⌝ }
 {
-    if at > 150 {
+    if at > 213 {
         return [0; 8];
     }
     [
@@ -42,10 +42,10 @@ pub(crate) fn eight_bytes(r: &[u8; 1280], at: usize) -> [u8; 8]
     ]
 }
 
-pub(crate) fn eight_floats(r: &[u8; 1280], at: usize) -> [f64; 8]
+pub(crate) fn eight_floats(r: &[u8; 1784], at: usize) -> [f64; 8]
     ensures { λ r. ⌜ length r ≡ 8 ⌝ }
 {
-    if at > 150 {
+    if at > 213 {
         return [0.0; 8];
     }
     [

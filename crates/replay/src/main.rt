@@ -16,7 +16,7 @@ use crate::record::word;
 use crate::report::Tally;
 
 // One more record in the tally. A record with a NaN in it counts as differing.
-fn tallied(tally: Tally, record: &[u8; 1280]) -> Tally {
+fn tallied(tally: Tally, record: &[u8; 1784]) -> Tally {
     let kind = word(record, 0);
     if kind == 0 {
         return tally.unknown();
@@ -74,7 +74,7 @@ struct Reading {
 
 // Reads one record. One that is cut short counts as unknown.
 fn read_one(tally: Tally) -> Reading {
-    let mut record = [0u8; 1280];
+    let mut record = [0u8; 1784];
     let got = io::read_full(0, &mut record);
     if got == 0 {
         return Reading {
@@ -82,7 +82,7 @@ fn read_one(tally: Tally) -> Reading {
             more: false,
         };
     }
-    if got < 1280 {
+    if got < 1784 {
         let cut = tally.unknown();
         return Reading {
             tally: cut,

@@ -8,16 +8,16 @@ use callnotices::CallList;
 use callnotices::entry::call_list;
 
 // Whether a place of the list is what the record holds of it; past the eighth it is zero.
-fn same_place(record: &[u8; 1280], place: usize, start: u32, end: u32, strike: f64) -> bool {
+fn same_place(record: &[u8; 1784], place: usize, start: u32, end: u32, strike: f64) -> bool {
     if place > 7 {
         return start == 0 && end == 0 && strike == 0.0;
     }
-    start == number(record, 85 + place)
-        && end == number(record, 93 + place)
-        && strike == float(record, 101 + place)
+    start == number(record, 98 + place)
+        && end == number(record, 106 + place)
+        && strike == float(record, 114 + place)
 }
 
-fn same_places(answer: CallList, record: &[u8; 1280]) -> bool {
+fn same_places(answer: CallList, record: &[u8; 1784]) -> bool {
     let starts = answer.starts;
     let ends = answer.ends;
     let strikes = answer.strikes;
@@ -31,22 +31,22 @@ fn same_places(answer: CallList, record: &[u8; 1280]) -> bool {
     true
 }
 
-fn same_list(answer: CallList, record: &[u8; 1280]) -> bool {
+fn same_list(answer: CallList, record: &[u8; 1784]) -> bool {
     let refusal = answer.refusal;
-    if refusal.number != number(record, 80) {
+    if refusal.number != number(record, 93) {
         return false;
     }
-    if refusal.place != number(record, 81) {
+    if refusal.place != number(record, 94) {
         return false;
     }
-    if answer.count != number(record, 84) {
+    if answer.count != number(record, 97) {
         return false;
     }
     same_places(answer, record)
 }
 
 // The notices that a record holds: of each list the first `count`.
-pub(crate) fn same(record: &[u8; 1280]) -> bool {
+pub(crate) fn same(record: &[u8; 1784]) -> bool {
     let count = number(record, 1) as usize;
     if count > 8 {
         return false;

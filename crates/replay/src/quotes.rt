@@ -21,7 +21,7 @@ fn is_answer(answer: Root, number: u32, place: u32, spread: f64, tried: u32) -> 
 
 // Whether the inputs that a record holds are answered with what it holds; no list may be longer than its places.
 pub(crate) fn answered(
-    record: &[u8; 1280],
+    record: &[u8; 1784],
     nodes: &mut [i32],
     probabilities: &mut [f64],
     first: &mut [f64],
@@ -29,12 +29,16 @@ pub(crate) fn answered(
 ) -> bool {
     let flows = number(record, 3) as usize;
     let entries = number(record, 29) as usize;
-    let levels = number(record, 45) as usize;
-    let points = number(record, 55) as usize;
+    let rights = number(record, 42) as usize;
+    let levels = number(record, 58) as usize;
+    let points = number(record, 68) as usize;
     if flows > 8 {
         return false;
     }
     if entries > 4 {
+        return false;
+    }
+    if rights > 4 {
         return false;
     }
     if levels > 4 {
@@ -49,10 +53,13 @@ pub(crate) fn answered(
     let starts = eight_numbers(record, 30);
     let ends = eight_numbers(record, 34);
     let strikes = eight_floats(record, 38);
-    let times = eight_floats(record, 46);
-    let sigmas = eight_floats(record, 50);
-    let pillars = eight_numbers(record, 56);
-    let factors = eight_floats(record, 64);
+    let put_starts = eight_numbers(record, 43);
+    let put_ends = eight_numbers(record, 47);
+    let put_strikes = eight_floats(record, 51);
+    let times = eight_floats(record, 59);
+    let sigmas = eight_floats(record, 63);
+    let pillars = eight_numbers(record, 69);
+    let factors = eight_floats(record, 77);
     let answer = spreads::spreads::spread_from_price(
         settlement_of(record),
         &days[..flows],
@@ -62,12 +69,15 @@ pub(crate) fn answered(
         &starts[..entries],
         &ends[..entries],
         &strikes[..entries],
-        number(record, 42),
-        number(record, 43),
-        float(record, 44),
+        &put_starts[..rights],
+        &put_ends[..rights],
+        &put_strikes[..rights],
+        number(record, 55),
+        number(record, 56),
+        float(record, 57),
         &times[..levels],
         &sigmas[..levels],
-        float(record, 54),
+        float(record, 67),
         &pillars[..points],
         &factors[..points],
         nodes,
@@ -77,9 +87,9 @@ pub(crate) fn answered(
     );
     is_answer(
         answer,
-        number(record, 80),
-        number(record, 81),
-        float(record, 82),
-        number(record, 84),
+        number(record, 93),
+        number(record, 94),
+        float(record, 95),
+        number(record, 97),
     )
 }

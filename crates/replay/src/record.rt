@@ -1,4 +1,4 @@
-// A record of the sample: 160 words of 64 bits, little-endian. A word past the end is 0.
+// A record of the sample: 223 words of 64 bits, little-endian. A word past the end is 0.
 ghost use Prim.Native.Nat.{_<_};
 use terms::Settlement;
 
@@ -9,10 +9,10 @@ fn wide(byte: u8) -> u64
 }
 
 // Four bytes from `at` on.
-fn half(record: &[u8; 1280], at: usize) -> u64
+fn half(record: &[u8; 1784], at: usize) -> u64
     ensures { λ r. ⌜ r < 4294967296 ⌝ }
 {
-    if at > 1276 {
+    if at > 1780 {
         return 0;
     }
     let first = wide(record[at]);
@@ -22,8 +22,8 @@ fn half(record: &[u8; 1280], at: usize) -> u64
     first + second * 256 + third * 65536 + fourth * 16777216
 }
 
-pub(crate) fn word(record: &[u8; 1280], at: usize) -> u64 {
-    if at > 159 {
+pub(crate) fn word(record: &[u8; 1784], at: usize) -> u64 {
+    if at > 222 {
         return 0;
     }
     let low = half(record, at * 8);
@@ -32,7 +32,7 @@ pub(crate) fn word(record: &[u8; 1280], at: usize) -> u64 {
 }
 
 // A word as a number of 32 bits, the greatest where it does not fit.
-pub(crate) fn number(record: &[u8; 1280], at: usize) -> u32 {
+pub(crate) fn number(record: &[u8; 1784], at: usize) -> u32 {
     let n = word(record, at);
     if n > 4294967295 {
         return 4294967295;
@@ -41,7 +41,7 @@ pub(crate) fn number(record: &[u8; 1280], at: usize) -> u32 {
 }
 
 // The settlement day and the day count's code, the first two words behind the kind.
-pub(crate) fn settlement_of(record: &[u8; 1280]) -> Settlement {
+pub(crate) fn settlement_of(record: &[u8; 1784]) -> Settlement {
     Settlement {
         day: number(record, 1),
         code: number(record, 2),
@@ -49,7 +49,7 @@ pub(crate) fn settlement_of(record: &[u8; 1280]) -> Settlement {
 }
 
 // A word as a byte, the greatest where it does not fit.
-pub(crate) fn byte(record: &[u8; 1280], at: usize) -> u8 {
+pub(crate) fn byte(record: &[u8; 1784], at: usize) -> u8 {
     let n = word(record, at);
     if n > 255 {
         return 255;
@@ -62,7 +62,7 @@ fn is_nan(bits: u64) -> bool {
 }
 
 // A word as a double, 0 where its bits are a NaN's.
-pub(crate) fn float(record: &[u8; 1280], at: usize) -> f64 {
+pub(crate) fn float(record: &[u8; 1784], at: usize) -> f64 {
     let bits = word(record, at);
     if bits % 9223372036854775808 > 9218868437227405312 {
         return 0.0;
@@ -71,9 +71,9 @@ pub(crate) fn float(record: &[u8; 1280], at: usize) -> f64 {
 }
 
 // Whether some word of the record is a NaN's bits. No other word is as large as that.
-pub(crate) fn any_nan(record: &[u8; 1280]) -> bool {
+pub(crate) fn any_nan(record: &[u8; 1784]) -> bool {
     let mut at: usize = 0;
-    while at < 160 {
+    while at < 223 {
         if is_nan(word(record, at)) {
             return true;
         }

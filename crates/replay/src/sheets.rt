@@ -8,7 +8,7 @@ use floats::Refusal;
 use treebasedbondpricer::TreeValue;
 
 // The answer that a record holds.
-fn answer(record: &[u8; 1280]) -> TreeValue {
+fn answer(record: &[u8; 1784]) -> TreeValue {
     if number(record, 2) == 0 {
         return TreeValue::Value(float(record, 3), word(record, 4));
     }
@@ -19,10 +19,10 @@ fn answer(record: &[u8; 1280]) -> TreeValue {
 }
 
 // Whether a line is the 35 bytes that a record holds.
-fn same_bytes(line: [u8; 35], record: &[u8; 1280]) -> bool {
+fn same_bytes(line: [u8; 35], record: &[u8; 1784]) -> bool {
     let mut i: usize = 0;
     while i < 35 {
-        if line[i] != record[656 + i] {
+        if line[i] != record[760 + i] {
             return false;
         }
         i += 1;
@@ -30,13 +30,13 @@ fn same_bytes(line: [u8; 35], record: &[u8; 1280]) -> bool {
     true
 }
 
-pub(crate) fn same(record: &[u8; 1280]) -> bool {
+pub(crate) fn same(record: &[u8; 1784]) -> bool {
     let filed = line_of(number(record, 1), answer(record));
     let refusal = filed.refusal;
-    if refusal.number != number(record, 80) {
+    if refusal.number != number(record, 93) {
         return false;
     }
-    if refusal.place != number(record, 81) {
+    if refusal.place != number(record, 94) {
         return false;
     }
     let line = filed.line;

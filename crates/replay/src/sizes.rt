@@ -12,35 +12,39 @@ use crate::trees::of_input;
 use sizing::Lengths;
 use sizing::Sizes;
 
-fn are_lengths(l: Lengths, record: &[u8; 1280]) -> bool {
-    l.nodes == word(record, 84)
-        && l.probabilities == word(record, 85)
-        && l.row == word(record, 86)
-        && l.count == word(record, 87)
+fn are_lengths(l: Lengths, record: &[u8; 1784]) -> bool {
+    l.nodes == word(record, 97)
+        && l.probabilities == word(record, 98)
+        && l.row == word(record, 99)
+        && l.count == word(record, 100)
 }
 
 // Whether an answer is the number, the place and the lengths that a record holds.
-fn is_answer(answer: Sizes, record: &[u8; 1280]) -> bool {
+fn is_answer(answer: Sizes, record: &[u8; 1784]) -> bool {
     match answer {
-        Sizes::Sized(l) => number(record, 80) == 0
-            && number(record, 81) == 0
+        Sizes::Sized(l) => number(record, 93) == 0
+            && number(record, 94) == 0
             && are_lengths(l, record),
-        Sizes::Refused(refusal) => refusal.number == number(record, 80)
-            && refusal.place == number(record, 81)
-            && word(record, 87) == 0,
+        Sizes::Refused(refusal) => refusal.number == number(record, 93)
+            && refusal.place == number(record, 94)
+            && word(record, 100) == 0,
     }
 }
 
 // Whether the inputs that a record holds are answered with what it holds; no list may be longer than its places.
-fn answered(record: &[u8; 1280], nodes: &mut [i32]) -> bool {
+fn answered(record: &[u8; 1784], nodes: &mut [i32]) -> bool {
     let flows = number(record, 3) as usize;
     let entries = number(record, 29) as usize;
-    let levels = number(record, 45) as usize;
-    let points = number(record, 55) as usize;
+    let rights = number(record, 42) as usize;
+    let levels = number(record, 58) as usize;
+    let points = number(record, 68) as usize;
     if flows > 8 {
         return false;
     }
     if entries > 4 {
+        return false;
+    }
+    if rights > 4 {
         return false;
     }
     if levels > 4 {
@@ -55,10 +59,13 @@ fn answered(record: &[u8; 1280], nodes: &mut [i32]) -> bool {
     let starts = eight_numbers(record, 30);
     let ends = eight_numbers(record, 34);
     let strikes = eight_floats(record, 38);
-    let times = eight_floats(record, 46);
-    let sigmas = eight_floats(record, 50);
-    let pillars = eight_numbers(record, 56);
-    let factors = eight_floats(record, 64);
+    let put_starts = eight_numbers(record, 43);
+    let put_ends = eight_numbers(record, 47);
+    let put_strikes = eight_floats(record, 51);
+    let times = eight_floats(record, 59);
+    let sigmas = eight_floats(record, 63);
+    let pillars = eight_numbers(record, 69);
+    let factors = eight_floats(record, 77);
     let answer = sizing::entry::sizes(
         settlement_of(record),
         &days[..flows],
@@ -68,12 +75,15 @@ fn answered(record: &[u8; 1280], nodes: &mut [i32]) -> bool {
         &starts[..entries],
         &ends[..entries],
         &strikes[..entries],
-        number(record, 42),
-        number(record, 43),
-        float(record, 44),
+        &put_starts[..rights],
+        &put_ends[..rights],
+        &put_strikes[..rights],
+        number(record, 55),
+        number(record, 56),
+        float(record, 57),
         &times[..levels],
         &sigmas[..levels],
-        float(record, 54),
+        float(record, 67),
         &pillars[..points],
         &factors[..points],
         nodes,
@@ -89,15 +99,15 @@ fn left_so(refused: u32, nodes: &[i32]) -> bool {
     all_numbers(nodes, 0)
 }
 
-fn tried(record: &[u8; 1280], nodes: &mut [i32]) -> bool {
+fn tried(record: &[u8; 1784], nodes: &mut [i32]) -> bool {
     if !answered(record, nodes) {
         return false;
     }
-    left_so(number(record, 80), nodes)
+    left_so(number(record, 93), nodes)
 }
 
-pub(crate) fn same(record: &[u8; 1280]) -> bool {
-    let places = number(record, 76) as usize;
+pub(crate) fn same(record: &[u8; 1784]) -> bool {
+    let places = number(record, 89) as usize;
     if places > 2000 {
         return false;
     }

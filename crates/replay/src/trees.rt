@@ -1,4 +1,4 @@
-// The tree value, kind 13, and what is lent to it and to spread from price, kind 14: at most 8 cashflows, 4 call entries, 4 sigma
+// The tree value, kind 13, and what is lent to it and to spread from price, kind 14: at most 8 cashflows, 4 call and 4 put entries, 4 sigma
 // entries and 8 pillars, and slices of the lengths that a record holds, up to 2,000, 3,000, 100 and 100.
 
 use crate::lists::eight_bytes;
@@ -44,7 +44,7 @@ fn all_floats(xs: &[f64], x: f64) -> bool {
     true
 }
 
-// Whether a refusal is the input's: 1 to 8, 33 to 35, or 44.
+// Whether a refusal is the input's: 1 to 8, 33 to 35, 37, or 44.
 pub(crate) fn of_input(refused: u32) -> bool {
     if refused > 0 && refused < 9 {
         return true;
@@ -52,7 +52,7 @@ pub(crate) fn of_input(refused: u32) -> bool {
     if refused > 32 && refused < 36 {
         return true;
     }
-    refused == 44
+    refused == 37 || refused == 44
 }
 
 // Whether the slices, filled with 7, are still so after a refusal of the input, and else all zero.
@@ -77,7 +77,7 @@ fn left_so(
 
 // Whether the inputs that a record holds are answered with what it holds; no list may be longer than its places.
 fn answered(
-    record: &[u8; 1280],
+    record: &[u8; 1784],
     nodes: &mut [i32],
     probabilities: &mut [f64],
     first: &mut [f64],
@@ -85,12 +85,16 @@ fn answered(
 ) -> bool {
     let flows = number(record, 3) as usize;
     let entries = number(record, 29) as usize;
-    let levels = number(record, 45) as usize;
-    let points = number(record, 55) as usize;
+    let rights = number(record, 42) as usize;
+    let levels = number(record, 58) as usize;
+    let points = number(record, 68) as usize;
     if flows > 8 {
         return false;
     }
     if entries > 4 {
+        return false;
+    }
+    if rights > 4 {
         return false;
     }
     if levels > 4 {
@@ -105,10 +109,13 @@ fn answered(
     let starts = eight_numbers(record, 30);
     let ends = eight_numbers(record, 34);
     let strikes = eight_floats(record, 38);
-    let times = eight_floats(record, 46);
-    let sigmas = eight_floats(record, 50);
-    let pillars = eight_numbers(record, 56);
-    let factors = eight_floats(record, 64);
+    let put_starts = eight_numbers(record, 43);
+    let put_ends = eight_numbers(record, 47);
+    let put_strikes = eight_floats(record, 51);
+    let times = eight_floats(record, 59);
+    let sigmas = eight_floats(record, 63);
+    let pillars = eight_numbers(record, 69);
+    let factors = eight_floats(record, 77);
     let answer = treevalue::tree::tree_value(
         settlement_of(record),
         &days[..flows],
@@ -118,12 +125,15 @@ fn answered(
         &starts[..entries],
         &ends[..entries],
         &strikes[..entries],
-        number(record, 42),
-        number(record, 43),
-        float(record, 44),
+        &put_starts[..rights],
+        &put_ends[..rights],
+        &put_strikes[..rights],
+        number(record, 55),
+        number(record, 56),
+        float(record, 57),
         &times[..levels],
         &sigmas[..levels],
-        float(record, 54),
+        float(record, 67),
         &pillars[..points],
         &factors[..points],
         nodes,
@@ -133,16 +143,16 @@ fn answered(
     );
     is_answer(
         answer,
-        number(record, 80),
-        number(record, 81),
-        float(record, 82),
-        word(record, 83),
+        number(record, 93),
+        number(record, 94),
+        float(record, 95),
+        word(record, 96),
     )
 }
 
 // Whether the entry of the record's kind answers with what it holds.
 fn replied(
-    record: &[u8; 1280],
+    record: &[u8; 1784],
     nodes: &mut [i32],
     probabilities: &mut [f64],
     first: &mut [f64],
@@ -156,7 +166,7 @@ fn replied(
 
 // Whether the answer is the record's, and the slices are left as they must be.
 fn tried(
-    record: &[u8; 1280],
+    record: &[u8; 1784],
     nodes: &mut [i32],
     probabilities: &mut [f64],
     first: &mut [f64],
@@ -165,14 +175,14 @@ fn tried(
     if !replied(record, nodes, probabilities, first, second) {
         return false;
     }
-    left_so(number(record, 80), nodes, probabilities, first, second)
+    left_so(number(record, 93), nodes, probabilities, first, second)
 }
 
-pub(crate) fn same(record: &[u8; 1280]) -> bool {
-    let numbers = number(record, 76) as usize;
-    let shares = number(record, 77) as usize;
-    let one = number(record, 78) as usize;
-    let other = number(record, 79) as usize;
+pub(crate) fn same(record: &[u8; 1784]) -> bool {
+    let numbers = number(record, 89) as usize;
+    let shares = number(record, 90) as usize;
+    let one = number(record, 91) as usize;
+    let other = number(record, 92) as usize;
     if numbers > 2000 {
         return false;
     }

@@ -60,9 +60,18 @@ pub fn what_to_do(number: u32) -> [u8; 80]
         Refusal::TOO_WIDE => text_line(
             b"This value or node count is too wide for the closing sheet.",
         ),
+        Refusal::DAY_COUNT => text_line(b"Correct the day-count code: it is 0, 1 or 2."),
+        Refusal::SAME_TIME => text_line(b"Two pillars stand at one time: leave one of them out."),
+        Refusal::NO_TIME => text_line(b"The last cashflow is at time 0: check the settlement day."),
         Refusal::SPREAD_ABOVE => text_line(
             b"The price is far below what the bond is worth: look at it.",
         ),
+        Refusal::PUT_COUNT => text_line(b"Too many puts: at most 64 are taken."),
+        Refusal::PUT_ABOVE => text_line(
+            b"A put is above the call at this step: look at their strikes.",
+        ),
+        Refusal::BOOK_SIZE => text_line(b"A book has 1 to 32 bonds."),
+        Refusal::DESK => text_line(b"Give the bond a desk from 0 to 7."),
         Refusal::NOTICE_COUNT => text_line(b"Too many notices: at most 256 are taken in one go."),
         Refusal::NOTICE_RANGE => text_line(
             b"Look at this notice: its series, its version or its action.",
@@ -72,6 +81,10 @@ pub fn what_to_do(number: u32) -> [u8; 80]
         ),
         Refusal::FACTOR_NOT_POSITIVE => text_line(
             b"A discount factor must be above 0: look at this pillar.",
+        ),
+        Refusal::TABLE_SIZE => text_line(b"A table has 1 to 16 spreads and 1 to 16 shifts."),
+        Refusal::SHIFTED_SIGMA => text_line(
+            b"The shift takes a sigma out of its range: look at the shift.",
         ),
         _ => text_line(b"This number is not known: look it up in the README."),
     }

@@ -3,11 +3,12 @@
 use backwardinduction::walk::Rates;
 use backwardinduction::walk::roll;
 use bondevents::CallStep;
+use bondevents::Exercise;
 use floats::Answer;
 use forwardinduction::rows::current;
 use terms::Check;
 ghost use mathlib.Core.Path.{_≡_};
-ghost use Prim.Native.Nat.{_+_, _^_, _<_, _≤_};
+ghost use Prim.Native.Nat.{_+_, _*_, _^_, _<_, _≤_};
 ghost use lib.ListN.{length, getD, replicate};
 ghost use lib.IntN.{pos};
 ghost use Rattle.floats.specs.declared.Answer.the-variants.{Value, Refused};
@@ -91,15 +92,22 @@ fn roll_step(
     )
 }
 
-// The call of a step.
+// The step's call and put: mark 1 is a call, 2 a put, 3 both; the prices stand side by side.
 fn call_at(marks: &[u8], prices: &[f64], step: u32) -> CallStep
-    requires { ⌜ (step < length (now marks)) × (length (now prices) ≡ length (now marks)) ⌝ }
+    requires { ⌜ (step < length (now marks)) × (length (now prices) ≡ length (now marks) * 2) ⌝ }
     ensures { λ r. ⌜ r ≡ getD (callsOf (now (marks .entry)) (now (prices .entry))) step newStep ⌝ }
 {
     let at = step as usize;
+    let mark = marks[at];
     CallStep {
-        marked: marks[at] == 1,
-        call_price: prices[at],
+        call: Exercise {
+            marked: mark % 2 == 1,
+            price: prices[at * 2],
+        },
+        put: Exercise {
+            marked: mark > 1,
+            price: prices[at * 2 + 1],
+        },
     }
 }
 
@@ -122,7 +130,7 @@ fn walk(
 ) -> Check
     requires { ⌜ Laid flat (length (now first)) (length (now second)) (now counts) (now spacings) (now nodes) (now probabilities) ⌝ }
     requires { ⌜ (length (now shifts) ≡ length (now spacings)) × (step + length (now spacings) < length (now cashflows)) × (length (now cashflows) < 2 ^ 32) ⌝ }
-    requires { ⌜ (length (now marks) ≡ length (now cashflows)) × (length (now prices) ≡ length (now cashflows)) ⌝ }
+    requires { ⌜ (length (now marks) ≡ length (now cashflows)) × (length (now prices) ≡ length (now cashflows) * 2) ⌝ }
     ensures { λ r. ⌜ (follow (outcomeOf r (record { first = now (first .exit); second = now (second .exit) })) λ rows. given (rowIn step (getD (now (counts .entry)) 0 0) (now (nodes .entry)) rows)) ≡ walkFrom dt spread (now (cashflows .entry)) (callsOf (now (marks .entry)) (now (prices .entry))) step (layersIn flat (now (counts .entry)) (now (spacings .entry)) (now (nodes .entry)) (now (probabilities .entry))) (now (shifts .entry)) (finalIn (now (counts .entry)) (now (spacings .entry)) (now (nodes .entry))) ⌝ }
 {
     let count = counts[0];
@@ -193,7 +201,7 @@ pub fn root_value(
     requires { ⌜ Laid flat (length (now first)) (length (now second)) (now counts) (now spacings) (now nodes) (now probabilities) ⌝ }
     requires { ⌜ (getD (now counts) 0 0 ≡ 1) × (numbersIn (frontNodes 1 (now nodes)) ≡ rootLayer) ⌝ }
     requires { ⌜ (length (now shifts) ≡ length (now spacings)) × (length (now spacings) < length (now cashflows)) × (length (now cashflows) < 2 ^ 32) ⌝ }
-    requires { ⌜ (length (now marks) ≡ length (now cashflows)) × (length (now prices) ≡ length (now cashflows)) ⌝ }
+    requires { ⌜ (length (now marks) ≡ length (now cashflows)) × (length (now prices) ≡ length (now cashflows) * 2) ⌝ }
     ensures { λ r. ⌜ r ≡ onOutcome (walkFrom dt spread (now (cashflows .entry)) (callsOf (now (marks .entry)) (now (prices .entry))) 0 (layersIn flat (now (counts .entry)) (now (spacings .entry)) (now (nodes .entry)) (now (probabilities .entry))) (now (shifts .entry)) (finalIn (now (counts .entry)) (now (spacings .entry)) (now (nodes .entry)))) Refused (λ row. Value (valueAt (pos 0) row)) ⌝ }
 {
     let behind = walk(

@@ -2,6 +2,7 @@
 use Prim.Native.Nat.{ℕ}
 use mathlib.Core.Path.{_≡_, refl}
 use mathlib.Core.List.{List, [], _∷_}
+use lib.ListN.{replicate}
 use lib.Ieee.{Float, binary64, ofBits}
 use lib.Ieee as ieee
 use Rattle.floats.specs.Answers.{onAnswer}
@@ -10,7 +11,7 @@ use Rattle.rounded.specs.Root.{sqrtAt}
 use Rattle.elementary.specs.Exponential.{expAt, expM1At}
 use Rattle.elementary.specs.Logarithm.{lnAt}
 use Rattle.terms.specs.Numbers.{float}
-use Rattle.terms.specs.Terms.{CallSchedule, Market}
+use Rattle.terms.specs.Terms.{CallSchedule, Market, noEntries, withPuts}
 use Rattle.terms.specs.Checks.{lowest, onCheck}
 use Rattle.terms.specs.Times.{timeFrom}
 use Rattle.terms.specs.Outcomes.{onOutcome}
@@ -23,7 +24,7 @@ abbrev bond : ℕ → List Float → List Float → Market
 bond yearly sigmas factors =
     record {
       settlement = record { day = 100; code = 0 };
-      bond = record { leg = record { days = 465 ∷ 830 ∷ 830 ∷ []; kinds = 0 ∷ 0 ∷ 1 ∷ []; amounts = float 5 ∷ float 5 ∷ float 100 ∷ [] }; units = float 100 };
+      bond = record { leg = record { days = 465 ∷ 830 ∷ 830 ∷ []; kinds = 0 ∷ 0 ∷ 1 ∷ []; amounts = float 5 ∷ float 5 ∷ float 100 ∷ [] }; units = float 100; puts = noEntries };
       controls = record { perYear = yearly; maximum = 512 };
       model = record { alpha = ofBits binary64 0x3fb999999999999a; sigma = record { times = float 0 ∷ float 1 ∷ []; sigmas = sigmas } };
       spread = ofBits binary64 0x3f747ae147ae147b;
@@ -93,6 +94,11 @@ never-25 : sizesOf (bond 2 slow (float 1 ∷ ofBits binary64 0x9c16c5c5253575 �
 unfolding sizesOf timeFrom expAt expM1At lnAt sqrtAt onOutcome onCheck lowest onAnswer rounded ieee.ofBits ieee.add ieee.sub ieee.mul ieee.div ieee.neg ieee.lt ieee.le ieee.ofInt ieee.toSigned
 never-25 = refl
 
+-- So is a put above the call, 38 of the value.
+never-38 : sizesOf (withPuts (bond 2 slow curve) (callAt 465 (float 102))) (callAt 465 (float 101)) 16 ≡ sized 50 75 9 25
+unfolding sizesOf timeFrom expAt expM1At lnAt sqrtAt onOutcome onCheck lowest onAnswer rounded ieee.ofBits ieee.add ieee.sub ieee.mul ieee.div ieee.neg ieee.lt ieee.le ieee.ofInt ieee.toSigned
+never-38 = refl
+
 -- All input checks are made.
 no-steps : sizesOf (bond 0 slow curve) (callAt 465 (float 101)) 16 ≡ refused 1 0
 unfolding sizesOf timeFrom expAt expM1At lnAt sqrtAt onOutcome onCheck lowest onAnswer rounded ieee.ofBits ieee.add ieee.sub ieee.mul ieee.div ieee.neg ieee.lt ieee.le ieee.ofInt ieee.toSigned
@@ -101,6 +107,10 @@ no-steps = refl
 high-strike : sizesOf (bond 2 slow curve) (callAt 465 (float 1000001)) 16 ≡ refused 4 0
 unfolding sizesOf timeFrom expAt expM1At lnAt sqrtAt onOutcome onCheck lowest onAnswer rounded ieee.ofBits ieee.add ieee.sub ieee.mul ieee.div ieee.neg ieee.lt ieee.le ieee.ofInt ieee.toSigned
 high-strike = refl
+
+many-puts : sizesOf (withPuts (bond 2 slow curve) (record { starts = replicate 65 465; ends = replicate 65 465; strikes = replicate 65 (float 99) })) (callAt 465 (float 101)) 16 ≡ refused 37 0
+unfolding sizesOf timeFrom expAt expM1At lnAt sqrtAt onOutcome onCheck lowest onAnswer rounded ieee.ofBits ieee.add ieee.sub ieee.mul ieee.div ieee.neg ieee.lt ieee.le ieee.ofInt ieee.toSigned
+many-puts = refl
 
 no-factor : sizesOf (bond 2 slow (float 1 ∷ float 0 ∷ float 1 ∷ [])) (callAt 465 (float 101)) 16 ≡ refused 44 1
 unfolding sizesOf timeFrom expAt expM1At lnAt sqrtAt onOutcome onCheck lowest onAnswer rounded ieee.ofBits ieee.add ieee.sub ieee.mul ieee.div ieee.neg ieee.lt ieee.le ieee.ofInt ieee.toSigned
@@ -119,7 +129,7 @@ abbrev steep : Market
 steep =
     record {
       settlement = record { day = 0; code = 0 };
-      bond = record { leg = record { days = 12892 ∷ []; kinds = 1 ∷ []; amounts = float 100 ∷ [] }; units = float 100 };
+      bond = record { leg = record { days = 12892 ∷ []; kinds = 1 ∷ []; amounts = float 100 ∷ [] }; units = float 100; puts = noEntries };
       controls = record { perYear = 1; maximum = 1 };
       model = record { alpha = ieee.neg (float 10); sigma = record { times = float 0 ∷ ofBits binary64 0x4031a907b70eba90 ∷ []; sigmas = float 10 ∷ float 10 ∷ [] } };
       spread = float 0;

@@ -94,11 +94,11 @@ pub record Solved (q : Quoted) (calls : CallSchedule) (answer : Root) (before af
   pub slices : after ≡ lentAfter q calls before
 
 -- What a call brings, gathered.
-abbrev pub quotedIn : Settlement → Leg → Float → ℕ → ℕ → Float → SigmaSchedule → Float → Pillars → Quoted
-quotedIn settlement leg units yearly maximum alpha sigma target pillars =
+abbrev pub quotedIn : Settlement → Leg → Float → CallSchedule → ℕ → ℕ → Float → SigmaSchedule → Float → Pillars → Quoted
+quotedIn settlement leg units puts yearly maximum alpha sigma target pillars =
     record {
       settlement = settlement;
-      bond = record { leg = leg; units = units };
+      bond = record { leg = leg; units = units; puts = puts };
       controls = record { perYear = yearly; maximum = maximum };
       model = record { alpha = alpha; sigma = sigma };
       target = target;

@@ -1,7 +1,7 @@
 // Spread from price: the tree is fitted once, and each spread that is tried walks back over it.
 use bondevents::BondEventGrid;
-use bondevents::marks::marks_of;
-use bondevents::marks::prices_of;
+use bondevents::marks::step_marks;
+use bondevents::marks::step_prices;
 use bracketedroot::solver::bracketed_root;
 use brackets::Root;
 use entrychecks::entries::spread_checks;
@@ -56,7 +56,7 @@ fn solve_over(
     first: &mut [f64],
     second: &mut [f64],
 ) -> Root
-    requires { ⌜ (0 < steps) × (steps ≤ 512) × (length (now cashflows) ≡ 513) × (length (now marks) ≡ 513) × (length (now prices) ≡ 513) ⌝ }
+    requires { ⌜ (0 < steps) × (steps ≤ 512) × (length (now cashflows) ≡ 513) × (length (now marks) ≡ 513) × (length (now prices) ≡ 1026) ⌝ }
     requires { ⌜ (length (now counts) ≡ steps + 1) × (length (now spacings) ≡ steps) × (length (now shifts) ≡ steps) ⌝ }
     ensures { λ r. ⌜ r ≡ foundOver target
         (now (cashflows .entry))
@@ -144,8 +144,8 @@ fn solve_grid(
     let steps = grid.steps;
     let cashflows = grid.cashflows;
     let calls = grid.calls;
-    let marks = marks_of(calls);
-    let prices = prices_of(calls);
+    let marks = step_marks(calls);
+    let prices = step_prices(calls);
     let mut counts = [0usize; 513];
     let mut spacings = [0.0; 512];
     let mut shifts = [0.0; 512];
@@ -182,6 +182,9 @@ fn checked_spread(
     starts: &[u32],
     ends: &[u32],
     strikes: &[f64],
+    put_starts: &[u32],
+    put_ends: &[u32],
+    put_strikes: &[f64],
     yearly: u32,
     maximum: u32,
     alpha: f64,
@@ -199,9 +202,10 @@ fn checked_spread(
     requires { ⌜ (1 ≤ maximum) × (maximum ≤ 512) ⌝ }
     requires { ⌜ (length (now days) ≤ 256) × (length (now kinds) ≡ length (now days)) × (length (now amounts) ≡ length (now days)) ⌝ }
     requires { ⌜ (length (now ends) ≡ length (now starts)) × (length (now strikes) ≡ length (now starts)) ⌝ }
+    requires { ⌜ (length (now «put_ends») ≡ length (now «put_starts»)) × (length (now «put_strikes») ≡ length (now «put_starts»)) ⌝ }
     requires { ⌜ now «curve_times» ≡ pillarTimes settlement (now pillars) ⌝ }
     ensures { λ r. ⌜ r ≡ foundFor
-        (quotedIn settlement (legIn days kinds amounts) units yearly maximum alpha (sigmaIn times sigmas) target (pillarsIn pillars factors))
+        (quotedIn settlement (legIn days kinds amounts) units (callsIn «put_starts» «put_ends» «put_strikes») yearly maximum alpha (sigmaIn times sigmas) target (pillarsIn pillars factors))
         (callsIn starts ends strikes)
         (roomIn nodes probabilities first second) ⌝ }
 {
@@ -214,6 +218,9 @@ fn checked_spread(
         starts,
         ends,
         strikes,
+        put_starts,
+        put_ends,
+        put_strikes,
         yearly,
         maximum,
     );
@@ -247,6 +254,9 @@ pub fn spread_from_price(
     call_starts: &[u32],
     call_ends: &[u32],
     call_strikes: &[f64],
+    put_starts: &[u32],
+    put_ends: &[u32],
+    put_strikes: &[f64],
     steps_per_year: u32,
     max_steps: u32,
     alpha: f64,
@@ -261,7 +271,7 @@ pub fn spread_from_price(
     second_row: &mut [f64],
 ) -> Root
     ensures { λ r. ⌜ Solved
-        (quotedIn settlement (legIn «cashflow_days» «cashflow_kinds» «cashflow_amounts») units «steps_per_year» «max_steps» alpha
+        (quotedIn settlement (legIn «cashflow_days» «cashflow_kinds» «cashflow_amounts») units (callsIn «put_starts» «put_ends» «put_strikes») «steps_per_year» «max_steps» alpha
         (sigmaIn «sigma_times» sigmas) target (pillarsIn «pillar_days» «pillar_factors»))
         (callsIn «call_starts» «call_ends» «call_strikes»)
         r
@@ -279,6 +289,9 @@ pub fn spread_from_price(
         call_starts,
         call_ends,
         call_strikes,
+        put_starts,
+        put_ends,
+        put_strikes,
         steps_per_year,
         max_steps,
         alpha,
@@ -301,6 +314,9 @@ pub fn spread_from_price(
         call_starts,
         call_ends,
         call_strikes,
+        put_starts,
+        put_ends,
+        put_strikes,
         steps_per_year,
         max_steps,
         alpha,

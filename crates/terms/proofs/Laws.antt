@@ -15,7 +15,7 @@ use Rattle.terms.specs.declared.Check.the-variants.{Passed, Refused}
 use Rattle.terms.specs.Checks.{onCheck, firstOf, single, outside, anyPaid}
 use lib.Ieee.{Float}
 use Rattle.terms.specs.Terms.{Leg, CallSchedule, Pillars, Bond, TimeGrid, Market}
-use Rattle.terms.specs.Entries.{settingChecks, gridCounts, gridDays, gridNumbers, gridOrders, gridChecks, treeCounts, treeDays, treeNumbers, treeOrders, lateChecks, marketChecks, straightCounts, straightDays, straightNumbers, straightOrders, straightChecks, yieldCounts, yieldDays, yieldNumbers, yieldChecks}
+use Rattle.terms.specs.Entries.{settingChecks, gridCounts, mostChecks, gridDays, gridNumbers, gridOrders, gridChecks, treeCounts, treeDays, treeNumbers, treeOrders, lateChecks, marketChecks, straightCounts, straightDays, straightNumbers, straightOrders, straightChecks, yieldCounts, yieldDays, yieldNumbers, yieldChecks}
 use Rattle.terms.specs.laws.Sequence.{passes-of-first, first-after}
 use Rattle.terms.specs.laws.Stages.{first-stopped, grid-in-stages, market-in-stages, straight-in-stages, yield-in-stages}
 use Rattle.floats.proofs.Laws.{taken, left}
@@ -112,10 +112,10 @@ pub ruleset sequence = (passed-first, refused-first, only-one, needs)
 
 -- ---- an entry's checks by their stages
 
-pub as-grid : {r : Check} (s : Settlement) (b : Bond) (k : CallSchedule) (g : TimeGrid) → r ≡ firstOf (firstOf (settingChecks g (s .code) ++ gridCounts (b .leg) k) ∷ firstOf (gridDays (s .day) (b .leg) k) ∷ firstOf (gridNumbers (b .units) (b .leg) k) ∷ firstOf (gridOrders s (b .leg) k) ∷ []) → r ≡ gridChecks s b k g
+pub as-grid : {r : Check} (s : Settlement) (b : Bond) (k : CallSchedule) (g : TimeGrid) → r ≡ firstOf (firstOf (settingChecks g (s .code) ++ gridCounts (b .leg) k (b .puts)) ∷ firstOf (mostChecks (b .puts)) ∷ firstOf (gridDays (s .day) (b .leg) k (b .puts)) ∷ firstOf (gridNumbers (b .units) (b .leg) k (b .puts)) ∷ firstOf (gridOrders s (b .leg) k (b .puts)) ∷ []) → r ≡ gridChecks s b k g
 as-grid s b k g p = p ∙ sym (grid-in-stages s b k g)
 
-pub as-market : {r : Check} (limit : Float) (m : Market) (k : CallSchedule) → r ≡ firstOf (firstOf (settingChecks (m .controls) (m .settlement .code) ++ treeCounts (m .bond .leg) k (m .model .sigma) (m .pillars)) ∷ firstOf (treeDays (m .settlement .day) (m .bond .leg) k (m .pillars)) ∷ firstOf (treeNumbers limit (m .bond .units) (m .model .alpha) (m .spread) (m .bond .leg) k (m .model .sigma) (m .pillars)) ∷ firstOf (treeOrders (m .settlement .day) (m .bond .leg) k (m .model .sigma)) ∷ firstOf (lateChecks (m .settlement) (m .bond .leg) (m .pillars)) ∷ []) → r ≡ marketChecks limit m k
+pub as-market : {r : Check} (limit : Float) (m : Market) (k : CallSchedule) → r ≡ firstOf (firstOf (settingChecks (m .controls) (m .settlement .code) ++ treeCounts (m .bond .leg) k (m .bond .puts) (m .model .sigma) (m .pillars)) ∷ firstOf (mostChecks (m .bond .puts)) ∷ firstOf (treeDays (m .settlement .day) (m .bond .leg) k (m .bond .puts) (m .pillars)) ∷ firstOf (treeNumbers limit (m .bond .units) (m .model .alpha) (m .spread) (m .bond .leg) k (m .bond .puts) (m .model .sigma) (m .pillars)) ∷ firstOf (treeOrders (m .settlement .day) (m .bond .leg) k (m .bond .puts) (m .model .sigma)) ∷ firstOf (lateChecks (m .settlement) (m .bond .leg) (m .pillars)) ∷ []) → r ≡ marketChecks limit m k
 as-market limit m k p = p ∙ sym (market-in-stages limit m k)
 
 pub as-straight : {r : Check} (s : Settlement) (l : Leg) (spread : Float) (q : Pillars) → r ≡ firstOf (firstOf (straightCounts (s .code) l q) ∷ firstOf (straightDays (s .day) l q) ∷ firstOf (straightNumbers spread l q) ∷ firstOf (straightOrders s l q) ∷ []) → r ≡ straightChecks s l spread q

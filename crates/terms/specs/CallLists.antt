@@ -1,4 +1,4 @@
--- Definitions only. Call lists made from another (document 01, "What contracts say", e).
+-- Definitions only. Call lists made from another (document 01, "What contracts say", e), and put lists.
 use Prim.Native.Nat.{ℕ, _<_}
 use mathlib.Core.Path.{_≡_}
 use lib.ListN.{length, getD}
@@ -35,6 +35,16 @@ pub record MadeFrom (first second : CallSchedule) : Type 0 where
   pub same-start : (i : ℕ) → i < size second → startOf second i ≡ startOf first (partner i)
   pub same-end : (i : ℕ) → i < size second → endOf second i ≡ endOf first (partner i)
   pub strike-as-high : (i : ℕ) → i < size second → T (le (strikeOf first (partner i)) (strikeOf second i))
+
+-- A second put list is made from a first in the same way, at a strike at most as high.
+pub record LoweredFrom (first second : CallSchedule) : Type 0 where
+  pub entries : Entries second
+  pub partner : ℕ → ℕ
+  pub of-first : (i : ℕ) → i < size second → partner i < size first
+  pub no-two : (i k : ℕ) → i < size second → k < size second → partner i ≡ partner k → i ≡ k
+  pub same-start : (i : ℕ) → i < size second → startOf second i ≡ startOf first (partner i)
+  pub same-end : (i : ℕ) → i < size second → endOf second i ≡ endOf first (partner i)
+  pub strike-as-low : (i : ℕ) → i < size second → T (le (strikeOf second i) (strikeOf first (partner i)))
 
 -- Reordering pairs them all, at equal strikes.
 pub record Reordered (first second : CallSchedule) : Type 0 where

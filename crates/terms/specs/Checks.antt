@@ -92,6 +92,10 @@ callCount c =
     single 2 0
     (ltb 64 (length (c .starts)) || (not (eqb (length (c .ends)) (length (c .starts))) || not (eqb (length (c .strikes)) (length (c .starts)))))
 
+-- Put entries: the slices alone. Their count is 37's.
+abbrev pub putCount : CallSchedule → Check
+putCount p = single 2 0 (not (eqb (length (p .ends)) (length (p .starts))) || not (eqb (length (p .strikes)) (length (p .starts))))
+
 -- 1 to 64 sigma entries.
 abbrev pub sigmaCount : SigmaSchedule → Check
 sigmaCount s = single 2 0 (outside 1 64 (length (s .times)) || not (eqb (length (s .sigmas)) (length (s .times))))
@@ -99,6 +103,11 @@ sigmaCount s = single 2 0 (outside 1 64 (length (s .times)) || not (eqb (length 
 -- 2 to 256 pillars.
 abbrev pub pillarCount : Pillars → Check
 pillarCount p = single 2 0 (outside 2 256 (length (p .days)) || not (eqb (length (p .factors)) (length (p .days))))
+
+-- ---- 37: more than 64 puts
+
+abbrev pub putMost : CallSchedule → Check
+putMost p = single 37 0 (ltb 64 (length (p .starts)))
 
 -- ---- 3: a day out of range, cashflow days falling, kind not 0 or 1
 
@@ -145,7 +154,7 @@ sigmaRange s =
 abbrev pub factorRange : Pillars → Check
 factorRange p = indexed 4 (λ i. beyond (float 1000) (getD (p .factors) i plusZero)) (p .factors)
 
--- ---- 5: call end before start
+-- ---- 5: call or put end before start
 
 abbrev pub callOrder : CallSchedule → Check
 callOrder c = indexed 5 (λ i. ltb (getD (c .ends) i 0) (getD (c .starts) i 0)) (c .starts)

@@ -1,4 +1,4 @@
--- Definitions only. The checks of each entry: in number order, inside one number by single fields, cashflows, calls, sigma, pillars. Each entry checks only what it takes.
+-- Definitions only. The checks of each entry: in number order, inside one number by single fields, cashflows, calls, puts, sigma, pillars. Each entry checks only what it takes.
 -- The checks of one number, or of a few that follow one another, are a group; an entry's checks are its groups, one after the other.
 use Prim.Native.Nat.{ℕ}
 use mathlib.Core.List.{List, [], _∷_, _++_}
@@ -7,47 +7,52 @@ use Rattle.terms.specs.declared.Settlement.{Settlement}
 use Rattle.terms.specs.declared.Check.{Check}
 use Rattle.terms.specs.Numbers.{float, million, targetLimit}
 use Rattle.terms.specs.Terms.{Leg, CallSchedule, SigmaSchedule, Pillars, Bond, TimeGrid, HullWhite, Market}
-use Rattle.terms.specs.Checks.{firstOf, settings, dayCount, legCount, callCount, sigmaCount, pillarCount, settlementDay, legDays, callDays, pillarDays, unitsRange, within, amountRange, strikeRange, sigmaRange, factorRange, callOrder, sigmaOrder, lastDay, anyPaid, pillarOrder, pillarsApart, maturityApart, positiveFactors}
+use Rattle.terms.specs.Checks.{firstOf, settings, dayCount, legCount, callCount, putCount, putMost, sigmaCount, pillarCount, settlementDay, legDays, callDays, pillarDays, unitsRange, within, amountRange, strikeRange, sigmaRange, factorRange, callOrder, sigmaOrder, lastDay, anyPaid, pillarOrder, pillarsApart, maturityApart, positiveFactors}
 
--- ---- the grid: settlement, cashflows, units, calls and the two step settings
+-- ---- the grid: settlement, cashflows, units, calls, puts and the two step settings
 
 -- 1 and 33.
 abbrev pub settingChecks : TimeGrid → ℕ → List Check
 settingChecks controls code = settings controls ∷ dayCount code ∷ []
 
 -- 2.
-abbrev pub gridCounts : Leg → CallSchedule → List Check
-gridCounts leg calls = legCount leg ∷ callCount calls ∷ []
+abbrev pub gridCounts : Leg → CallSchedule → CallSchedule → List Check
+gridCounts leg calls puts = legCount leg ∷ callCount calls ∷ putCount puts ∷ []
+
+-- 37, after every 2.
+abbrev pub mostChecks : CallSchedule → List Check
+mostChecks puts = putMost puts ∷ []
 
 -- 3.
-abbrev pub gridDays : ℕ → Leg → CallSchedule → List Check
-gridDays settlement leg calls = settlementDay settlement ∷ legDays leg ∷ callDays calls ∷ []
+abbrev pub gridDays : ℕ → Leg → CallSchedule → CallSchedule → List Check
+gridDays settlement leg calls puts = settlementDay settlement ∷ legDays leg ∷ callDays calls ∷ callDays puts ∷ []
 
 -- 4 of the lists.
-abbrev pub listNumbers : Leg → CallSchedule → List Check
-listNumbers leg calls = amountRange leg ∷ strikeRange calls ∷ []
+abbrev pub listNumbers : Leg → CallSchedule → CallSchedule → List Check
+listNumbers leg calls puts = amountRange leg ∷ strikeRange calls ∷ strikeRange puts ∷ []
 
 -- 4.
-abbrev pub gridNumbers : Float → Leg → CallSchedule → List Check
-gridNumbers units leg calls = unitsRange units ∷ listNumbers leg calls
+abbrev pub gridNumbers : Float → Leg → CallSchedule → CallSchedule → List Check
+gridNumbers units leg calls puts = unitsRange units ∷ listNumbers leg calls puts
 
 -- 5.
-abbrev pub callOrders : CallSchedule → List Check
-callOrders calls = callOrder calls ∷ []
+abbrev pub callOrders : CallSchedule → CallSchedule → List Check
+callOrders calls puts = callOrder calls ∷ callOrder puts ∷ []
 
 -- 5, 7 and 35.
-abbrev pub gridOrders : Settlement → Leg → CallSchedule → List Check
-gridOrders settlement leg calls = callOrders calls ++ anyPaid (settlement .day) leg ∷ maturityApart settlement leg ∷ []
+abbrev pub gridOrders : Settlement → Leg → CallSchedule → CallSchedule → List Check
+gridOrders settlement leg calls puts = callOrders calls puts ++ anyPaid (settlement .day) leg ∷ maturityApart settlement leg ∷ []
 
 unfoldable pub gridChecks : Settlement → Bond → CallSchedule → TimeGrid → Check
 unfolding firstOf
 gridChecks settlement bond calls controls =
     firstOf
     (settingChecks controls (settlement .code)
-    ++ gridCounts (bond .leg) calls
-    ++ gridDays (settlement .day) (bond .leg) calls
-    ++ gridNumbers (bond .units) (bond .leg) calls
-    ++ gridOrders settlement (bond .leg) calls)
+    ++ gridCounts (bond .leg) calls (bond .puts)
+    ++ mostChecks (bond .puts)
+    ++ gridDays (settlement .day) (bond .leg) calls (bond .puts)
+    ++ gridNumbers (bond .units) (bond .leg) calls (bond .puts)
+    ++ gridOrders settlement (bond .leg) calls (bond .puts))
 
 -- ---- the tree value: these, alpha, sigma, spread and pillars
 
@@ -55,12 +60,12 @@ gridChecks settlement bond calls controls =
 abbrev pub modelCounts : SigmaSchedule → Pillars → List Check
 modelCounts sigma pillars = sigmaCount sigma ∷ pillarCount pillars ∷ []
 
-abbrev pub treeCounts : Leg → CallSchedule → SigmaSchedule → Pillars → List Check
-treeCounts leg calls sigma pillars = gridCounts leg calls ++ modelCounts sigma pillars
+abbrev pub treeCounts : Leg → CallSchedule → CallSchedule → SigmaSchedule → Pillars → List Check
+treeCounts leg calls puts sigma pillars = gridCounts leg calls puts ++ modelCounts sigma pillars
 
 -- 3.
-abbrev pub treeDays : ℕ → Leg → CallSchedule → Pillars → List Check
-treeDays settlement leg calls pillars = gridDays settlement leg calls ++ pillarDays pillars ∷ []
+abbrev pub treeDays : ℕ → Leg → CallSchedule → CallSchedule → Pillars → List Check
+treeDays settlement leg calls puts pillars = gridDays settlement leg calls puts ++ pillarDays pillars ∷ []
 
 -- 4 of single fields. The limit is the spread's, or that of what stands in its place.
 abbrev pub treeFields : Float → Float → Float → Float → List Check
@@ -71,13 +76,13 @@ abbrev pub modelNumbers : SigmaSchedule → Pillars → List Check
 modelNumbers sigma pillars = sigmaRange sigma ∷ factorRange pillars ∷ []
 
 -- 4.
-abbrev pub treeNumbers : Float → Float → Float → Float → Leg → CallSchedule → SigmaSchedule → Pillars → List Check
-treeNumbers limit units alpha spread leg calls sigma pillars =
-    treeFields limit units alpha spread ++ listNumbers leg calls ++ modelNumbers sigma pillars
+abbrev pub treeNumbers : Float → Float → Float → Float → Leg → CallSchedule → CallSchedule → SigmaSchedule → Pillars → List Check
+treeNumbers limit units alpha spread leg calls puts sigma pillars =
+    treeFields limit units alpha spread ++ listNumbers leg calls puts ++ modelNumbers sigma pillars
 
 -- 5 to 7.
-abbrev pub treeOrders : ℕ → Leg → CallSchedule → SigmaSchedule → List Check
-treeOrders settlement leg calls sigma = callOrders calls ++ sigmaOrder sigma ∷ anyPaid settlement leg ∷ []
+abbrev pub treeOrders : ℕ → Leg → CallSchedule → CallSchedule → SigmaSchedule → List Check
+treeOrders settlement leg calls puts sigma = callOrders calls puts ++ sigmaOrder sigma ∷ anyPaid settlement leg ∷ []
 
 -- 8 and 34.
 abbrev pub curveOrders : Settlement → Leg → Pillars → List Check
@@ -92,10 +97,11 @@ unfolding firstOf
 marketChecks limit m calls =
     firstOf
     (settingChecks (m .controls) (m .settlement .code)
-    ++ treeCounts (m .bond .leg) calls (m .model .sigma) (m .pillars)
-    ++ treeDays (m .settlement .day) (m .bond .leg) calls (m .pillars)
-    ++ treeNumbers limit (m .bond .units) (m .model .alpha) (m .spread) (m .bond .leg) calls (m .model .sigma) (m .pillars)
-    ++ treeOrders (m .settlement .day) (m .bond .leg) calls (m .model .sigma)
+    ++ treeCounts (m .bond .leg) calls (m .bond .puts) (m .model .sigma) (m .pillars)
+    ++ mostChecks (m .bond .puts)
+    ++ treeDays (m .settlement .day) (m .bond .leg) calls (m .bond .puts) (m .pillars)
+    ++ treeNumbers limit (m .bond .units) (m .model .alpha) (m .spread) (m .bond .leg) calls (m .bond .puts) (m .model .sigma) (m .pillars)
+    ++ treeOrders (m .settlement .day) (m .bond .leg) calls (m .bond .puts) (m .model .sigma)
     ++ lateChecks (m .settlement) (m .bond .leg) (m .pillars))
 
 -- Spread within ±1.

@@ -20,11 +20,11 @@ abbrev pub pillarsIn : {X Y : Type 0} → Both (RefT (List ℕ)) X → Both (Ref
 pillarsIn days factors = record { days = now (days .entry); factors = now (factors .entry) }
 
 -- What the tree value takes, but for the call entries and the lent slices.
-abbrev pub marketIn : Settlement → Leg → Float → ℕ → ℕ → Float → SigmaSchedule → Float → Pillars → Market
-marketIn settlement leg units yearly maximum alpha sigma spread pillars =
+abbrev pub marketIn : Settlement → Leg → Float → CallSchedule → ℕ → ℕ → Float → SigmaSchedule → Float → Pillars → Market
+marketIn settlement leg units puts yearly maximum alpha sigma spread pillars =
     record {
       settlement = settlement;
-      bond = record { leg = leg; units = units };
+      bond = record { leg = leg; units = units; puts = puts };
       controls = record { perYear = yearly; maximum = maximum };
       model = record { alpha = alpha; sigma = sigma };
       spread = spread;

@@ -1,6 +1,6 @@
 -- Definitions only. What a call brings: the parallel lists of one kind, gathered.
 use Prim.Native.Nat.{ℕ}
-use mathlib.Core.List.{List}
+use mathlib.Core.List.{List, []}
 use lib.Ieee.{Float}
 use Rattle.terms.specs.declared.Settlement.{Settlement}
 
@@ -26,10 +26,19 @@ pub record Pillars : Type 0 where
   pub days : List ℕ
   pub factors : List Float
 
--- The bond: cashflows and units.
+-- The bond: cashflows, units, and put entries, which have the fields of call entries.
 pub record Bond : Type 0 where
   pub leg : Leg
   pub units : Float
+  pub puts : CallSchedule
+
+-- No entries.
+abbrev pub noEntries : CallSchedule
+noEntries = record { starts = []; ends = []; strikes = [] }
+
+-- The same bond with another put list.
+abbrev pub bondWithPuts : Bond → CallSchedule → Bond
+bondWithPuts bond puts = record { leg = bond .leg; units = bond .units; puts = puts }
 
 -- Steps per year and maximum steps.
 pub record TimeGrid : Type 0 where
@@ -59,5 +68,17 @@ withSpread m s =
       controls = m .controls;
       model = m .model;
       spread = s;
+      pillars = m .pillars;
+    }
+
+-- The same terms with another put list.
+abbrev pub withPuts : Market → CallSchedule → Market
+withPuts m puts =
+    record {
+      settlement = m .settlement;
+      bond = bondWithPuts (m .bond) puts;
+      controls = m .controls;
+      model = m .model;
+      spread = m .spread;
       pillars = m .pillars;
     }

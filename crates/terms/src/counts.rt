@@ -1,4 +1,4 @@
-// 2: a list's count outside its limits, or parallel slices of unequal length.
+// 2: a list's count outside its limits, or parallel slices of unequal length; 37: more than 64 puts.
 
 use crate::Check;
 use crate::limits::CallEntries;
@@ -10,9 +10,13 @@ use crate::refusing::single;
 use floats::Refusal;
 ghost use mathlib.Core.Path.{_≡_};
 ghost use mathlib.Core.Bool.{not, _||_};
+ghost use mathlib.Core.List.{[]};
+ghost use Prim.Native.Nat.{_≤_};
+ghost use lib.ListN.{length};
 ghost use lib.Dec.{eqb};
+ghost use Rattle.terms.specs.laws.Stages.{Tells};
 ghost use Rattle.terms.specs.Terms.{Leg, CallSchedule, SigmaSchedule, Pillars};
-ghost use Rattle.terms.specs.Checks.{outside, legCount, callCount, sigmaCount, pillarCount};
+ghost use Rattle.terms.specs.Checks.{outside, legCount, callCount, putCount, putMost, sigmaCount, pillarCount};
 
 // Two parallel lists: a count outside low..high, or unequal ones.
 fn two_wrong(low: usize, high: usize, count: usize, other: usize) -> bool
@@ -31,10 +35,7 @@ fn three_wrong(low: usize, high: usize, count: usize, second: usize, third: usiz
     if out_of(low, high, count) {
         return true;
     }
-    if second != count {
-        return true;
-    }
-    third != count
+    unequal(count, second, third)
 }
 
 // 1 to 256 cashflows.
@@ -67,6 +68,34 @@ pub fn call_count(starts: &[u32], ends: &[u32], strikes: &[f64]) -> Check
             strikes.len(),
         ),
     )
+}
+
+// Whether three parallel lists are of unequal length.
+fn unequal(count: usize, second: usize, third: usize) -> bool
+    ensures { λ r. ⌜ r ≡ (not (eqb second count) || not (eqb third count)) ⌝ }
+{
+    if second != count {
+        return true;
+    }
+    third != count
+}
+
+// Put entries: unequal slices alone.
+pub fn put_count(starts: &[u32], ends: &[u32], strikes: &[f64]) -> Check
+    ensures { λ r. ⌜ r ≡ putCount (record { starts = now (starts .entry); ends = now (ends .entry); strikes = now (strikes .entry) }) ⌝ }
+{
+    single(
+        Refusal::COUNT,
+        unequal(starts.len(), ends.len(), strikes.len()),
+    )
+}
+
+// 37: more than 64 puts.
+pub fn put_most(starts: &[u32]) -> Check
+    ensures { λ r. ⌜ Tells r (putMost (record { starts = now (starts .entry); ends = []; strikes = [] })) (length (now (starts .entry)) ≤ 64) ⌝ }
+{
+    let many = starts.len() > CallEntries::MOST;
+    single(Refusal::PUT_COUNT, many)
 }
 
 // 1 to 64 sigma entries.

@@ -1,5 +1,6 @@
 pub mod Tree
 pub mod CallLists
+pub mod PutLists
 pub mod Entry
 pub mod Slices
 pub mod laws

@@ -2,6 +2,7 @@
 pub mod Counts
 pub mod ValueRising
 pub mod CallLists
+pub mod PutLists
 pub mod FittedIn
 pub mod Valued
 pub mod Entered

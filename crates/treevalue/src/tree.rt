@@ -29,6 +29,9 @@ pub fn checked_value(
     starts: &[u32],
     ends: &[u32],
     strikes: &[f64],
+    put_starts: &[u32],
+    put_ends: &[u32],
+    put_strikes: &[f64],
     yearly: u32,
     maximum: u32,
     alpha: f64,
@@ -46,9 +49,10 @@ pub fn checked_value(
     requires { ⌜ (1 ≤ maximum) × (maximum ≤ 512) ⌝ }
     requires { ⌜ (length (now days) ≤ 256) × (length (now kinds) ≡ length (now days)) × (length (now amounts) ≡ length (now days)) ⌝ }
     requires { ⌜ (length (now ends) ≡ length (now starts)) × (length (now strikes) ≡ length (now starts)) ⌝ }
+    requires { ⌜ (length (now «put_ends») ≡ length (now «put_starts»)) × (length (now «put_strikes») ≡ length (now «put_starts»)) ⌝ }
     requires { ⌜ now «curve_times» ≡ pillarTimes settlement (now pillars) ⌝ }
     ensures { λ r. ⌜ r ≡ valueOn
-        (marketIn settlement (legIn days kinds amounts) units yearly maximum alpha (sigmaIn times sigmas) spread (pillarsIn pillars factors))
+        (marketIn settlement (legIn days kinds amounts) units (callsIn «put_starts» «put_ends» «put_strikes») yearly maximum alpha (sigmaIn times sigmas) spread (pillarsIn pillars factors))
         (callsIn starts ends strikes)
         (roomIn nodes probabilities first second) ⌝ }
 {
@@ -61,6 +65,9 @@ pub fn checked_value(
         starts,
         ends,
         strikes,
+        put_starts,
+        put_ends,
+        put_strikes,
         yearly,
         maximum,
     );
@@ -94,6 +101,9 @@ pub fn tree_value(
     call_starts: &[u32],
     call_ends: &[u32],
     call_strikes: &[f64],
+    put_starts: &[u32],
+    put_ends: &[u32],
+    put_strikes: &[f64],
     steps_per_year: u32,
     max_steps: u32,
     alpha: f64,
@@ -108,7 +118,7 @@ pub fn tree_value(
     second_row: &mut [f64],
 ) -> TreeValue
     ensures { λ r. ⌜ Entered
-        (marketIn settlement (legIn «cashflow_days» «cashflow_kinds» «cashflow_amounts») units «steps_per_year» «max_steps» alpha
+        (marketIn settlement (legIn «cashflow_days» «cashflow_kinds» «cashflow_amounts») units (callsIn «put_starts» «put_ends» «put_strikes») «steps_per_year» «max_steps» alpha
         (sigmaIn «sigma_times» sigmas) spread (pillarsIn «pillar_days» «pillar_factors»))
         (callsIn «call_starts» «call_ends» «call_strikes»)
         r
@@ -126,6 +136,9 @@ pub fn tree_value(
         call_starts,
         call_ends,
         call_strikes,
+        put_starts,
+        put_ends,
+        put_strikes,
         steps_per_year,
         max_steps,
         alpha,
@@ -148,6 +161,9 @@ pub fn tree_value(
         call_starts,
         call_ends,
         call_strikes,
+        put_starts,
+        put_ends,
+        put_strikes,
         steps_per_year,
         max_steps,
         alpha,

@@ -4,19 +4,22 @@ use mathlib.Core.Bool.{Bool, true, false, cond, _||_, false≢true}
 use mathlib.Core.List.{List, [], _∷_}
 use lib.Dec.{T}
 use lib.IntN.{ℤ}
-use lib.Ieee.{Float, binary64, add, mul, le}
+use lib.Ieee.{Float, binary64, add, mul, le, lt}
 use lib.Ieee.Scale.{finite}
 use Rattle.floats.specs.Answers.{plusZero}
-use Rattle.floats.specs.laws.Order.{number-of-finite, le-refl, le-trans}
+use Rattle.floats.specs.laws.Order.{number, number-of-finite, number-of-le, le-refl, le-trans, le-of-lt, T-of}
 use Rattle.floats.specs.laws.Arithmetic.{add-mono, mul-mono-left}
-use Rattle.floats.specs.laws.Extremes.{min-below, min-mono}
-use Rattle.floats.specs.Extremes.{minOf}
+use Rattle.floats.specs.laws.Extremes.{min-below, min-mono, max-mono}
+use Rattle.floats.specs.Extremes.{minOf, maxOf}
 use Rattle.floats.specs.laws.Finite.{finite-of-add, finite-of-mul}
 use Rattle.elementary.specs.laws.Values.{Above}
+use Rattle.bondevents.specs.declared.Side.the-variants.{Call, Put}
+use Rattle.bondevents.specs.declared.Exercise.{Exercise}
 use Rattle.bondevents.specs.declared.CallStep.{CallStep}
-use Rattle.bondevents.specs.laws.NoLower.{NoLower}
+use Rattle.bondevents.specs.laws.Sides.{Before}
+use Rattle.bondevents.specs.laws.NoLower.{Thinner, NoLower}
 use Rattle.lattice.specs.Layers.{At, below, valueAt}
-use Rattle.backwardinduction.specs.Walk.{called}
+use Rattle.backwardinduction.specs.Walk.{called, exercised}
 
 -- Both finite, and the second no lower than the first.
 pub record Higher (x y : Float) : Type 0 where
@@ -54,16 +57,41 @@ plus a b c d h k f g =
     let q = finite-of-add binary64 b d g in
     record { first-finite = f; second-finite = g; no-lower = add-mono binary64 a b c d (p .0) (q .0) (p .1) (q .1) h k }
 
--- ---- calls
+-- ---- calls and puts
 
-pub called-no-lower : (c d : CallStep) (x y : Float) → NoLower c d → Higher x y → T (le (called c x) (called d y))
+le-max-first : (a b : Float) → T (number a) → T (le a (maxOf a b))
+unfolding maxOf
+le-max-first a b n = go (lt a b) refl
+  where
+    go : (t : Bool) → lt a b ≡ t → T (le a (cond t b a))
+    go true e = le-of-lt a b (T-of (lt a b) e)
+    go false e = le-refl a n
+
+called-no-lower : (c d : Exercise) (x y : Float) → Thinner Call c d → T (le x y) → T (le (called c x) (called d y))
+unfolding Before
 called-no-lower c d x y n h = go (c .marked) (d .marked) (n .marked-too) (n .price)
   where
-    go : (p q : Bool) → (q ≡ true → p ≡ true) → (q ≡ true → T (le (c .«call_price») (d .«call_price»))) → T (le (cond p (minOf x (c .«call_price»)) x) (cond q (minOf y (d .«call_price»)) y))
-    go true true m k = min-mono x y (c .«call_price») (d .«call_price») (h .no-lower) (k refl)
-    go true false m k = le-trans (minOf x (c .«call_price»)) x y (min-below x (c .«call_price») (number-of-finite x (h .first-finite))) (h .no-lower)
+    go : (p q : Bool) → (q ≡ true → p ≡ true) → (q ≡ true → Before Call (c .price) (d .price)) → T (le (cond p (minOf x (c .price)) x) (cond q (minOf y (d .price)) y))
+    go true true m k = min-mono x y (c .price) (d .price) h (k refl)
+    go true false m k = le-trans (minOf x (c .price)) x y (min-below x (c .price) (number-of-le x y h .0)) h
     go false true m k = absurd (false≢true (m refl))
-    go false false m k = h .no-lower
+    go false false m k = h
+
+-- One law for both lists: a thinner call, or a put that the other's is thinner than, lowers nothing.
+pub exercised-no-lower : (c d : CallStep) (x y : Float) → NoLower c d → T (le x y) → T (le (exercised c x) (exercised d y))
+unfolding Before
+exercised-no-lower c d x y n h = go (c .put .marked) (d .put .marked) (n .put .marked-too) (n .put .price)
+  where
+    u : T (le (called (c .call) x) (called (d .call) y))
+    u = called-no-lower (c .call) (d .call) x y (n .call) h
+
+    go : (p q : Bool) → (p ≡ true → q ≡ true) → (p ≡ true → Before Put (d .put .price) (c .put .price)) → T (le (cond p (maxOf (called (c .call) x) (c .put .price)) (called (c .call) x)) (cond q (maxOf (called (d .call) y) (d .put .price)) (called (d .call) y)))
+    go true true m k = max-mono (called (c .call) x) (called (d .call) y) (c .put .price) (d .put .price) u (k refl)
+    go true false m k = absurd (false≢true (m refl))
+    go false true m k =
+        le-trans (called (c .call) x) (called (d .call) y) (maxOf (called (d .call) y) (d .put .price)) u
+        (le-max-first (called (d .call) y) (d .put .price) (number-of-le (called (c .call) x) (called (d .call) y) u .1))
+    go false false m k = u
 
 -- ---- rows
 

@@ -1,4 +1,4 @@
--- Dropping calls or raising call prices can't lower a value of the walk back, nor can raising the row that it starts from. Assumes nothing.
+-- Dropping calls or raising call prices can't lower a value of the walk back, nor adding puts or raising put prices, nor can raising the row that it starts from. Assumes nothing.
 use Prim.Native.Nat.{ℕ, suc}
 use mathlib.Core.Path.{_≡_, refl}
 use mathlib.Core.List.{List, [], _∷_}
@@ -17,13 +17,13 @@ use Rattle.terms.specs.Outcomes.{given}
 use Rattle.terms.specs.laws.Lockstep.{Meets, valued-both, refused-first, meets-then, meets-finite, Follows, given-both, follows-follow, follows-valued, follows-weaker, GivenOr27, given-or-27}
 use Rattle.bondevents.specs.declared.CallStep.{CallStep}
 use Rattle.bondevents.specs.Calls.{newStep}
-use Rattle.bondevents.specs.laws.NoLower.{NoLower, NoLowerCalls}
+use Rattle.bondevents.specs.laws.NoLower.{NoLower, NoLowerSteps}
 use Rattle.lattice.specs.declared.Transition.{Transition}
 use Rattle.lattice.specs.Layers.{At, valueAt, nodeFloat}
 use Rattle.lattice.specs.Lattice.{Layer}
-use Rattle.backwardinduction.specs.Walk.{Reads, expected, discountOf, called, nodeValue, rolled, finalRow, walkFrom}
+use Rattle.backwardinduction.specs.Walk.{Reads, expected, discountOf, exercised, nodeValue, rolled, finalRow, walkFrom}
 use Rattle.lattice.specs.laws.Proper.{Weighted, Each, more, Proper}
-use Rattle.backwardinduction.specs.laws.Rising.{Higher, Rises, rises-refl, rises-of-higher, times, plus, called-no-lower, Rows, ends, beside, at-node, rises-of-rows}
+use Rattle.backwardinduction.specs.laws.Rising.{Higher, Rises, rises-refl, rises-of-higher, times, plus, exercised-no-lower, Rows, ends, beside, at-node, rises-of-rows}
 
 -- The same readings with another call step.
 abbrev pub withCall : Reads → CallStep → Reads
@@ -67,7 +67,7 @@ expected-rises t w {next} {next'} rows place =
 
 -- What is done with expectation and discount.
 abbrev after : Reads → Float → Float → ℕ → Answer
-after r e d place = whenFinite (mul binary64 e d) place λ continuation. tested (add binary64 (called (r .call) continuation) (r .cashflow)) place
+after r e d place = whenFinite (mul binary64 e d) place λ continuation. tested (add binary64 (exercised (r .call) continuation) (r .cashflow)) place
 
 continued : (r : Reads) (c : CallStep) → NoLower (r .call) c → (e e' : Float) → Higher e e' → (place : ℕ) → {d d' : Float} → Same d d' → Meets Higher (after r e d place) (after (withCall r c) e' d' place)
 continued r c lower e e' E place (same {x = d} w) =
@@ -76,10 +76,10 @@ continued r c lower e e' E place (same {x = d} w) =
     let paid = r .cashflow in
     meets-finite x x' place _ _ λ f f'.
     let X = times e e' d (rises-of-higher e e' E) w f f' in
-    meets-finite (add binary64 (called (r .call) x) paid) (add binary64 (called c x') paid) place _ _ λ f f'.
-    let p = finite-of-add binary64 (called (r .call) x) paid f .1 in
+    meets-finite (add binary64 (exercised (r .call) x) paid) (add binary64 (exercised c x') paid) place _ _ λ f f'.
+    let p = finite-of-add binary64 (exercised (r .call) x) paid f .1 in
     valued-both
-    (plus (called (r .call) x) (called c x') paid paid (called-no-lower (r .call) c x x' lower X) (le-refl paid (number-of-finite paid p)) f f')
+    (plus (exercised (r .call) x) (exercised c x') paid paid (exercised-no-lower (r .call) c x x' lower (X .no-lower)) (le-refl paid (number-of-finite paid p)) f f')
 
 final-rises : (cashflow : Float) (nodes : List ℤ) → Rows Rises (finalRow cashflow nodes) (finalRow cashflow nodes)
 unfolding finalRow
@@ -121,7 +121,7 @@ layer-rises r c lower (n ∷ nodes) (t ∷ ts) (more w ws) {next} {next'} rows p
     follows-valued _ _ _ _ (node-rises r c lower n t w rows place) λ v v' h.
     follows-follow _ _ _ _ (layer-rises r c lower nodes ts ws rows place) λ row row' rest. given-both (beside h rest)
 
-module _ (dt spread : Float) (cashflows : List Float) (calls calls' : List CallStep) (lower : NoLowerCalls calls calls') where
+module _ (dt spread : Float) (cashflows : List Float) (calls calls' : List CallStep) (lower : NoLowerSteps calls calls') where
   -- One step of the walk, after the rest of it.
   step-follows : (k : ℕ) (l : Layer) (layers : List Layer) → Each Weighted (l .transitions) → (shift : Float) (shifts : List Float) (final : List ℤ) → Follows (Rows Rises) (walkFrom dt spread cashflows calls (suc k) layers shifts final) (walkFrom dt spread cashflows calls' (suc k) layers shifts final) → Follows (Rows Higher) (walkFrom dt spread cashflows calls k (l ∷ layers) (shift ∷ shifts) final) (walkFrom dt spread cashflows calls' k (l ∷ layers) (shift ∷ shifts) final)
   unfolding walkFrom
@@ -137,7 +137,7 @@ module _ (dt spread : Float) (cashflows : List Float) (calls calls' : List CallS
       follows-follow _ _ _ _ rest λ next next' rows.
       layer-rises r (getD calls' k newStep) (lower k) (l .nodes) (l .transitions) p rows k
 
-  -- The walk from step k on, with both call lists.
+  -- The walk from step k on, with both rows of steps.
   pub walk-follows : (k : ℕ) (layers : List Layer) → Proper layers → (shifts : List Float) (final : List ℤ) → Follows (Rows Rises) (walkFrom dt spread cashflows calls k layers shifts final) (walkFrom dt spread cashflows calls' k layers shifts final)
   walk-follows k [] ps shifts final = unfold walkFrom in given-both (final-rises (getD cashflows k plusZero) final)
   walk-follows k (l ∷ layers) ps [] final = unfold walkFrom in given-both (final-rises (getD cashflows k plusZero) final)
@@ -148,6 +148,6 @@ module _ (dt spread : Float) (cashflows : List Float) (calls calls' : List CallS
   pub walk-higher : (k : ℕ) (l : Layer) (layers : List Layer) → Proper (l ∷ layers) → (shift : Float) (shifts : List Float) (final : List ℤ) → Follows (Rows Higher) (walkFrom dt spread cashflows calls k (l ∷ layers) (shift ∷ shifts) final) (walkFrom dt spread cashflows calls' k (l ∷ layers) (shift ∷ shifts) final)
   walk-higher k l layers (more p ps) shift shifts final = step-follows k l layers p shift shifts final (walk-follows (suc k) layers ps shifts final)
 
-  -- Where the walk with the first calls gives a row, that with the second gives one that is no lower, or is refused with 27.
+  -- Where the walk with the first steps gives a row, that with the second gives one that is no lower, or is refused with 27.
   pub walk-no-lower : (k : ℕ) (layers : List Layer) → Proper layers → (shifts : List Float) (final : List ℤ) (row : List At) → walkFrom dt spread cashflows calls k layers shifts final ≡ given row → GivenOr27 (Rows Rises row) (walkFrom dt spread cashflows calls' k layers shifts final)
   walk-no-lower k layers ps shifts final row e = given-or-27 (walk-follows k layers ps shifts final) e

@@ -7,14 +7,14 @@ use lib.IntN.{ℤ}
 use lib.Ieee.{Float, binary64, nan, add, mul, neg}
 use Rattle.floats.specs.declared.Answer.{Answer}
 use Rattle.floats.specs.Answers.{plusZero, andThen, tested, whenFinite}
-use Rattle.floats.specs.Extremes.{minOf}
+use Rattle.floats.specs.Extremes.{minOf, maxOf}
 use Rattle.elementary.specs.Exponential.{expAt}
 use Rattle.terms.specs.Outcomes.{Outcome, given, valued}
 use Rattle.bondevents.specs.declared.CallStep.{CallStep}
 use Rattle.lattice.specs.declared.reach.Reach.{Reach}
 use Rattle.backwardinduction.specs.declared.walk.Rates.{Rates}
 use Rattle.lattice.specs.Layers.{nodeFloat}
-use Rattle.backwardinduction.specs.Walk.{called}
+use Rattle.backwardinduction.specs.Walk.{exercised}
 use Rattle.lattice.specs.laws.Reaching.{reach}
 use Rattle.lattice.specs.laws.Positions.{spotAt}
 
@@ -35,11 +35,11 @@ discountWith r node place =
     whenFinite (add binary64 (r .shift) state) place λ rate.
     whenFinite (add binary64 rate (r .spread)) place λ rate. whenFinite (mul binary64 rate (neg (r .dt))) place λ x. expAt x place
 
--- Continuation, the lower of it and the call price, then the cashflow.
+-- Continuation, the lower of it and the call price, the higher of that and the put price, then the cashflow.
 unfoldable pub worthOf : CallStep → Float → ℕ → Float → Float → Answer
-unfolding minOf add mul
+unfolding minOf maxOf add mul
 worthOf call cashflow place e d =
-    whenFinite (mul binary64 e d) place λ continuation. tested (add binary64 (called call continuation) cashflow) place
+    whenFinite (mul binary64 e d) place λ continuation. tested (add binary64 (exercised call continuation) cashflow) place
 
 -- A node's value from the next row.
 unfoldable pub valueWith : Rates → CallStep → Float → ℕ → Bool → ℕ → Float → Float → Float → Float → List Float → Answer

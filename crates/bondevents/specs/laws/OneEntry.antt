@@ -15,123 +15,124 @@ use Rattle.terms.specs.Terms.{Bond}
 use Rattle.terms.specs.Outcomes.{Outcome, given, refused, follow, valued}
 use Rattle.terms.specs.laws.Outcomes.{given-or-refused, answer-cases, of-given, of-refused, valued-value, valued-refused}
 use Rattle.terms.specs.laws.Searching.{below-or-not}
-use Rattle.bondevents.specs.declared.CallStep.{CallStep}
+use Rattle.bondevents.specs.declared.Side.{Side}
+use Rattle.bondevents.specs.declared.Exercise.{Exercise}
 use Rattle.bondevents.specs.Steps.{Axis}
-use Rattle.bondevents.specs.Calls.{Entry, eligible, callPrice, newStep, keepLowest, overSteps, withEntry}
+use Rattle.bondevents.specs.Calls.{Entry, eligible, callPrice, none, keep, overSteps, withEntry}
 
 -- ---- one step
 
 -- What an entry leaves of a step where it is eligible or not.
-pub data Stepped (a : Axis) (bond : Bond) (e : Entry) (k : ℕ) (c c' : CallStep) : Type 0 where
-  untouched : eligible a e k ≡ false → c' ≡ c → Stepped a bond e k c c'
-  lowered : (x : Float) → eligible a e k ≡ true → callPrice a bond e k ≡ Value x → c' ≡ keepLowest c x → Stepped a bond e k c c'
+pub data Stepped (side : Side) (a : Axis) (bond : Bond) (e : Entry) (k : ℕ) (c c' : Exercise) : Type 0 where
+  untouched : eligible a e k ≡ false → c' ≡ c → Stepped side a bond e k c c'
+  lowered : (x : Float) → eligible a e k ≡ true → callPrice a bond e k ≡ Value x → c' ≡ keep side c x → Stepped side a bond e k c c'
 
 -- the step's part of `overSteps`
-atStep : Axis → Bond → Entry → ℕ → CallStep → Outcome CallStep
-atStep a bond e k c = cond (eligible a e k) (valued (callPrice a bond e k) λ price. given (keepLowest c price)) (given c)
+atStep : Side → Axis → Bond → Entry → ℕ → Exercise → Outcome Exercise
+atStep side a bond e k c = cond (eligible a e k) (valued (callPrice a bond e k) λ price. given (keep side c price)) (given c)
 
-over-cons : (a : Axis) (bond : Bond) (e : Entry) (count step : ℕ) (c : CallStep) (cs : List CallStep)
-    → overSteps a bond e (suc count) step (c ∷ cs)
-    ≡ follow (atStep a bond e step c) (λ c'. follow (overSteps a bond e count (suc step) cs) (λ cs'. given (c' ∷ cs')))
-over-cons a bond e count step c cs = unfold overSteps atStep in refl
+over-cons : (side : Side) (a : Axis) (bond : Bond) (e : Entry) (count step : ℕ) (c : Exercise) (cs : List Exercise)
+    → overSteps side a bond e (suc count) step (c ∷ cs)
+    ≡ follow (atStep side a bond e step c) (λ c'. follow (overSteps side a bond e count (suc step) cs) (λ cs'. given (c' ∷ cs')))
+over-cons side a bond e count step c cs = unfold overSteps atStep in refl
 
-over-none : (a : Axis) (bond : Bond) (e : Entry) (step : ℕ) (cs : List CallStep) → overSteps a bond e zero step cs ≡ given cs
-over-none a bond e step cs = unfold overSteps in refl
+over-none : (side : Side) (a : Axis) (bond : Bond) (e : Entry) (step : ℕ) (cs : List Exercise) → overSteps side a bond e zero step cs ≡ given cs
+over-none side a bond e step cs = unfold overSteps in refl
 
-over-nil : (a : Axis) (bond : Bond) (e : Entry) (count step : ℕ) → overSteps a bond e (suc count) step [] ≡ given []
-over-nil a bond e count step = unfold overSteps in refl
+over-nil : (side : Side) (a : Axis) (bond : Bond) (e : Entry) (count step : ℕ) → overSteps side a bond e (suc count) step [] ≡ given []
+over-nil side a bond e count step = unfold overSteps in refl
 
-module _ (a : Axis) (bond : Bond) (e : Entry) (k : ℕ) (c : CallStep) where
-  at-taken : eligible a e k ≡ true → atStep a bond e k c ≡ valued (callPrice a bond e k) λ price. given (keepLowest c price)
+module _ (side : Side) (a : Axis) (bond : Bond) (e : Entry) (k : ℕ) (c : Exercise) where
+  at-taken : eligible a e k ≡ true → atStep side a bond e k c ≡ valued (callPrice a bond e k) λ price. given (keep side c price)
   unfolding atStep
   at-taken h = rw h
 
-  at-left : eligible a e k ≡ false → atStep a bond e k c ≡ given c
+  at-left : eligible a e k ≡ false → atStep side a bond e k c ≡ given c
   unfolding atStep
   at-left h = rw h
 
-  at-given : (c' : CallStep) → atStep a bond e k c ≡ given c' → Stepped a bond e k c c'
+  at-given : (c' : Exercise) → atStep side a bond e k c ≡ given c' → Stepped side a bond e k c c'
   at-given c' h = go (eligible a e k) refl
     where
-      go : (b : Bool) → eligible a e k ≡ b → Stepped a bond e k c c'
+      go : (b : Bool) → eligible a e k ≡ b → Stepped side a bond e k c c'
       go false g = untouched g (let s = sym (at-left g) ∙ h in cc)
       go true g =
           elim (answer-cases (callPrice a bond e k)) [
-            | inl (x, p) ↦ lowered x g p (let s = sym (valued-value (callPrice a bond e k) (λ price. given (keepLowest c price)) p) ∙ sym (at-taken g) ∙ h in cc)
-            | inr (r, p) ↦ absurd (given-or-refused (sym (at-taken g) ∙ h) (valued-refused (callPrice a bond e k) (λ price. given (keepLowest c price)) p))
+            | inl (x, p) ↦ lowered x g p (let s = sym (valued-value (callPrice a bond e k) (λ price. given (keep side c price)) p) ∙ sym (at-taken g) ∙ h in cc)
+            | inr (r, p) ↦ absurd (given-or-refused (sym (at-taken g) ∙ h) (valued-refused (callPrice a bond e k) (λ price. given (keep side c price)) p))
           ]
 
-  at-refused : (r : Refusal) → atStep a bond e k c ≡ refused r → (eligible a e k ≡ true) × (callPrice a bond e k ≡ Refused r)
+  at-refused : (r : Refusal) → atStep side a bond e k c ≡ refused r → (eligible a e k ≡ true) × (callPrice a bond e k ≡ Refused r)
   at-refused r h = go (eligible a e k) refl
     where
       go : (b : Bool) → eligible a e k ≡ b → (eligible a e k ≡ true) × (callPrice a bond e k ≡ Refused r)
       go false g = absurd (given-or-refused (at-left g) h)
       go true g =
           elim (answer-cases (callPrice a bond e k)) [
-            | inl (x, p) ↦ absurd (given-or-refused (valued-value (callPrice a bond e k) (λ price. given (keepLowest c price)) p) (sym (at-taken g) ∙ h))
-            | inr (q, p) ↦ (g, p ∙ (let s = sym (valued-refused (callPrice a bond e k) (λ price. given (keepLowest c price)) p) ∙ sym (at-taken g) ∙ h in cc))
+            | inl (x, p) ↦ absurd (given-or-refused (valued-value (callPrice a bond e k) (λ price. given (keep side c price)) p) (sym (at-taken g) ∙ h))
+            | inr (q, p) ↦ (g, p ∙ (let s = sym (valued-refused (callPrice a bond e k) (λ price. given (keep side c price)) p) ∙ sym (at-taken g) ∙ h in cc))
           ]
 
-at-same : (a : Axis) (bond other : Bond) (e : Entry) (k : ℕ) (c : CallStep) → callPrice a other e k ≡ callPrice a bond e k
-    → atStep a other e k c ≡ atStep a bond e k c
+at-same : (side : Side) (a : Axis) (bond other : Bond) (e : Entry) (k : ℕ) (c : Exercise) → callPrice a other e k ≡ callPrice a bond e k
+    → atStep side a other e k c ≡ atStep side a bond e k c
 unfolding atStep
-at-same a bond other e k c h = rw h
+at-same side a bond other e k c h = rw h
 
 -- ---- all the steps
 
 -- Of count steps from step on, those that have a place in the row are taken; the rest of the row stays.
-record Walked (a : Axis) (bond : Bond) (e : Entry) (count step : ℕ) (cs cs' : List CallStep) : Type 0 where
+record Walked (side : Side) (a : Axis) (bond : Bond) (e : Entry) (count step : ℕ) (cs cs' : List Exercise) : Type 0 where
   same-length : length cs' ≡ length cs
-  taken : (j : ℕ) → j < count → j < length cs → Stepped a bond e (step + j) (getD cs j newStep) (getD cs' j newStep)
-  rest : (j : ℕ) → count ≤ j → getD cs' j newStep ≡ getD cs j newStep
+  taken : (j : ℕ) → j < count → j < length cs → Stepped side a bond e (step + j) (getD cs j none) (getD cs' j none)
+  rest : (j : ℕ) → count ≤ j → getD cs' j none ≡ getD cs j none
 
-walked-none : (a : Axis) (bond : Bond) (e : Entry) (count step : ℕ) (cs : List CallStep) → ((j : ℕ) → j < count → j < length cs → ⊥)
-    → Walked a bond e count step cs cs
-walked-none a bond e count step cs n = record { same-length = refl; taken = λ j l k. absurd (n j l k); rest = λ j l. refl }
+walked-none : (side : Side) (a : Axis) (bond : Bond) (e : Entry) (count step : ℕ) (cs : List Exercise) → ((j : ℕ) → j < count → j < length cs → ⊥)
+    → Walked side a bond e count step cs cs
+walked-none side a bond e count step cs n = record { same-length = refl; taken = λ j l k. absurd (n j l k); rest = λ j l. refl }
 
-walked-cons : (a : Axis) (bond : Bond) (e : Entry) (count step : ℕ) (c c' : CallStep) (cs cs' : List CallStep) → Stepped a bond e step c c'
-    → Walked a bond e count (suc step) cs cs' → Walked a bond e (suc count) step (c ∷ cs) (c' ∷ cs')
-walked-cons a bond e count step c c' cs cs' s w = record { same-length = ap suc (w .same-length); taken = taken'; rest = rest' }
+walked-cons : (side : Side) (a : Axis) (bond : Bond) (e : Entry) (count step : ℕ) (c c' : Exercise) (cs cs' : List Exercise) → Stepped side a bond e step c c'
+    → Walked side a bond e count (suc step) cs cs' → Walked side a bond e (suc count) step (c ∷ cs) (c' ∷ cs')
+walked-cons side a bond e count step c c' cs cs' s w = record { same-length = ap suc (w .same-length); taken = taken'; rest = rest' }
   where
-    taken' : (j : ℕ) → j < suc count → j < suc (length cs) → Stepped a bond e (step + j) (getD (c ∷ cs) j newStep) (getD (c' ∷ cs') j newStep)
+    taken' : (j : ℕ) → j < suc count → j < suc (length cs) → Stepped side a bond e (step + j) (getD (c ∷ cs) j none) (getD (c' ∷ cs') j none)
     taken' zero l k = rw add-zero s
-    taken' (suc j) l k = subst (λ (n : ℕ). Stepped a bond e n (getD cs j newStep) (getD cs' j newStep)) (omega arith) (w .taken j (omega arith) (omega arith))
+    taken' (suc j) l k = subst (λ (n : ℕ). Stepped side a bond e n (getD cs j none) (getD cs' j none)) (omega arith) (w .taken j (omega arith) (omega arith))
 
-    rest' : (j : ℕ) → suc count ≤ j → getD (c' ∷ cs') j newStep ≡ getD (c ∷ cs) j newStep
+    rest' : (j : ℕ) → suc count ≤ j → getD (c' ∷ cs') j none ≡ getD (c ∷ cs) j none
     rest' zero l = absurd (omega arith)
     rest' (suc j) l = w .rest j (omega arith)
 
-over-given : (a : Axis) (bond : Bond) (e : Entry) (count step : ℕ) (cs cs' : List CallStep) → overSteps a bond e count step cs ≡ given cs'
-    → Walked a bond e count step cs cs'
-over-given a bond e zero step cs cs' h =
-    let g : cs ≡ cs' = let s = sym (over-none a bond e step cs) ∙ h in cc in
-    rw (← g) (walked-none a bond e zero step cs (λ j l k. omega arith))
-over-given a bond e (suc count) step [] cs' h =
-    let g : [] ≡ cs' = let s = sym (over-nil a bond e count step) ∙ h in cc in
-    rw (← g) (walked-none a bond e (suc count) step [] (λ j l k. omega arith))
-over-given a bond e (suc count) step (c ∷ cs) cs' h =
-    let (d, p, q) = of-given (atStep a bond e step c) (λ c'. follow (overSteps a bond e count (suc step) cs) (λ cs'. given (c' ∷ cs'))) (sym (over-cons a bond e count step c cs) ∙ h) in
-    let (ds, u, v) = of-given (overSteps a bond e count (suc step) cs) (λ cs'. given (d ∷ cs')) q in
+over-given : (side : Side) (a : Axis) (bond : Bond) (e : Entry) (count step : ℕ) (cs cs' : List Exercise) → overSteps side a bond e count step cs ≡ given cs'
+    → Walked side a bond e count step cs cs'
+over-given side a bond e zero step cs cs' h =
+    let g : cs ≡ cs' = let s = sym (over-none side a bond e step cs) ∙ h in cc in
+    rw (← g) (walked-none side a bond e zero step cs (λ j l k. omega arith))
+over-given side a bond e (suc count) step [] cs' h =
+    let g : [] ≡ cs' = let s = sym (over-nil side a bond e count step) ∙ h in cc in
+    rw (← g) (walked-none side a bond e (suc count) step [] (λ j l k. omega arith))
+over-given side a bond e (suc count) step (c ∷ cs) cs' h =
+    let (d, p, q) = of-given (atStep side a bond e step c) (λ c'. follow (overSteps side a bond e count (suc step) cs) (λ cs'. given (c' ∷ cs'))) (sym (over-cons side a bond e count step c cs) ∙ h) in
+    let (ds, u, v) = of-given (overSteps side a bond e count (suc step) cs) (λ cs'. given (d ∷ cs')) q in
     let g : d ∷ ds ≡ cs' = cc in
-    rw (← g) (walked-cons a bond e count step c d cs ds (at-given a bond e step c d p) (over-given a bond e count (suc step) cs ds u))
+    rw (← g) (walked-cons side a bond e count step c d cs ds (at-given side a bond e step c d p) (over-given side a bond e count (suc step) cs ds u))
 
 -- A refusal is that of a step's price.
-record Stopped (a : Axis) (bond : Bond) (e : Entry) (count step n : ℕ) (r : Refusal) : Type 0 where
+record Stopped (side : Side) (a : Axis) (bond : Bond) (e : Entry) (count step n : ℕ) (r : Refusal) : Type 0 where
   at : ℕ
   in-count : at < count
   in-row : at < n
   reach : eligible a e (step + at) ≡ true
   refuses : callPrice a bond e (step + at) ≡ Refused r
 
-over-refused : (a : Axis) (bond : Bond) (e : Entry) (count step : ℕ) (cs : List CallStep) (r : Refusal) → overSteps a bond e count step cs ≡ refused r
-    → Stopped a bond e count step (length cs) r
-over-refused a bond e zero step cs r h = absurd (given-or-refused (over-none a bond e step cs) h)
-over-refused a bond e (suc count) step [] r h = absurd (given-or-refused (over-nil a bond e count step) h)
-over-refused a bond e (suc count) step (c ∷ cs) r h =
-    go (over-refused a bond e count (suc step) cs r)
-    (of-refused (atStep a bond e step c) (λ c'. follow (overSteps a bond e count (suc step) cs) (λ cs'. given (c' ∷ cs'))) (sym (over-cons a bond e count step c cs) ∙ h))
+over-refused : (side : Side) (a : Axis) (bond : Bond) (e : Entry) (count step : ℕ) (cs : List Exercise) (r : Refusal) → overSteps side a bond e count step cs ≡ refused r
+    → Stopped side a bond e count step (length cs) r
+over-refused side a bond e zero step cs r h = absurd (given-or-refused (over-none side a bond e step cs) h)
+over-refused side a bond e (suc count) step [] r h = absurd (given-or-refused (over-nil side a bond e count step) h)
+over-refused side a bond e (suc count) step (c ∷ cs) r h =
+    go (over-refused side a bond e count (suc step) cs r)
+    (of-refused (atStep side a bond e step c) (λ c'. follow (overSteps side a bond e count (suc step) cs) (λ cs'. given (c' ∷ cs'))) (sym (over-cons side a bond e count step c cs) ∙ h))
   where
-    later : Stopped a bond e count (suc step) (length cs) r → Stopped a bond e (suc count) step (suc (length cs)) r
+    later : Stopped side a bond e count (suc step) (length cs) r → Stopped side a bond e (suc count) step (suc (length cs)) r
     later s =
         let n : suc step + s .at ≡ step + suc (s .at) = omega arith in
         record {
@@ -142,15 +143,15 @@ over-refused a bond e (suc count) step (c ∷ cs) r h =
           refuses = subst (λ (k : ℕ). callPrice a bond e k ≡ Refused r) n (s .refuses);
         }
 
-    go : (overSteps a bond e count (suc step) cs ≡ refused r → Stopped a bond e count (suc step) (length cs) r)
-        → (atStep a bond e step c ≡ refused r)
-        ⊎ ((d : CallStep) × (atStep a bond e step c ≡ given d) × (follow (overSteps a bond e count (suc step) cs) (λ cs'. given (d ∷ cs')) ≡ refused r))
-        → Stopped a bond e (suc count) step (suc (length cs)) r
+    go : (overSteps side a bond e count (suc step) cs ≡ refused r → Stopped side a bond e count (suc step) (length cs) r)
+        → (atStep side a bond e step c ≡ refused r)
+        ⊎ ((d : Exercise) × (atStep side a bond e step c ≡ given d) × (follow (overSteps side a bond e count (suc step) cs) (λ cs'. given (d ∷ cs')) ≡ refused r))
+        → Stopped side a bond e (suc count) step (suc (length cs)) r
     go ih (inl p) =
-        let (g, q) = at-refused a bond e step c r p in
+        let (g, q) = at-refused side a bond e step c r p in
         record { at = 0; in-count = omega arith; in-row = omega arith; reach = rw add-zero g; refuses = rw add-zero q }
     go ih (inr (d, p, q)) =
-        elim (of-refused (overSteps a bond e count (suc step) cs) (λ cs'. given (d ∷ cs')) q) [
+        elim (of-refused (overSteps side a bond e count (suc step) cs) (λ cs'. given (d ∷ cs')) q) [
           | inl u ↦ later (ih u)
           | inr (ds, u, v) ↦ absurd (given-or-refused refl v)
         ]
@@ -165,75 +166,75 @@ pub record Reached (a : Axis) (e : Entry) (k : ℕ) : Type 0 where
   pub is-eligible : eligible a e k ≡ true
 
 -- What an entry leaves of a step: the step as it was where it doesn't reach it, the lower price where it does.
-pub data Left (a : Axis) (bond : Bond) (e : Entry) (k : ℕ) (c c' : CallStep) : Type 0 where
-  as-it-was : (Reached a e k → ⊥) → c' ≡ c → Left a bond e k c c'
-  lowest-kept : (x : Float) → Reached a e k → callPrice a bond e k ≡ Value x → c' ≡ keepLowest c x → Left a bond e k c c'
+pub data Left (side : Side) (a : Axis) (bond : Bond) (e : Entry) (k : ℕ) (c c' : Exercise) : Type 0 where
+  as-it-was : (Reached a e k → ⊥) → c' ≡ c → Left side a bond e k c c'
+  lowest-kept : (x : Float) → Reached a e k → callPrice a bond e k ≡ Value x → c' ≡ keep side c x → Left side a bond e k c c'
 
-with-skipped : (a : Axis) (bond : Bond) (e : Entry) (cs : List CallStep) → ltb (e .end) (a .settlement) ≡ true → withEntry a bond e cs ≡ given cs
+with-skipped : (side : Side) (a : Axis) (bond : Bond) (e : Entry) (cs : List Exercise) → ltb (e .end) (a .settlement) ≡ true → withEntry side a bond e cs ≡ given cs
 unfolding withEntry
-with-skipped a bond e cs h = rw h
+with-skipped side a bond e cs h = rw h
 
-with-walked : (a : Axis) (bond : Bond) (e : Entry) (cs : List CallStep) → ltb (e .end) (a .settlement) ≡ false
-    → withEntry a bond e cs ≡ overSteps a bond e (a .steps) 0 cs
+with-walked : (side : Side) (a : Axis) (bond : Bond) (e : Entry) (cs : List Exercise) → ltb (e .end) (a .settlement) ≡ false
+    → withEntry side a bond e cs ≡ overSteps side a bond e (a .steps) 0 cs
 unfolding withEntry
-with-walked a bond e cs h = rw h
+with-walked side a bond e cs h = rw h
 
-left-of-stepped : (a : Axis) (bond : Bond) (e : Entry) (k : ℕ) (c c' : CallStep) → ltb (e .end) (a .settlement) ≡ false → k < a .steps → k < 513
-    → Stepped a bond e k c c' → Left a bond e k c c'
-left-of-stepped a bond e k c c' s l m (untouched g h) = as-it-was (λ r. true≢false (sym (r .is-eligible) ∙ g)) h
-left-of-stepped a bond e k c c' s l m (lowered x g p h) = lowest-kept x (record { not-skipped = s; tried = l; placed = m; is-eligible = g }) p h
+left-of-stepped : (side : Side) (a : Axis) (bond : Bond) (e : Entry) (k : ℕ) (c c' : Exercise) → ltb (e .end) (a .settlement) ≡ false → k < a .steps → k < 513
+    → Stepped side a bond e k c c' → Left side a bond e k c c'
+left-of-stepped side a bond e k c c' s l m (untouched g h) = as-it-was (λ r. true≢false (sym (r .is-eligible) ∙ g)) h
+left-of-stepped side a bond e k c c' s l m (lowered x g p h) = lowest-kept x (record { not-skipped = s; tried = l; placed = m; is-eligible = g }) p h
 
-left-of-walked : (a : Axis) (bond : Bond) (e : Entry) (cs cs' : List CallStep) → length cs ≡ 513 → ltb (e .end) (a .settlement) ≡ false
-    → Walked a bond e (a .steps) 0 cs cs' → (k : ℕ) → Left a bond e k (getD cs k newStep) (getD cs' k newStep)
-left-of-walked a bond e cs cs' n s w k = go (below-or-not k (a .steps)) (below-or-not k 513)
+left-of-walked : (side : Side) (a : Axis) (bond : Bond) (e : Entry) (cs cs' : List Exercise) → length cs ≡ 513 → ltb (e .end) (a .settlement) ≡ false
+    → Walked side a bond e (a .steps) 0 cs cs' → (k : ℕ) → Left side a bond e k (getD cs k none) (getD cs' k none)
+left-of-walked side a bond e cs cs' n s w k = go (below-or-not k (a .steps)) (below-or-not k 513)
   where
-    go : (k < a .steps) ⊎ (a .steps ≤ k) → (k < 513) ⊎ (513 ≤ k) → Left a bond e k (getD cs k newStep) (getD cs' k newStep)
+    go : (k < a .steps) ⊎ (a .steps ≤ k) → (k < 513) ⊎ (513 ≤ k) → Left side a bond e k (getD cs k none) (getD cs' k none)
     go (inr l) y = as-it-was (λ r. let t = r .tried in omega arith) (w .rest k l)
     go (inl l) (inr m) =
         as-it-was (λ r. let t = r .placed in omega arith)
-        (List·getD-eq-default cs' newStep (omega (arith, w .same-length)) ∙ sym (List·getD-eq-default cs newStep (omega arith)))
-    go (inl l) (inl m) = left-of-stepped a bond e k (getD cs k newStep) (getD cs' k newStep) s l m (rw zero-add at (w .taken k l (omega arith)))
+        (List·getD-eq-default cs' none (omega (arith, w .same-length)) ∙ sym (List·getD-eq-default cs none (omega arith)))
+    go (inl l) (inl m) = left-of-stepped side a bond e k (getD cs k none) (getD cs' k none) s l m (rw zero-add at (w .taken k l (omega arith)))
 
-pub with-given : (a : Axis) (bond : Bond) (e : Entry) (cs cs' : List CallStep) → length cs ≡ 513 → withEntry a bond e cs ≡ given cs'
-    → (length cs' ≡ 513) × ((k : ℕ) → Left a bond e k (getD cs k newStep) (getD cs' k newStep))
-with-given a bond e cs cs' n h = go (ltb (e .end) (a .settlement)) refl
+pub with-given : (side : Side) (a : Axis) (bond : Bond) (e : Entry) (cs cs' : List Exercise) → length cs ≡ 513 → withEntry side a bond e cs ≡ given cs'
+    → (length cs' ≡ 513) × ((k : ℕ) → Left side a bond e k (getD cs k none) (getD cs' k none))
+with-given side a bond e cs cs' n h = go (ltb (e .end) (a .settlement)) refl
   where
-    go : (b : Bool) → ltb (e .end) (a .settlement) ≡ b → (length cs' ≡ 513) × ((k : ℕ) → Left a bond e k (getD cs k newStep) (getD cs' k newStep))
+    go : (b : Bool) → ltb (e .end) (a .settlement) ≡ b → (length cs' ≡ 513) × ((k : ℕ) → Left side a bond e k (getD cs k none) (getD cs' k none))
     go true s =
-        let g : cs' ≡ cs = let u = sym (with-skipped a bond e cs s) ∙ h in cc in
-        (ap length g ∙ n, λ k. as-it-was (λ r. true≢false (sym s ∙ r .not-skipped)) (ap (λ (l : List CallStep). getD l k newStep) g))
+        let g : cs' ≡ cs = let u = sym (with-skipped side a bond e cs s) ∙ h in cc in
+        (ap length g ∙ n, λ k. as-it-was (λ r. true≢false (sym s ∙ r .not-skipped)) (ap (λ (l : List Exercise). getD l k none) g))
     go false s =
-        let w = over-given a bond e (a .steps) 0 cs cs' (sym (with-walked a bond e cs s) ∙ h) in
-        (w .same-length ∙ n, left-of-walked a bond e cs cs' n s w)
+        let w = over-given side a bond e (a .steps) 0 cs cs' (sym (with-walked side a bond e cs s) ∙ h) in
+        (w .same-length ∙ n, left-of-walked side a bond e cs cs' n s w)
 
-pub with-refused : (a : Axis) (bond : Bond) (e : Entry) (cs : List CallStep) (r : Refusal) → length cs ≡ 513 → withEntry a bond e cs ≡ refused r
+pub with-refused : (side : Side) (a : Axis) (bond : Bond) (e : Entry) (cs : List Exercise) (r : Refusal) → length cs ≡ 513 → withEntry side a bond e cs ≡ refused r
     → (k : ℕ) × Reached a e k × (callPrice a bond e k ≡ Refused r)
-with-refused a bond e cs r n h = go (ltb (e .end) (a .settlement)) refl
+with-refused side a bond e cs r n h = go (ltb (e .end) (a .settlement)) refl
   where
     go : (b : Bool) → ltb (e .end) (a .settlement) ≡ b → (k : ℕ) × Reached a e k × (callPrice a bond e k ≡ Refused r)
-    go true s = absurd (given-or-refused (with-skipped a bond e cs s) h)
+    go true s = absurd (given-or-refused (with-skipped side a bond e cs s) h)
     go false s =
-        let w = over-refused a bond e (a .steps) 0 cs r (sym (with-walked a bond e cs s) ∙ h) in
+        let w = over-refused side a bond e (a .steps) 0 cs r (sym (with-walked side a bond e cs s) ∙ h) in
         (w .at, record { not-skipped = s; tried = w .in-count; placed = omega (arith, w .in-row); is-eligible = rw zero-add at (w .reach) }, rw zero-add at (w .refuses))
 
 -- ---- two bonds
 
-module _ (a : Axis) (bond other : Bond) (e : Entry) where
-  over-same : ((k : ℕ) → callPrice a other e k ≡ callPrice a bond e k) → (count step : ℕ) (cs : List CallStep)
-      → overSteps a other e count step cs ≡ overSteps a bond e count step cs
-  over-same h zero step cs = over-none a other e step cs ∙ sym (over-none a bond e step cs)
-  over-same h (suc count) step [] = over-nil a other e count step ∙ sym (over-nil a bond e count step)
+module _ (side : Side) (a : Axis) (bond other : Bond) (e : Entry) where
+  over-same : ((k : ℕ) → callPrice a other e k ≡ callPrice a bond e k) → (count step : ℕ) (cs : List Exercise)
+      → overSteps side a other e count step cs ≡ overSteps side a bond e count step cs
+  over-same h zero step cs = over-none side a other e step cs ∙ sym (over-none side a bond e step cs)
+  over-same h (suc count) step [] = over-nil side a other e count step ∙ sym (over-nil side a bond e count step)
   over-same h (suc count) step (c ∷ cs) =
-      over-cons a other e count step c cs
-      ∙ ap (λ (o : Outcome CallStep). follow o (λ c'. follow (overSteps a other e count (suc step) cs) (λ cs'. given (c' ∷ cs')))) (at-same a bond other e step c (h step))
-      ∙ ap (λ (o : Outcome (List CallStep)). follow (atStep a bond e step c) (λ c'. follow o (λ cs'. given (c' ∷ cs')))) (over-same h count (suc step) cs)
-      ∙ sym (over-cons a bond e count step c cs)
+      over-cons side a other e count step c cs
+      ∙ ap (λ (o : Outcome Exercise). follow o (λ c'. follow (overSteps side a other e count (suc step) cs) (λ cs'. given (c' ∷ cs')))) (at-same side a bond other e step c (h step))
+      ∙ ap (λ (o : Outcome (List Exercise)). follow (atStep side a bond e step c) (λ c'. follow o (λ cs'. given (c' ∷ cs')))) (over-same h count (suc step) cs)
+      ∙ sym (over-cons side a bond e count step c cs)
 
   -- An entry leaves the same of two bonds that give it the same prices, where it isn't skipped.
   pub with-same : (ltb (e .end) (a .settlement) ≡ false → (k : ℕ) → callPrice a other e k ≡ callPrice a bond e k)
-      → (cs : List CallStep) → withEntry a other e cs ≡ withEntry a bond e cs
+      → (cs : List Exercise) → withEntry side a other e cs ≡ withEntry side a bond e cs
   with-same h cs = go (ltb (e .end) (a .settlement)) refl
     where
-      go : (b : Bool) → ltb (e .end) (a .settlement) ≡ b → withEntry a other e cs ≡ withEntry a bond e cs
-      go true s = with-skipped a other e cs s ∙ sym (with-skipped a bond e cs s)
-      go false s = with-walked a other e cs s ∙ over-same (h s) (a .steps) 0 cs ∙ sym (with-walked a bond e cs s)
+      go : (b : Bool) → ltb (e .end) (a .settlement) ≡ b → withEntry side a other e cs ≡ withEntry side a bond e cs
+      go true s = with-skipped side a other e cs s ∙ sym (with-skipped side a bond e cs s)
+      go false s = with-walked side a other e cs s ∙ over-same (h s) (a .steps) 0 cs ∙ sym (with-walked side a bond e cs s)

@@ -3,29 +3,30 @@ use Prim.Native.Nat.{ℕ, _≤_, _<_}
 use native.Mathlib.Omega.{arith}
 use native.Mathlib.Numerals.{unary-clauses}
 use mathlib.Core.Path.{_≡_, refl, sym, ap, _∙_, subst}
-use mathlib.Core.Logic.{_⊎_, inl, inr}
 use mathlib.Core.Bool.{Bool, true, false, cond, _&&_, true≢false}
 use mathlib.Core.List.{List, [], _∷_}
 use lib.ListN.{length, getD, set, replicate}
 use lib.Dec.{eqb, ltb, leb, leb→le, ltb→lt, nltb→le, eqb→eq}
 use lib.Ieee.{Float, binary64, add}
-use Rattle.floats.specs.declared.Refusal.{Refusal}
 use Rattle.floats.specs.Answers.{plusZero}
 use Rattle.floats.specs.laws.Order.{T-of, T-of-not}
 use Rattle.terms.specs.declared.Settlement.{Settlement}
 use Rattle.terms.specs.Terms.{Leg, CallSchedule, Bond, TimeGrid}
 use Rattle.terms.specs.Checks.{lastDay}
 use Rattle.terms.specs.Outcomes.{Outcome, given, refused, follow}
-use Rattle.terms.specs.laws.Outcomes.{outcome-cases, follow-given, follow-refused}
 use Rattle.terms.specs.laws.EntryChecks.{grid-terms}
 use Rattle.terms.specs.laws.TermChecks.{leg-counted, paid-passed}
+use Rattle.bondevents.specs.declared.Side.{Side}
+use Rattle.bondevents.specs.declared.Side.the-variants.{Call, Put}
+use Rattle.bondevents.specs.declared.Exercise.{Exercise}
 use Rattle.bondevents.specs.declared.CallStep.{CallStep}
 use Rattle.bondevents.specs.Steps.{Axis, stepOf, paidInto}
-use Rattle.bondevents.specs.Calls.{Entry, discrete, newStep, counted, redemptions, redemptionStepOf, principal, withEntry, overEntries, callSteps}
+use Rattle.bondevents.specs.Calls.{Entry, discrete, none, counted, redemptions, redemptionStepOf, principal, exercises, callSteps}
 use Rattle.bondevents.specs.Grid.{axisOf}
 use Rattle.bondevents.specs.Repaid.{repaid, unrepaid, withoutRepaid, RepaidNowhere}
 use Rattle.bondevents.specs.laws.Pricing.{same-price}
-use Rattle.bondevents.specs.laws.OneEntry.{with-same}
+use Rattle.bondevents.specs.laws.SamePrices.{entries-same}
+use Rattle.bondevents.specs.laws.CallSteps.{filled, steps-are}
 use Rattle.bondevents.specs.laws.Grids.{gridOf, grid-is}
 
 -- ---- one cashflow more
@@ -107,11 +108,6 @@ module _ (a : Axis) (leg : Leg) (e : Entry) (k : ℕ) where
   unfolding principal
   of-window d = rw d
 
-entries-cons : (a : Axis) (bond : Bond) (s t : ℕ) (x : Float) (starts ends : List ℕ) (strikes : List Float) (cs : List CallStep)
-    → overEntries a bond (s ∷ starts) (t ∷ ends) (x ∷ strikes) cs
-    ≡ follow (withEntry a bond (record { start = s; end = t; strike = x }) cs) (λ cs. overEntries a bond starts ends strikes cs)
-entries-cons a bond s t x starts ends strikes cs = unfold overEntries in refl
-
 module _ (a : Axis) (bond : Bond) (kinds-too : length (bond .leg .kinds) ≡ length (bond .leg .days)) (amounts-too : length (bond .leg .amounts) ≡ length (bond .leg .days)) where
   unrepaid-counted : (after : ℕ → Bool) → NotYet (a .settlement) after → counted (withoutRepaid (a .settlement) bond .leg) after ≡ counted (bond .leg) after
   unrepaid-counted after none = unrepaid-sum (a .settlement) after none (bond .leg .days) (bond .leg .kinds) (bond .leg .amounts) plusZero kinds-too amounts-too
@@ -129,36 +125,12 @@ module _ (a : Axis) (bond : Bond) (kinds-too : length (bond .leg .kinds) ≡ len
           of-call a leg e k d ∙ unrepaid-counted (λ day. ltb (e .start) day) (call-not-yet (a .settlement) (e .start) (omega arith)) ∙ sym (of-call a (bond .leg) e k d)
       go false d = of-window a leg e k d ∙ unrepaid-counted (λ day. ltb k (redemptionStepOf a day)) (window-not-yet a k) ∙ sym (of-window a (bond .leg) e k d)
 
-  -- ---- the call entries
+  -- ---- the call and put entries
 
-  unrepaid-calls : (starts ends : List ℕ) (strikes : List Float) (cs : List CallStep)
-      → overEntries a (withoutRepaid (a .settlement) bond) starts ends strikes cs ≡ overEntries a bond starts ends strikes cs
-  unrepaid-calls [] ends strikes cs = unfold overEntries in refl
-  unrepaid-calls (s ∷ starts) [] strikes cs = unfold overEntries in refl
-  unrepaid-calls (s ∷ starts) (t ∷ ends) [] cs = unfold overEntries in refl
-  unrepaid-calls (s ∷ starts) (t ∷ ends) (x ∷ strikes) cs = go (outcome-cases (withEntry a bond e cs)) (unrepaid-calls starts ends strikes)
-    where
-      e : Entry
-      e = record { start = s; end = t; strike = x }
-
-      other : Bond
-      other = withoutRepaid (a .settlement) bond
-
-      here : withEntry a other e cs ≡ withEntry a bond e cs
-      here = with-same a bond other e (λ h k. same-price a bond other e k (unrepaid-principal e h k) refl) cs
-
-      go : ((ds : List CallStep) × (withEntry a bond e cs ≡ given ds)) ⊎ ((r : Refusal) × (withEntry a bond e cs ≡ refused r))
-          → ((ds : List CallStep) → overEntries a other starts ends strikes ds ≡ overEntries a bond starts ends strikes ds)
-          → overEntries a other (s ∷ starts) (t ∷ ends) (x ∷ strikes) cs ≡ overEntries a bond (s ∷ starts) (t ∷ ends) (x ∷ strikes) cs
-      go (inl (ds, p)) later =
-          entries-cons a other s t x starts ends strikes cs
-          ∙ follow-given _ _ (here ∙ p)
-          ∙ later ds
-          ∙ sym (entries-cons a bond s t x starts ends strikes cs ∙ follow-given _ _ p)
-      go (inr (r, p)) later =
-          entries-cons a other s t x starts ends strikes cs
-          ∙ follow-refused _ _ (here ∙ p)
-          ∙ sym (entries-cons a bond s t x starts ends strikes cs ∙ follow-refused _ _ p)
+  unrepaid-entries : (side : Side) (entries : CallSchedule) → exercises side a (withoutRepaid (a .settlement) bond) entries ≡ exercises side a bond entries
+  unrepaid-entries side entries =
+      entries-same side a bond (withoutRepaid (a .settlement) bond) (λ e h k. same-price a bond (withoutRepaid (a .settlement) bond) e k (unrepaid-principal e h k) refl)
+      (entries .starts) (entries .ends) (entries .strikes) (replicate 513 none)
 
 -- ---- cashflows
 
@@ -224,6 +196,16 @@ settled : (settlement : Settlement) (leg : Leg) (controls : TimeGrid) → axisOf
 unfolding axisOf
 settled settlement leg controls = refl
 
+-- The steps of the grid.
+unrepaid-steps : (a : Axis) (bond : Bond) → length (bond .leg .kinds) ≡ length (bond .leg .days) → length (bond .leg .amounts) ≡ length (bond .leg .days) → (calls : CallSchedule)
+    → callSteps a (withoutRepaid (a .settlement) bond) calls ≡ callSteps a bond calls
+unrepaid-steps a bond k m calls =
+    let other = withoutRepaid (a .settlement) bond in
+    steps-are a other calls
+    ∙ ap (λ (o : Outcome (List Exercise)). follow o λ cs. follow (exercises Put a other (bond .puts)) λ ps. filled cs ps) (unrepaid-entries a bond k m Call calls)
+    ∙ ap (λ (o : Outcome (List Exercise)). follow (exercises Call a bond calls) λ cs. follow o λ ps. filled cs ps) (unrepaid-entries a bond k m Put (bond .puts))
+    ∙ sym (steps-are a bond calls)
+
 -- The grid of an axis, and of the bond without what is repaid at its settlement.
 unrepaid-grid : (a : Axis) (bond : Bond) (calls : CallSchedule) → length (bond .leg .kinds) ≡ length (bond .leg .days) → length (bond .leg .amounts) ≡ length (bond .leg .days)
     → follow (callSteps a (withoutRepaid (a .settlement) bond) calls) (λ cs. given (gridOf a (withoutRepaid (a .settlement) bond) cs))
@@ -232,7 +214,7 @@ unrepaid-grid a bond calls k m =
     ap (λ (row : List Float). follow (callSteps a (withoutRepaid (a .settlement) bond) calls) (λ cs. given (record { «maturity_time» = a .maturity; steps = a .steps; cashflows = row; calls = cs })))
     (unrepaid-paid a (bond .leg .days) (bond .leg .kinds) (bond .leg .amounts) (replicate 513 plusZero) k m)
     ∙ ap (λ (o : Outcome (List CallStep)). follow o (λ cs. given (gridOf a bond cs)))
-    (unrepaid-calls a bond k m (calls .starts) (calls .ends) (calls .strikes) (replicate 513 newStep))
+    (unrepaid-steps a bond k m calls)
 
 pub repaid-nowhere : RepaidNowhere
 repaid-nowhere settlement bond calls controls h =

@@ -11,7 +11,7 @@ hand-grid-requires : tie.Need-hand-grid-requires
 hand-grid-requires c κs = search needs
 
 returns : tie.Need-returns
-returns c = grid-as (c .before .before .before .before .before .before .before .bond-event-grid .ensures) (c .hand-grid .ensures)
+returns c = grid-as (c .before .before .before .before .before .before .before .before .before .bond-event-grid .ensures) (c .hand-grid .ensures)
 
 pub gutirapeo-grid-spec : {M : Type 1} → statement M
 gutirapeo-grid-spec = tie.close (tie.spec bond-event-grid-requires hand-grid-requires returns)

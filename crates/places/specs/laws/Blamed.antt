@@ -1,4 +1,4 @@
--- Whoever is blamed for a refusal is at fault: the check that looks there refuses, with this number and place. Assumes nothing.
+-- Whoever is blamed for a refusal of a bond without puts is at fault: the check that looks there refuses, with this number and place. Assumes nothing.
 use Prim.Native.Nat.{ℕ, _≤_, _<_}
 use mathlib.Core.Path.{_≡_, refl, sym, ap, _∙_}
 use mathlib.Core.Logic.{inl, inr}
@@ -14,7 +14,7 @@ use Rattle.floats.specs.declared.Refusal.{Refusal}
 use Rattle.terms.specs.declared.Check.{Check}
 use Rattle.terms.specs.declared.Check.the-variants.{Passed, Refused}
 use Rattle.terms.specs.Numbers.{float, amountLimit}
-use Rattle.terms.specs.Terms.{Leg, CallSchedule, SigmaSchedule, Market}
+use Rattle.terms.specs.Terms.{Leg, CallSchedule, SigmaSchedule, Market, noEntries, withPuts}
 use Rattle.terms.specs.Checks.{firstOf, single, indexed, noDay, falls, beyond, notAbove, settings, dayCount, legDays, callDays, within, amountRange, strikeRange, sigmaRange, callOrder, sigmaOrder, lastDay, anyPaid, pillarOrder, pillarsApart, maturityApart, positiveFactors}
 use Rattle.terms.specs.Entries.{marketChecks, treeChecks}
 use Rattle.terms.specs.laws.Sequence.{passed-not-refused, passes-of-first, first-refusal, indexed-passed, indexed-refused}
@@ -206,7 +206,7 @@ module _ (m : Market) (calls : CallSchedule) (r : Refusal) where
         | inr a ↦ absurd (none-refused r (a .1))
       ]
 
-module _ (limit : Float) (m : Market) (calls : CallSchedule) (r : Refusal) (h : marketChecks limit m calls ≡ Refused r) where
+module _ (limit : Float) (m : Market) (calls : CallSchedule) (r : Refusal) (h : marketChecks limit (withPuts m noEntries) calls ≡ Refused r) where
   -- 3: settlement, a cashflow, a call or a pillar.
   pub blamed-day : r .number ≡ 3 → dayCheck m calls (blamedDay m calls (r .place)) ≡ Refused r
   blamed-day n =
@@ -232,7 +232,7 @@ module _ (limit : Float) (m : Market) (calls : CallSchedule) (r : Refusal) (h : 
       ]
 
 -- 4, where the spread's limit is 1: units, alpha, spread, a cashflow, a call, a sigma entry or a pillar.
-pub blamed-number : (m : Market) (calls : CallSchedule) (r : Refusal) → marketChecks (float 1) m calls ≡ Refused r → r .number ≡ 4 → numberCheck m calls (blamedNumber m calls (r .place)) ≡ Refused r
+pub blamed-number : (m : Market) (calls : CallSchedule) (r : Refusal) → marketChecks (float 1) (withPuts m noEntries) calls ≡ Refused r → r .number ≡ 4 → numberCheck m calls (blamedNumber m calls (r .place)) ≡ Refused r
 blamed-number m calls r h n =
     elim (refusing m calls (float 1) r h) [
       | by-steps a e ↦ absurd (omega arith)
@@ -244,7 +244,7 @@ blamed-number m calls r h n =
     ]
 
 -- The tree value's refusals, but for 2, the counts: as the line is found.
-pub blamed-tree : (m : Market) (calls : CallSchedule) (r : Refusal) → treeChecks m calls ≡ Refused r → (r .number ≡ 2 → ⊥) → checkOf m calls (r .number) (blamed m calls r) ≡ Refused r
+pub blamed-tree : (m : Market) (calls : CallSchedule) (r : Refusal) → treeChecks (withPuts m noEntries) calls ≡ Refused r → (r .number ≡ 2 → ⊥) → checkOf m calls (r .number) (blamed m calls r) ≡ Refused r
 unfolding treeChecks
 blamed-tree m calls r h not-2 =
     elim (refusing m calls (float 1) r h) [
@@ -257,7 +257,7 @@ blamed-tree m calls r h not-2 =
     ]
 
 -- Somebody is blamed.
-pub blamed-somebody : (m : Market) (calls : CallSchedule) (r : Refusal) → treeChecks m calls ≡ Refused r → (r .number ≡ 2 → ⊥) → blamed m calls r ≡ Nobody → ⊥
+pub blamed-somebody : (m : Market) (calls : CallSchedule) (r : Refusal) → treeChecks (withPuts m noEntries) calls ≡ Refused r → (r .number ≡ 2 → ⊥) → blamed m calls r ≡ Nobody → ⊥
 unfolding checksOf
 blamed-somebody m calls r h not-2 e =
     passed-not-refused _ r (ap (checkOf m calls (r .number)) e ∙ all-pass (eqb (r .number) 3) (eqb (r .number) 4)) (blamed-tree m calls r h not-2)

@@ -1,4 +1,4 @@
--- Which of the tree's checks refused, by the number of the refusal: the settings, then the counts, the days, the numbers and the orders. Assumes nothing.
+-- Which of the tree's checks refused, of a bond without puts, by the number of the refusal: the settings, then the counts, the days, the numbers and the orders. Assumes nothing.
 use Prim.Native.Nat.{ℕ, _≤_, _<_}
 use mathlib.Core.Path.{_≡_, refl, sym, _∙_}
 use mathlib.Core.Logic.{_⊎_, inl, inr}
@@ -10,10 +10,10 @@ use lib.Ieee.{Float}
 use Rattle.floats.specs.declared.Refusal.{Refusal}
 use Rattle.terms.specs.declared.Check.{Check}
 use Rattle.terms.specs.declared.Check.the-variants.{Passed, Refused}
-use Rattle.terms.specs.Terms.{CallSchedule, Market}
-use Rattle.terms.specs.Checks.{onCheck, firstOf, single, lowest, settings, dayCount}
-use Rattle.terms.specs.Entries.{gridCounts, modelCounts, treeCounts, treeDays, treeNumbers, treeOrders, lateChecks, marketChecks}
-use Rattle.terms.specs.laws.Sequence.{passed-not-refused, groups-of-first, lowest-refused}
+use Rattle.terms.specs.Terms.{CallSchedule, Market, noEntries, withPuts}
+use Rattle.terms.specs.Checks.{onCheck, firstOf, single, lowest, settings, dayCount, legCount, callCount, settlementDay, legDays, callDays, pillarDays, amountRange, strikeRange, callOrder, sigmaOrder, anyPaid}
+use Rattle.terms.specs.Entries.{modelCounts, treeFields, modelNumbers, lateChecks, marketChecks}
+use Rattle.terms.specs.laws.Sequence.{passed-not-refused, all, groups-of-first, lowest-refused}
 use Rattle.terms.specs.laws.TermChecks.{LegCounted, leg-counted, SigmaCounted, sigma-counted}
 use Rattle.terms.specs.laws.CallChecks.{CallCounted, call-counted}
 use Rattle.terms.specs.laws.Stages.{in-stages}
@@ -59,16 +59,16 @@ pub ruleset numbers = (single-numbers, lowest-numbers, none-numbers, first-numbe
 
 module _ (m : Market) (calls : CallSchedule) where
   abbrev pub countChecks : List Check
-  countChecks = treeCounts (m .bond .leg) calls (m .model .sigma) (m .pillars)
+  countChecks = legCount (m .bond .leg) ∷ callCount calls ∷ modelCounts (m .model .sigma) (m .pillars)
 
   abbrev pub dayChecks : List Check
-  dayChecks = treeDays (m .settlement .day) (m .bond .leg) calls (m .pillars)
+  dayChecks = settlementDay (m .settlement .day) ∷ legDays (m .bond .leg) ∷ callDays calls ∷ pillarDays (m .pillars) ∷ []
 
   abbrev pub numberChecks : Float → List Check
-  numberChecks limit = treeNumbers limit (m .bond .units) (m .model .alpha) (m .spread) (m .bond .leg) calls (m .model .sigma) (m .pillars)
+  numberChecks limit = treeFields limit (m .bond .units) (m .model .alpha) (m .spread) ++ amountRange (m .bond .leg) ∷ strikeRange calls ∷ modelNumbers (m .model .sigma) (m .pillars)
 
   abbrev pub orderChecks : List Check
-  orderChecks = treeOrders (m .settlement .day) (m .bond .leg) calls (m .model .sigma) ++ lateChecks (m .settlement) (m .bond .leg) (m .pillars)
+  orderChecks = callOrder calls ∷ sigmaOrder (m .model .sigma) ∷ anyPaid (m .settlement .day) (m .bond .leg) ∷ lateChecks (m .settlement) (m .bond .leg) (m .pillars)
 
   -- 1, and 33.
   abbrev pub stepsCheck : List Check
@@ -103,7 +103,7 @@ module _ (m : Market) (calls : CallSchedule) where
 
   counted : firstOf countChecks ≡ Passed → Counted
   counted h =
-      let g = groups-of-first (gridCounts (m .bond .leg) calls ∷ modelCounts (m .model .sigma) (m .pillars) ∷ []) h in
+      let g = groups-of-first ((legCount (m .bond .leg) ∷ callCount calls ∷ []) ∷ modelCounts (m .model .sigma) (m .pillars) ∷ []) h in
       record {
         leg = leg-counted (m .bond .leg) (g .0 .0);
         call = call-counted calls (g .0 .1 .0);
@@ -119,11 +119,15 @@ module _ (m : Market) (calls : CallSchedule) where
     by-numbers : r .number ≡ 4 → Counted → firstOf (numberChecks limit) ≡ Refused r → Refusing limit r
     by-orders : 4 < r .number → firstOf codeCheck ≡ Passed → firstOf orderChecks ≡ Refused r → Refusing limit r
 
-  in-groups : (limit : Float) → marketChecks limit m calls ≡ firstOf (firstOf stepsCheck ∷ firstOf codeCheck ∷ firstOf countChecks ∷ firstOf dayChecks ∷ firstOf (numberChecks limit) ∷ firstOf orderChecks ∷ [])
-  unfolding marketChecks
-  in-groups limit = in-stages (stepsCheck ∷ codeCheck ∷ countChecks ∷ dayChecks ∷ numberChecks limit ∷ orderChecks ∷ [])
+  -- A bond without puts: their checks are passed, so that those of the others are left.
+  without-puts : (limit : Float) → marketChecks limit (withPuts m noEntries) calls ≡ firstOf (all (stepsCheck ∷ codeCheck ∷ countChecks ∷ dayChecks ∷ numberChecks limit ∷ orderChecks ∷ []))
+  unfolding marketChecks firstOf onCheck lowest
+  without-puts limit = refl
 
-  pub refusing : (limit : Float) (r : Refusal) → marketChecks limit m calls ≡ Refused r → Refusing limit r
+  in-groups : (limit : Float) → marketChecks limit (withPuts m noEntries) calls ≡ firstOf (firstOf stepsCheck ∷ firstOf codeCheck ∷ firstOf countChecks ∷ firstOf dayChecks ∷ firstOf (numberChecks limit) ∷ firstOf orderChecks ∷ [])
+  in-groups limit = without-puts limit ∙ in-stages (stepsCheck ∷ codeCheck ∷ countChecks ∷ dayChecks ∷ numberChecks limit ∷ orderChecks ∷ [])
+
+  pub refusing : (limit : Float) (r : Refusal) → marketChecks limit (withPuts m noEntries) calls ≡ Refused r → Refusing limit r
   refusing limit r h =
       elim (first-refused _ _ r (sym (in-groups limit) ∙ h)) [
         | inl e ↦ let b = steps-numbers .between r e in by-steps (omega arith) e

@@ -22,7 +22,7 @@ use Rattle.elementary.specs.Logarithm.{lnAt}
 use Rattle.bondreport.specs.Columns.{putAt}
 use Rattle.bondreport.specs.Numbers.{byteLeft, digitsLeft, widthOf, wholeLeft}
 use Rattle.bondreport.specs.Figures.{onDecimals, pointLeft, minusLeft}
-use Rattle.terms.specs.Terms.{Bond, Market}
+use Rattle.terms.specs.Terms.{Bond, Market, noEntries}
 use Rattle.terms.specs.Numbers.{float}
 use Rattle.terms.specs.Checks.{lowest, onCheck}
 use Rattle.terms.specs.Outcomes.{onOutcome}
@@ -216,7 +216,7 @@ line-numbers bond m calls room = go (ordered 1 bond) (ordered bond 999999)
 
 -- Two redemptions of 10^12 are too wide.
 abbrev trillions : Bond
-trillions = record { leg = record { days = 365 ∷ 365 ∷ []; kinds = 1 ∷ 1 ∷ []; amounts = float 1000000000000 ∷ float 1000000000000 ∷ [] }; units = float 100 }
+trillions = record { leg = record { days = 365 ∷ 365 ∷ []; kinds = 1 ∷ 1 ∷ []; amounts = float 1000000000000 ∷ float 1000000000000 ∷ [] }; units = float 100; puts = noEntries }
 
 abbrev wideMarket : Market
 wideMarket = record { settlement = market99 .settlement; bond = trillions; controls = market99 .controls; model = market99 .model; spread = market99 .spread; pillars = market99 .pillars }

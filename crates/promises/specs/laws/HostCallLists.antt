@@ -14,7 +14,7 @@ use Rattle.terms.specs.CallLists.{Reordered, StrikeAbove, strikeOf}
 use Rattle.terms.specs.Checks.{onCheck}
 use Rattle.terms.specs.Entries.{treeChecks}
 use Rattle.terms.specs.Numbers.{million}
-use Rattle.terms.specs.Outcomes.{onOutcome}
+use Rattle.terms.specs.Outcomes.{Outcome, onOutcome}
 use Rattle.terms.specs.declared.Check.{Check}
 use Rattle.terms.specs.declared.Check.the-variants as check
 use Rattle.terms.specs.laws.EntryChecks.{grid-calls}
@@ -22,11 +22,12 @@ use Rattle.terms.specs.laws.MadeLists.{AllWithin, strikes-decided, tree-made-re
 use Rattle.bondevents.specs.laws.GridAnswers as answers
 use Rattle.bondevents.specs.declared.GridAnswer.{GridAnswer}
 use Rattle.bondevents.specs.Grid.{gridAnswer}
-use Rattle.bondevents.specs.Parts.{markOf, priceOfStep}
+use Rattle.bondevents.specs.declared.Side.the-variants.{Call, Put}
+use Rattle.bondevents.specs.Parts.{sideMark, sidePrice}
 use Rattle.lattice.specs.Layers.{Room}
 use Rattle.treebasedbondpricer.specs.declared.TreeValue.{TreeValue}
 use Rattle.treebasedbondpricer.specs.declared.TreeValue.the-variants.{Value, Refused}
-use Rattle.treebasedbondpricer.specs.Tree.{treeValueOver, treeValue, lentAfter, numberOf, placeOf, valueOf, countedBy, roomOf}
+use Rattle.treebasedbondpricer.specs.Tree.{treeValueOver, treeValue, Lent, lentAfter, numberOf, placeOf, valueOf, countedBy, roomOf}
 use Rattle.treebasedbondpricer.specs.CallLists.{NoLowerOr27, accepted, refused-27}
 use Rattle.treebasedbondpricer.specs.laws.CallLists.{call-list-rule, reordering-rule}
 use Rattle.sizing.specs.declared.Sizes.{Sizes}
@@ -71,95 +72,99 @@ host-call-list-rule m first second made a b as-long z =
       otherwise = λ none. rw (number, value, p .value-is) (no-lower (t .otherwise none));
     }
 
+-- ---- equal answers are handed back alike
+
+pub grids-alike : {m n : Market} {first second : CallSchedule} (a : GridCall m first) (b : GridCall n second)
+    → gridAnswer (n .settlement) (n .bond) second (n .controls) ≡ gridAnswer (m .settlement) (m .bond) first (m .controls) → SameGrids a b
+grids-alike a b e =
+    let p = a .handed in
+    let q = b .handed in
+    record {
+      number = q .number-is ∙ ap (λ (g : GridAnswer). g .refusal .number) e ∙ sym (p .number-is);
+      place = q .place-is ∙ ap (λ (g : GridAnswer). g .refusal .place) e ∙ sym (p .place-is);
+      maturity = q .maturity-is ∙ ap (λ (g : GridAnswer). g .grid .«maturity_time») e ∙ sym (p .maturity-is);
+      steps = q .steps-is ∙ ap (λ (g : GridAnswer). g .grid .steps) e ∙ sym (p .steps-is);
+      cashflows = q .cashflows-are ∙ ap (λ (g : GridAnswer). g .grid .cashflows) e ∙ sym (p .cashflows-are);
+      marks = q .marks-are ∙ ap (λ (g : GridAnswer). map (sideMark Call) (g .grid .calls)) e ∙ sym (p .marks-are);
+      prices = q .prices-are ∙ ap (λ (g : GridAnswer). map (sidePrice Call) (g .grid .calls)) e ∙ sym (p .prices-are);
+      put-marks = q .put-marks-are ∙ ap (λ (g : GridAnswer). map (sideMark Put) (g .grid .calls)) e ∙ sym (p .put-marks-are);
+      put-prices = q .put-prices-are ∙ ap (λ (g : GridAnswer). map (sidePrice Put) (g .grid .calls)) e ∙ sym (p .put-prices-are);
+    }
+
+pub values-alike : {m n : Market} {first second : CallSchedule} (a : TreeCall m first) (b : TreeCall n second) → roomOf (b .lent) ≡ roomOf (a .lent)
+    → ((room : Room) → treeValue n second room ≡ treeValue m first room) → ((lent : Lent) → lentAfter n second lent ≡ lentAfter m first lent) → SameValues a b
+values-alike {m} {n} {first} {second} a b as-long same left =
+    let p = a .handed .handed in
+    let q = b .handed .handed in
+    let e : treeValue n second (roomOf (b .lent)) ≡ treeValue m first (roomOf (a .lent)) = ap (treeValue n second) as-long ∙ same (roomOf (a .lent)) in
+    record {
+      number = q .number-is ∙ ap numberOf e ∙ sym (p .number-is);
+      place = q .place-is ∙ ap placeOf e ∙ sym (p .place-is);
+      value = q .value-is ∙ ap valueOf e ∙ sym (p .value-is);
+      nodes = q .nodes-is ∙ ap countedBy e ∙ sym (p .nodes-is);
+      slices = λ alike. b .handed .slices ∙ left (b .lent) ∙ ap (lentAfter m first) alike ∙ sym (a .handed .slices);
+    }
+
+pub spreads-alike : {m n : Market} {target : Float} {first second : CallSchedule} (a : SpreadCall m target first) (b : SpreadCall n target second) → roomOf (b .lent) ≡ roomOf (a .lent)
+    → ((room : Room) → spreadFromPrice (quoting n target) second room ≡ spreadFromPrice (quoting m target) first room) → ((lent : Lent) → spreads.lentAfter (quoting n target) second lent ≡ spreads.lentAfter (quoting m target) first lent) → SameSpreads a b
+spreads-alike {m} {n} {target} {first} {second} a b as-long same left =
+    let p = a .handed .handed in
+    let q = b .handed .handed in
+    let e : spreadFromPrice (quoting n target) second (roomOf (b .lent)) ≡ spreadFromPrice (quoting m target) first (roomOf (a .lent)) = ap (spreadFromPrice (quoting n target) second) as-long ∙ same (roomOf (a .lent)) in
+    record {
+      number = q .number-is ∙ ap rootNumber e ∙ sym (p .number-is);
+      place = q .place-is ∙ ap rootPlace e ∙ sym (p .place-is);
+      spread = q .value-is ∙ ap rootValue e ∙ sym (p .value-is);
+      tried = q .evaluations-is ∙ ap evaluationsOf e ∙ sym (p .evaluations-is);
+      slices = λ alike. b .handed .slices ∙ left (b .lent) ∙ ap (spreads.lentAfter (quoting m target) first) alike ∙ sym (a .handed .slices);
+    }
+
+pub lines-alike : {bond : ℕ} {m n : Market} {first second : CallSchedule} (a : SheetCall bond m first) (b : SheetCall bond n second) → roomOf (b .lent) ≡ roomOf (a .lent)
+    → ((room : Room) → treeValue n second room ≡ treeValue m first room) → ((lent : Lent) → lentAfter n second lent ≡ lentAfter m first lent) → SameLines a b
+lines-alike {bond} {m} {n} {first} {second} a b as-long same left =
+    let p = a .handed .handed in
+    let q = b .handed .handed in
+    let e : sheetOf bond (treeValue n second (roomOf (b .lent))) ≡ sheetOf bond (treeValue m first (roomOf (a .lent))) = ap (sheetOf bond) (ap (treeValue n second) as-long ∙ same (roomOf (a .lent))) in
+    record {
+      number = q .number-is ∙ ap (λ (s : ClosingLine). s .refusal .number) e ∙ sym (p .number-is);
+      place = q .place-is ∙ ap (λ (s : ClosingLine). s .refusal .place) e ∙ sym (p .place-is);
+      line = q .line-is ∙ ap (λ (s : ClosingLine). s .line) e ∙ sym (p .line-is);
+      slices = λ alike. b .handed .slices ∙ left (b .lent) ∙ ap (lentAfter m first) alike ∙ sym (a .handed .slices);
+    }
+
+pub sizes-alike : {m n : Market} {first second : CallSchedule} (a : SizesCall m first) (b : SizesCall n second) → length (b .lent) ≡ length (a .lent)
+    → ((room : ℕ) → sizesOf n second room ≡ sizesOf m first room) → ((nodes : List ℤ) → nodesAfter n second nodes ≡ nodesAfter m first nodes) → SameSizes a b
+sizes-alike {m} {n} {first} {second} a b as-long same left =
+    let p = a .handed .handed in
+    let q = b .handed .handed in
+    let e : sizesOf n second (length (b .lent)) ≡ sizesOf m first (length (a .lent)) = ap (sizesOf n second) as-long ∙ same (length (a .lent)) in
+    record {
+      number = q .number-is ∙ ap sizesNumber e ∙ sym (p .number-is);
+      place = q .place-is ∙ ap sizesPlace e ∙ sym (p .place-is);
+      nodes = q .nodes-is ∙ ap (λ (s : Sizes). needed s .nodes) e ∙ sym (p .nodes-is);
+      probabilities = q .probabilities-is ∙ ap (λ (s : Sizes). needed s .probabilities) e ∙ sym (p .probabilities-is);
+      row = q .row-is ∙ ap (λ (s : Sizes). needed s .row) e ∙ sym (p .row-is);
+      count = q .count-is ∙ ap (λ (s : Sizes). needed s .count) e ∙ sym (p .count-is);
+      slice = λ alike. b .handed .slice ∙ left (b .lent) ∙ ap (nodesAfter m first) alike ∙ sym (a .handed .slice);
+    }
+
+-- Sizing reads calls and puts in its checks alone.
+pub same-sizes : {m n : Market} {first second : CallSchedule} → treeChecks n second ≡ treeChecks m first → ((room : ℕ) → treeWidths n room ≡ treeWidths m room)
+    → (a : SizesCall m first) (b : SizesCall n second) → length (b .lent) ≡ length (a .lent) → SameSizes a b
+unfolding sizesOf nodesAfter
+same-sizes {m} {n} {first} checks as-wide a b as-long =
+    sizes-alike a b as-long
+    (λ room. ap (λ (c : Check). onCheck c sizes.Refused (onOutcome (treeWidths n room) sizes.Refused sizesFrom)) checks
+    ∙ ap (λ (o : Outcome (List ℕ)). onCheck (treeChecks m first) sizes.Refused (onOutcome o sizes.Refused sizesFrom)) (as-wide room))
+    (λ nodes. ap (λ (c : Check). onCheck c (λ r. nodes) (replicate (length nodes) (pos 0))) checks)
+
 -- ---- reordering
 
 module _ (m : Market) (first second : CallSchedule) (r : Reordered first second) (z : gridAnswer (m .settlement) (m .bond) first (m .controls) .refusal .number ≡ 0) where
-  same-grids : (a : GridCall m first) (b : GridCall m second) → SameGrids a b
-  same-grids a b =
-      let p = a .handed in
-      let q = b .handed in
-      let e = reordering-rule m first second r z .grids in
-      record {
-        number = q .number-is ∙ ap (λ (g : GridAnswer). g .refusal .number) e ∙ sym (p .number-is);
-        place = q .place-is ∙ ap (λ (g : GridAnswer). g .refusal .place) e ∙ sym (p .place-is);
-        maturity = q .maturity-is ∙ ap (λ (g : GridAnswer). g .grid .«maturity_time») e ∙ sym (p .maturity-is);
-        steps = q .steps-is ∙ ap (λ (g : GridAnswer). g .grid .steps) e ∙ sym (p .steps-is);
-        cashflows = q .cashflows-are ∙ ap (λ (g : GridAnswer). g .grid .cashflows) e ∙ sym (p .cashflows-are);
-        marks = q .marks-are ∙ ap (λ (g : GridAnswer). map markOf (g .grid .calls)) e ∙ sym (p .marks-are);
-        prices = q .prices-are ∙ ap (λ (g : GridAnswer). map priceOfStep (g .grid .calls)) e ∙ sym (p .prices-are);
-      }
-
-  same-values : (a : TreeCall m first) (b : TreeCall m second) → roomOf (b .lent) ≡ roomOf (a .lent) → SameValues a b
-  same-values a b as-long =
-      let p = a .handed .handed in
-      let q = b .handed .handed in
-      let same = reordering-rule m first second r z in
-      let e : treeValue m second (roomOf (b .lent)) ≡ treeValue m first (roomOf (a .lent)) = ap (treeValue m second) as-long ∙ same .values (roomOf (a .lent)) in
-      record {
-        number = q .number-is ∙ ap numberOf e ∙ sym (p .number-is);
-        place = q .place-is ∙ ap placeOf e ∙ sym (p .place-is);
-        value = q .value-is ∙ ap valueOf e ∙ sym (p .value-is);
-        nodes = q .nodes-is ∙ ap countedBy e ∙ sym (p .nodes-is);
-        slices = λ alike. b .handed .slices ∙ same .slices (b .lent) ∙ ap (lentAfter m first) alike ∙ sym (a .handed .slices);
-      }
-
-  same-spreads : (target : Float) (a : SpreadCall m target first) (b : SpreadCall m target second) → roomOf (b .lent) ≡ roomOf (a .lent) → SameSpreads a b
-  same-spreads target a b as-long =
-      let p = a .handed .handed in
-      let q = b .handed .handed in
-      let w = quoting m target in
-      let same = spread-reordering-rule w first second r z in
-      let e : spreadFromPrice w second (roomOf (b .lent)) ≡ spreadFromPrice w first (roomOf (a .lent)) = ap (spreadFromPrice w second) as-long ∙ same .roots (roomOf (a .lent)) in
-      record {
-        number = q .number-is ∙ ap rootNumber e ∙ sym (p .number-is);
-        place = q .place-is ∙ ap rootPlace e ∙ sym (p .place-is);
-        spread = q .value-is ∙ ap rootValue e ∙ sym (p .value-is);
-        tried = q .evaluations-is ∙ ap evaluationsOf e ∙ sym (p .evaluations-is);
-        slices = λ alike. b .handed .slices ∙ same .slices (b .lent) ∙ ap (spreads.lentAfter w first) alike ∙ sym (a .handed .slices);
-      }
-
-  same-lines : (bond : ℕ) (a : SheetCall bond m first) (b : SheetCall bond m second) → roomOf (b .lent) ≡ roomOf (a .lent) → SameLines a b
-  same-lines bond a b as-long =
-      let p = a .handed .handed in
-      let q = b .handed .handed in
-      let same = reordering-rule m first second r z in
-      let e : sheetOf bond (treeValue m second (roomOf (b .lent))) ≡ sheetOf bond (treeValue m first (roomOf (a .lent))) = ap (sheetOf bond) (ap (treeValue m second) as-long ∙ same .values (roomOf (a .lent))) in
-      record {
-        number = q .number-is ∙ ap (λ (s : ClosingLine). s .refusal .number) e ∙ sym (p .number-is);
-        place = q .place-is ∙ ap (λ (s : ClosingLine). s .refusal .place) e ∙ sym (p .place-is);
-        line = q .line-is ∙ ap (λ (s : ClosingLine). s .line) e ∙ sym (p .line-is);
-        slices = λ alike. b .handed .slices ∙ same .slices (b .lent) ∙ ap (lentAfter m first) alike ∙ sym (a .handed .slices);
-      }
-
   same-checks : treeChecks m second ≡ treeChecks m first
   same-checks =
       let a = answers.accepted (m .settlement) (m .bond) first (m .controls) z in
       tree-reordered-alike first second r m (grid-calls (m .settlement) (m .bond) first (m .controls) (a .checked))
-
--- Sizing reads the calls in its checks alone.
-module _ (m : Market) (first second : CallSchedule) (checks : treeChecks m second ≡ treeChecks m first) where
-  sizes-alike : (room : ℕ) → sizesOf m second room ≡ sizesOf m first room
-  unfolding sizesOf
-  sizes-alike room = ap (λ (c : Check). onCheck c sizes.Refused (onOutcome (treeWidths m room) sizes.Refused sizesFrom)) checks
-
-  slices-alike : (nodes : List ℤ) → nodesAfter m second nodes ≡ nodesAfter m first nodes
-  unfolding nodesAfter
-  slices-alike nodes = ap (λ (c : Check). onCheck c (λ r. nodes) (replicate (length nodes) (pos 0))) checks
-
-  same-sizes : (a : SizesCall m first) (b : SizesCall m second) → length (b .lent) ≡ length (a .lent) → SameSizes a b
-  same-sizes a b as-long =
-      let p = a .handed .handed in
-      let q = b .handed .handed in
-      let e : sizesOf m second (length (b .lent)) ≡ sizesOf m first (length (a .lent)) = ap (sizesOf m second) as-long ∙ sizes-alike (length (a .lent)) in
-      record {
-        number = q .number-is ∙ ap sizesNumber e ∙ sym (p .number-is);
-        place = q .place-is ∙ ap sizesPlace e ∙ sym (p .place-is);
-        nodes = q .nodes-is ∙ ap (λ (s : Sizes). needed s .nodes) e ∙ sym (p .nodes-is);
-        probabilities = q .probabilities-is ∙ ap (λ (s : Sizes). needed s .probabilities) e ∙ sym (p .probabilities-is);
-        row = q .row-is ∙ ap (λ (s : Sizes). needed s .row) e ∙ sym (p .row-is);
-        count = q .count-is ∙ ap (λ (s : Sizes). needed s .count) e ∙ sym (p .count-is);
-        slice = λ alike. b .handed .slice ∙ slices-alike (b .lent) ∙ ap (nodesAfter m first) alike ∙ sym (a .handed .slice);
-      }
 
 -- What has a value has passed its checks.
 value-passed : (m : Market) (calls : CallSchedule) (room : Room) (x : Float) (n : ℕ) → treeValue m calls room ≡ Value x n → treeChecks m calls ≡ check.Passed
@@ -175,7 +180,7 @@ host-sizes-rule m first second made v z a b as-long =
           let (r, e, four) = tree-made-refused first second made m has-passed s in
           record { with-4 = ((λ _. above), (λ _. b .handed .handed .number-is ∙ refused-number r e ∙ four)); otherwise = λ none. absurd (none above) }
       | inr w ↦
-          let same = same-sizes m first second (tree-made-passed first second made m has-passed w ∙ sym has-passed) a b as-long in
+          let same = same-sizes (tree-made-passed first second made m has-passed w ∙ sym has-passed) (λ room. refl) a b as-long in
           record {
             with-4 = ((λ four. absurd (never-4 m first (length (a .lent)) has-passed (sym (a .handed .handed .number-is) ∙ sym (same .number) ∙ four))), (λ s. absurd (not-both s w)));
             otherwise = λ _. same;
@@ -197,10 +202,11 @@ host-sizes-rule m first second made v z a b as-long =
 pub host-reordering-rule : HostReorderingRule
 host-reordering-rule m first second r g z =
     let y = sym (g .handed .number-is) ∙ z in
+    let same = reordering-rule m first second r y in
     record {
-      grids = same-grids m first second r y;
-      values = same-values m first second r y;
-      spreads = same-spreads m first second r y;
-      lines = same-lines m first second r y;
-      sizes = same-sizes m first second (same-checks m first second r y);
+      grids = λ a b. grids-alike a b (same .grids);
+      values = λ a b as-long. values-alike a b as-long (same .values) (same .slices);
+      spreads = λ target a b as-long. let found = spread-reordering-rule (quoting m target) first second r y in spreads-alike a b as-long (found .roots) (found .slices);
+      lines = λ bond a b as-long. lines-alike a b as-long (same .values) (same .slices);
+      sizes = same-sizes (same-checks m first second r y) (λ room. refl);
     }

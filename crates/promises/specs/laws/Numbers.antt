@@ -54,11 +54,11 @@ arithmeticRefusals = 26 ∷ 27 ∷ []
 
 -- The input checks of the tree's entries.
 abbrev pub checkRefusals : List ℕ
-checkRefusals = 1 ∷ 2 ∷ 3 ∷ 4 ∷ 5 ∷ 6 ∷ 7 ∷ 8 ∷ 33 ∷ 34 ∷ 35 ∷ 44 ∷ []
+checkRefusals = 1 ∷ 2 ∷ 3 ∷ 4 ∷ 5 ∷ 6 ∷ 7 ∷ 8 ∷ 33 ∷ 34 ∷ 35 ∷ 37 ∷ 44 ∷ []
 
 -- The event grid of checked terms.
 abbrev pub gridRefusals : List ℕ
-gridRefusals = 20 ∷ 27 ∷ []
+gridRefusals = 20 ∷ 27 ∷ 38 ∷ []
 
 -- Curve, fit and walk.
 abbrev pub walkRefusals : List ℕ
@@ -138,6 +138,10 @@ then-known (refused r) k h q = refuse-outcome r (h .it)
 pub then-check : {ns : List ℕ} (c d : Check) → Holds (CheckAmong ns) c → Holds (CheckAmong ns) d → Holds (CheckAmong ns) (onCheck c check.Refused d)
 then-check c d h = on-check c check.Refused d h refuse-check
 
+-- an outcome behind a check
+pub then-checked : {A : Type 0} {ns : List ℕ} (c : Check) (o : Outcome A) → Holds (CheckAmong ns) c → Holds (OutcomeAmong ns) o → Holds (OutcomeAmong ns) (onCheck c refused o)
+then-checked c o h = on-check c refused o h refuse-outcome
+
 -- indexed
 pub lowest-check : {ns : List ℕ} (number : ℕ) (bad : ℕ → Bool) (count i : ℕ) → Among ns number → Holds (CheckAmong ns) (lowest number bad count i)
 unfolding lowest
@@ -146,4 +150,4 @@ lowest-check number bad (suc count) i h =
     let later = lowest-check number bad count (suc i) h in
     search (of-cond, refuse-check)
 
-pub ruleset numbers = (one-of, of-cond, value-only, refused-only, give-outcome, refuse-outcome, pass-check, refuse-check, then-only, then-valued, then-outcome, then-check, lowest-check)
+pub ruleset numbers = (one-of, of-cond, value-only, refused-only, give-outcome, refuse-outcome, pass-check, refuse-check, then-only, then-valued, then-outcome, then-check, then-checked, lowest-check)

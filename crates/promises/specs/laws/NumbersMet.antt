@@ -23,5 +23,7 @@ each-met =
     (more (record { market = _; calls = _; room = _; place = _; refused = tried.number-33 })
     (more (record { market = _; calls = _; room = _; place = _; refused = tried.number-34 })
     (more (record { market = _; calls = _; room = _; place = _; refused = tried.number-35 })
+    (more (record { market = _; calls = _; room = _; place = _; refused = tried.number-37 })
+    (more (record { market = _; calls = _; room = _; place = _; refused = tried.number-38 })
     (more (record { market = _; calls = _; room = _; place = _; refused = tried.number-44 })
-    none))))))))))))))))))
+    none))))))))))))))))))))

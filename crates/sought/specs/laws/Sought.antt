@@ -1,5 +1,5 @@
 -- What the solver evaluates, by the case of what is priced: the cashflows at a yield, or the tree that stands in the lent slices at a spread. Assumes nothing.
-use Prim.Native.Nat.{ℕ, _<_, _^_}
+use Prim.Native.Nat.{ℕ, _<_, _^_, _*_}
 use mathlib.Core.Path.{_≡_}
 use mathlib.Core.Bool.{Bool, cond}
 use mathlib.Core.List.{List, []}
@@ -74,7 +74,7 @@ pub record Walkable (flat : Bool) (t : TreeParts) (first second : ℕ) : Type 0 
   pub laid : Laid flat first second (t .counts) (t .spacings) (t .nodes) (t .probabilities)
   pub root : (getD (t .counts) 0 0 ≡ 1) × (numbersIn (frontNodes 1 (t .nodes)) ≡ rootLayer)
   pub steps : (length (t .shifts) ≡ length (t .spacings)) × (length (t .spacings) < length (t .cashflows)) × (length (t .cashflows) < 2 ^ 32)
-  pub calls : (length (t .marks) ≡ length (t .cashflows)) × (length (t .prices) ≡ length (t .cashflows))
+  pub calls : (length (t .marks) ≡ length (t .cashflows)) × (length (t .prices) ≡ length (t .cashflows) * 2)
 
 -- What is priced can be worked out: as many amounts as days, or a tree that can be walked back.
 pub record Ready (s : Sought) (days : List ℕ) (amounts : List Float) (t : TreeParts) (first second : ℕ) : Type 0 where

@@ -19,7 +19,7 @@ use Rattle.terms.specs.Outcomes.{Outcome, given, refused, onOutcome, finiteThen
 use Rattle.bondevents.specs.declared.CallStep.{CallStep}
 use Rattle.bondevents.specs.declared.EventGrid.{EventGrid}
 use Rattle.bondevents.specs.Grid.{eventGrid}
-use Rattle.bondevents.specs.Parts.{gridOutcome, markOf, priceOfStep}
+use Rattle.bondevents.specs.Parts.{gridOutcome, stepMark, stepPrices}
 use Rattle.lattice.specs.Layers.{At, Room}
 use Rattle.backwardinduction.specs.laws.WalkMore.{callsOf}
 use Rattle.treebasedbondpricer.specs.declared.fitted.FittedTree.{FittedTree}
@@ -85,7 +85,7 @@ module _ {o : Outcome Fitted} {long wide : ℕ} {counts : List ℕ} {spacings sh
         ∙ ap (λ (objective : Float → Answer). bracketedRoot objective firstLower firstUpper (neg one)) (λ i x. tried-alike x i)
         ∙ sym (ap (foundOver target cashflows (callsOf marks prices)) (s .is))
 
-pub root-with-calls : (o : Outcome Fitted) (target : Float) (cashflows : List Float) (calls : List CallStep) {marks : List ℕ} {prices : List Float} {v : Root} → v ≡ foundOver target cashflows (callsOf marks prices) o → marks ≡ map markOf calls → prices ≡ map priceOfStep calls → v ≡ foundOver target cashflows calls o
+pub root-with-calls : (o : Outcome Fitted) (target : Float) (cashflows : List Float) (calls : List CallStep) {marks : List ℕ} {prices : List Float} {v : Root} → v ≡ foundOver target cashflows (callsOf marks prices) o → marks ≡ map stepMark calls → prices ≡ stepPrices calls → v ≡ foundOver target cashflows calls o
 root-with-calls o target cashflows calls e f g = e ∙ ap (λ (cs : List CallStep). foundOver target cashflows cs o) (same-calls calls f g)
 
 module _ (asked : Quoted) (calls : CallSchedule) (room : Room) {r : EventGrid} (e : r ≡ gridOutcome (eventGrid (asked .settlement) (asked .bond) calls (asked .controls))) where

@@ -1,5 +1,6 @@
 -- What the checks of a call schedule say of its entries, and that a schedule of which this holds passes them. Assumes nothing.
 use mathlib.Core.Path.{_≡_}
+use mathlib.Core.Bool.{false}
 use Prim.Native.Nat.{ℕ, _≤_, _<_}
 use lib.ListN.{length}
 use lib.Dec.{T, ltb, nltb→le}
@@ -10,10 +11,10 @@ use Rattle.floats.specs.laws.Fractions.{or-r}
 use Rattle.terms.specs.declared.Check.the-variants.{Passed, Refused}
 use Rattle.terms.specs.Numbers.{million}
 use Rattle.terms.specs.Terms.{CallSchedule}
-use Rattle.terms.specs.Checks.{noDay, notAbove, callCount, callDays, callOrder, strikeRange}
+use Rattle.terms.specs.Checks.{noDay, notAbove, callCount, putCount, putMost, callDays, callOrder, strikeRange}
 use Rattle.terms.specs.CallLists.{size, startOf, endOf, strikeOf, Entries}
 use Rattle.terms.specs.laws.Limits.{million-finite}
-use Rattle.terms.specs.laws.Sequence.{LowestAt, indexed-passed, indexed-of-none, indexed-found}
+use Rattle.terms.specs.laws.Sequence.{LowestAt, single-passed, single-of-not, indexed-passed, indexed-of-none, indexed-found}
 use Rattle.terms.specs.laws.Counts.{parallel-three, parallel-three-of}
 use Rattle.terms.specs.laws.Ranges.{Above, above-of, not-not-above, neither, not-or, not-ltb}
 
@@ -35,6 +36,21 @@ module _ (c : CallSchedule) where
   call-count-of k =
       parallel-three-of (ltb 64 (size c)) (size c) (length (c .ends)) (length (c .strikes))
       (not-ltb 64 (size c) (k .few)) (k .entries .ends-too) (k .entries .strikes-too)
+
+  -- Of puts 2 and 37 say together what 2 says of calls.
+  pub put-entries : putCount c ≡ Passed → Entries c
+  put-entries h =
+      let p = parallel-three false (size c) (length (c .ends)) (length (c .strikes)) h in
+      record { ends-too = p .1; strikes-too = p .2 }
+
+  pub put-few : putMost c ≡ Passed → size c ≤ 64
+  put-few h = nltb→le 64 (size c) (single-passed 37 0 (ltb 64 (size c)) h)
+
+  pub put-count-of : Entries c → putCount c ≡ Passed
+  put-count-of e = parallel-three-of false (size c) (length (c .ends)) (length (c .strikes)) tt (e .ends-too) (e .strikes-too)
+
+  pub put-most-of : size c ≤ 64 → putMost c ≡ Passed
+  put-most-of h = single-of-not 37 0 (ltb 64 (size c)) (not-ltb 64 (size c) h)
 
   -- 3: each day is 0 to 200,000.
   pub record DaysInRange (i : ℕ) : Type 0 where

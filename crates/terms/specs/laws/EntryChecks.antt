@@ -9,12 +9,31 @@ use Rattle.terms.specs.declared.Settlement.{Settlement}
 use Rattle.terms.specs.declared.Check.{Check}
 use Rattle.terms.specs.declared.Check.the-variants.{Passed, Refused}
 use Rattle.terms.specs.Numbers.{float, targetLimit}
-use Rattle.terms.specs.Terms.{Leg, CallSchedule, Pillars, Bond, TimeGrid, Market, withSpread}
-use Rattle.terms.specs.Checks.{firstOf, callCount, callDays, pillarDays, unitsRange, within, amountRange, strikeRange, sigmaOrder, anyPaid, maturityApart, positiveFactors}
-use Rattle.terms.specs.Entries.{settingChecks, gridCounts, gridDays, listNumbers, callOrders, gridChecks, modelCounts, treeFields, modelNumbers, curveOrders, lateChecks, marketChecks, treeChecks, spreadChecks, straightCounts, straightDays, straightNumbers, straightChecks, yieldCounts, yieldDays, yieldNumbers, yieldChecks}
+use Rattle.terms.specs.Terms.{Leg, CallSchedule, Pillars, Bond, TimeGrid, Market, withSpread, bondWithPuts, withPuts}
+use Rattle.terms.specs.Checks.{firstOf, callCount, putCount, putMost, callDays, callOrder, pillarDays, unitsRange, within, amountRange, strikeRange, sigmaOrder, anyPaid, maturityApart, positiveFactors}
+use Rattle.terms.specs.Entries.{settingChecks, gridCounts, mostChecks, gridDays, listNumbers, callOrders, gridChecks, modelCounts, treeFields, modelNumbers, curveOrders, lateChecks, marketChecks, treeChecks, spreadChecks, straightCounts, straightDays, straightNumbers, straightChecks, yieldCounts, yieldDays, yieldNumbers, yieldChecks}
 use Rattle.terms.specs.laws.Sequence.{Passes, all, all-pass, groups-of-first, first-of-groups, first-refusal, first-of-one, first-of-other}
 use Rattle.terms.specs.laws.TermChecks.{pillars-counted}
+use Rattle.terms.specs.laws.CallChecks.{put-entries, put-few, put-count-of, put-most-of, call-counted, call-count-of}
 use Rattle.terms.specs.laws.Groups.{LegPassed, CallsPassed, PillarsPassed, GridTermsPassed, MarketPassed}
+
+-- ---- the puts
+
+-- What 2 and 37, and the other numbers, say of puts is what the calls' say of calls.
+puts-passed : (puts : CallSchedule) → putCount puts ≡ Passed → putMost puts ≡ Passed → callDays puts ≡ Passed → strikeRange puts ≡ Passed → callOrder puts ≡ Passed → CallsPassed puts
+puts-passed puts counted most days strikes ordered =
+    record {
+      counted = call-count-of puts (record { entries = put-entries puts counted; few = put-few puts most });
+      days = days;
+      strikes = strikes;
+      ordered = ordered;
+    }
+
+puts-counted : (puts : CallSchedule) → CallsPassed puts → putCount puts ≡ Passed
+puts-counted puts k = put-count-of puts (call-counted puts (k .counted) .entries)
+
+puts-most : (puts : CallSchedule) → CallsPassed puts → putMost puts ≡ Passed
+puts-most puts k = put-most-of puts (call-counted puts (k .counted) .few)
 
 -- ---- the grid
 
@@ -23,14 +42,15 @@ module _ (settlement : Settlement) (bond : Bond) (calls : CallSchedule) (control
   abbrev grid-before : List (List Check)
   grid-before =
       settingChecks controls (settlement .code)
-      ∷ gridCounts (bond .leg) calls
-      ∷ gridDays (settlement .day) (bond .leg) calls
+      ∷ gridCounts (bond .leg) calls (bond .puts)
+      ∷ mostChecks (bond .puts)
+      ∷ gridDays (settlement .day) (bond .leg) calls (bond .puts)
       ∷ (unitsRange (bond .units) ∷ amountRange (bond .leg) ∷ [])
       ∷ []
 
   -- and after them
   abbrev grid-after : List (List Check)
-  grid-after = callOrders calls ∷ (anyPaid (settlement .day) (bond .leg) ∷ maturityApart settlement (bond .leg) ∷ []) ∷ []
+  grid-after = (strikeRange (bond .puts) ∷ []) ∷ callOrders calls (bond .puts) ∷ (anyPaid (settlement .day) (bond .leg) ∷ maturityApart settlement (bond .leg) ∷ []) ∷ []
 
   grid-split : gridChecks settlement bond calls controls ≡ firstOf (all grid-before ++ (strikeRange calls ∷ all grid-after))
   unfolding gridChecks
@@ -39,11 +59,12 @@ module _ (settlement : Settlement) (bond : Bond) (calls : CallSchedule) (control
   -- Every group is passed.
   record GridGroups : Type 0 where
     setting : Passes (settingChecks controls (settlement .code))
-    counts : Passes (gridCounts (bond .leg) calls)
-    days : Passes (gridDays (settlement .day) (bond .leg) calls)
+    counts : Passes (gridCounts (bond .leg) calls (bond .puts))
+    most : Passes (mostChecks (bond .puts))
+    days : Passes (gridDays (settlement .day) (bond .leg) calls (bond .puts))
     field : unitsRange (bond .units) ≡ Passed
-    lists : Passes (listNumbers (bond .leg) calls)
-    orders : Passes (callOrders calls)
+    lists : Passes (listNumbers (bond .leg) calls (bond .puts))
+    orders : Passes (callOrders calls (bond .puts))
     later-orders : Passes (anyPaid (settlement .day) (bond .leg) ∷ maturityApart settlement (bond .leg) ∷ [])
 
   grid-groups : gridChecks settlement bond calls controls ≡ Passed → GridGroups
@@ -52,22 +73,24 @@ module _ (settlement : Settlement) (bond : Bond) (calls : CallSchedule) (control
       let g =
       groups-of-first
       (settingChecks controls (settlement .code)
-      ∷ gridCounts (bond .leg) calls
-      ∷ gridDays (settlement .day) (bond .leg) calls
+      ∷ gridCounts (bond .leg) calls (bond .puts)
+      ∷ mostChecks (bond .puts)
+      ∷ gridDays (settlement .day) (bond .leg) calls (bond .puts)
       ∷ (unitsRange (bond .units) ∷ [])
-      ∷ listNumbers (bond .leg) calls
-      ∷ callOrders calls
+      ∷ listNumbers (bond .leg) calls (bond .puts)
+      ∷ callOrders calls (bond .puts)
       ∷ (anyPaid (settlement .day) (bond .leg) ∷ maturityApart settlement (bond .leg) ∷ [])
       ∷ [])
       h in
       record {
         setting = g .0;
         counts = g .1 .0;
-        days = g .1 .1 .0;
-        field = g .1 .1 .1 .0 .0;
-        lists = g .1 .1 .1 .1 .0;
-        orders = g .1 .1 .1 .1 .1 .0;
-        later-orders = g .1 .1 .1 .1 .1 .1 .0;
+        most = g .1 .1 .0;
+        days = g .1 .1 .1 .0;
+        field = g .1 .1 .1 .1 .0 .0;
+        lists = g .1 .1 .1 .1 .1 .0;
+        orders = g .1 .1 .1 .1 .1 .1 .0;
+        later-orders = g .1 .1 .1 .1 .1 .1 .1 .0;
       }
 
   pub grid-terms : gridChecks settlement bond calls controls ≡ Passed → GridTermsPassed settlement bond controls
@@ -84,6 +107,7 @@ module _ (settlement : Settlement) (bond : Bond) (calls : CallSchedule) (control
           paid = g .later-orders .0;
         };
         units = g .field;
+        puts = puts-passed (bond .puts) (g .counts .1 .1 .0) (g .most .0) (g .days .1 .1 .1 .0) (g .lists .1 .1 .0) (g .orders .1 .0);
         apart = g .later-orders .1 .0;
       }
 
@@ -102,10 +126,13 @@ module _ (settlement : Settlement) (bond : Bond) (calls : CallSchedule) (control
       all-pass grid-before (
         (terms .steps, (terms .leg .code, tt)),
         (
-          (terms .leg .counted, (counted, tt)),
+          (terms .leg .counted, (counted, (puts-counted (bond .puts) (terms .puts), tt))),
           (
-            (terms .leg .settled, (terms .leg .days, (days, tt))),
-            ((terms .units, (terms .leg .amounts, tt)), tt),
+            (puts-most (bond .puts) (terms .puts), tt),
+            (
+              (terms .leg .settled, (terms .leg .days, (days, (terms .puts .days, tt)))),
+              ((terms .units, (terms .leg .amounts, tt)), tt),
+            ),
           ),
         ),
       )
@@ -113,7 +140,7 @@ module _ (settlement : Settlement) (bond : Bond) (calls : CallSchedule) (control
   pub grid-passed : GridTermsPassed settlement bond controls → CallsPassed calls → gridChecks settlement bond calls controls ≡ Passed
   grid-passed terms k =
       grid-split
-      ∙ first-of-one (all grid-before) (strikeRange calls) (all grid-after) (grid-front terms (k .counted) (k .days)) (all-pass grid-after ((k .ordered, tt), ((terms .leg .paid, (terms .apart, tt)), tt)))
+      ∙ first-of-one (all grid-before) (strikeRange calls) (all grid-after) (grid-front terms (k .counted) (k .days)) (all-pass grid-after ((terms .puts .strikes, tt), ((k .ordered, (terms .puts .ordered, tt)), ((terms .leg .paid, (terms .apart, tt)), tt))))
       ∙ k .strikes
 
   -- What stands before the strikes is passed, and a strike is refused: that is the answer.
@@ -128,24 +155,29 @@ module _ (m : Market) (calls : CallSchedule) where
   abbrev spread-before : List (List Check)
   spread-before =
       settingChecks (m .controls) (m .settlement .code)
-      ∷ gridCounts (m .bond .leg) calls
+      ∷ gridCounts (m .bond .leg) calls (m .bond .puts)
       ∷ modelCounts (m .model .sigma) (m .pillars)
-      ∷ gridDays (m .settlement .day) (m .bond .leg) calls
+      ∷ mostChecks (m .bond .puts)
+      ∷ gridDays (m .settlement .day) (m .bond .leg) calls (m .bond .puts)
       ∷ (pillarDays (m .pillars) ∷ [])
       ∷ (unitsRange (m .bond .units) ∷ within (float 10) (m .model .alpha) ∷ [])
       ∷ []
 
-  -- and after the strikes
-  abbrev market-after : List (List Check)
-  market-after =
+  -- and after the strikes of calls and puts
+  abbrev market-rest : List (List Check)
+  market-rest =
       modelNumbers (m .model .sigma) (m .pillars)
-      ∷ callOrders calls
+      ∷ callOrders calls (m .bond .puts)
       ∷ (sigmaOrder (m .model .sigma) ∷ anyPaid (m .settlement .day) (m .bond .leg) ∷ [])
       ∷ lateChecks (m .settlement) (m .bond .leg) (m .pillars)
       ∷ []
 
+  -- and after the calls' strikes
+  abbrev market-after : List (List Check)
+  market-after = (strikeRange (m .bond .puts) ∷ []) ∷ market-rest
+
   abbrev spread-after : List (List Check)
-  spread-after = listNumbers (m .bond .leg) calls ∷ market-after
+  spread-after = listNumbers (m .bond .leg) calls (m .bond .puts) ∷ market-rest
 
 module _ (limit : Float) (m : Market) (calls : CallSchedule) where
   abbrev market-before : List Check
@@ -158,14 +190,15 @@ module _ (limit : Float) (m : Market) (calls : CallSchedule) where
   -- Every group is passed.
   record MarketGroups : Type 0 where
     setting : Passes (settingChecks (m .controls) (m .settlement .code))
-    counts : Passes (gridCounts (m .bond .leg) calls)
+    counts : Passes (gridCounts (m .bond .leg) calls (m .bond .puts))
     model-counts : Passes (modelCounts (m .model .sigma) (m .pillars))
-    days : Passes (gridDays (m .settlement .day) (m .bond .leg) calls)
+    most : Passes (mostChecks (m .bond .puts))
+    days : Passes (gridDays (m .settlement .day) (m .bond .leg) calls (m .bond .puts))
     pillar-days : pillarDays (m .pillars) ≡ Passed
     fields : Passes (treeFields limit (m .bond .units) (m .model .alpha) (m .spread))
-    lists : Passes (listNumbers (m .bond .leg) calls)
+    lists : Passes (listNumbers (m .bond .leg) calls (m .bond .puts))
     model-numbers : Passes (modelNumbers (m .model .sigma) (m .pillars))
-    orders : Passes (callOrders calls)
+    orders : Passes (callOrders calls (m .bond .puts))
     later-orders : Passes (sigmaOrder (m .model .sigma) ∷ anyPaid (m .settlement .day) (m .bond .leg) ∷ [])
     late : Passes (lateChecks (m .settlement) (m .bond .leg) (m .pillars))
 
@@ -175,26 +208,28 @@ module _ (limit : Float) (m : Market) (calls : CallSchedule) where
       let g =
       groups-of-first
       (settingChecks (m .controls) (m .settlement .code)
-      ∷ gridCounts (m .bond .leg) calls
+      ∷ gridCounts (m .bond .leg) calls (m .bond .puts)
       ∷ modelCounts (m .model .sigma) (m .pillars)
-      ∷ gridDays (m .settlement .day) (m .bond .leg) calls
+      ∷ mostChecks (m .bond .puts)
+      ∷ gridDays (m .settlement .day) (m .bond .leg) calls (m .bond .puts)
       ∷ (pillarDays (m .pillars) ∷ [])
       ∷ treeFields limit (m .bond .units) (m .model .alpha) (m .spread)
-      ∷ listNumbers (m .bond .leg) calls
-      ∷ market-after m calls)
+      ∷ listNumbers (m .bond .leg) calls (m .bond .puts)
+      ∷ market-rest m calls)
       h in
       record {
         setting = g .0;
         counts = g .1 .0;
         model-counts = g .1 .1 .0;
-        days = g .1 .1 .1 .0;
-        pillar-days = g .1 .1 .1 .1 .0 .0;
-        fields = g .1 .1 .1 .1 .1 .0;
-        lists = g .1 .1 .1 .1 .1 .1 .0;
-        model-numbers = g .1 .1 .1 .1 .1 .1 .1 .0;
-        orders = g .1 .1 .1 .1 .1 .1 .1 .1 .0;
-        later-orders = g .1 .1 .1 .1 .1 .1 .1 .1 .1 .0;
-        late = g .1 .1 .1 .1 .1 .1 .1 .1 .1 .1 .0;
+        most = g .1 .1 .1 .0;
+        days = g .1 .1 .1 .1 .0;
+        pillar-days = g .1 .1 .1 .1 .1 .0 .0;
+        fields = g .1 .1 .1 .1 .1 .1 .0;
+        lists = g .1 .1 .1 .1 .1 .1 .1 .0;
+        model-numbers = g .1 .1 .1 .1 .1 .1 .1 .1 .0;
+        orders = g .1 .1 .1 .1 .1 .1 .1 .1 .1 .0;
+        later-orders = g .1 .1 .1 .1 .1 .1 .1 .1 .1 .1 .0;
+        late = g .1 .1 .1 .1 .1 .1 .1 .1 .1 .1 .1 .0;
       }
 
   pub market-terms : marketChecks limit m calls ≡ Passed → MarketPassed limit m
@@ -212,6 +247,7 @@ module _ (limit : Float) (m : Market) (calls : CallSchedule) where
             paid = g .later-orders .1 .0;
           };
           units = g .fields .0;
+          puts = puts-passed (m .bond .puts) (g .counts .1 .1 .0) (g .most .0) (g .days .1 .1 .1 .0) (g .lists .1 .1 .0) (g .orders .1 .0);
           apart = g .late .1 .1 .0;
         };
         sigma = record {
@@ -246,16 +282,19 @@ module _ (limit : Float) (m : Market) (calls : CallSchedule) where
       all-pass (spread-before m calls ++ ((within limit (m .spread) ∷ amountRange (m .bond .leg) ∷ []) ∷ [])) (
         (t .grid .steps, (t .grid .leg .code, tt)),
         (
-          (t .grid .leg .counted, (counted, tt)),
+          (t .grid .leg .counted, (counted, (puts-counted (m .bond .puts) (t .grid .puts), tt))),
           (
             (t .sigma .counted, (t .pillars .counted, tt)),
             (
-              (t .grid .leg .settled, (t .grid .leg .days, (days, tt))),
+              (puts-most (m .bond .puts) (t .grid .puts), tt),
               (
-                (t .pillars .days, tt),
+                (t .grid .leg .settled, (t .grid .leg .days, (days, (t .grid .puts .days, tt)))),
                 (
-                  (t .grid .units, (t .alpha, tt)),
-                  ((t .spread, (t .grid .leg .amounts, tt)), tt),
+                  (t .pillars .days, tt),
+                  (
+                    (t .grid .units, (t .alpha, tt)),
+                    ((t .spread, (t .grid .leg .amounts, tt)), tt),
+                  ),
                 ),
               ),
             ),
@@ -268,12 +307,15 @@ module _ (limit : Float) (m : Market) (calls : CallSchedule) where
       market-split
       ∙ first-of-one market-before (strikeRange calls) (all (market-after m calls)) (market-front t (k .counted) (k .days))
       (all-pass (market-after m calls) (
-        (t .sigma .numbers, (t .pillars .factors, tt)),
+        (t .grid .puts .strikes, tt),
         (
-          (k .ordered, tt),
+          (t .sigma .numbers, (t .pillars .factors, tt)),
           (
-            (t .sigma .ordered, (t .grid .leg .paid, tt)),
-            ((t .pillars .ordered, (t .pillars .apart, (t .grid .apart, (t .pillars .positive, tt)))), tt),
+            (k .ordered, (t .grid .puts .ordered, tt)),
+            (
+              (t .sigma .ordered, (t .grid .leg .paid, tt)),
+              ((t .pillars .ordered, (t .pillars .apart, (t .grid .apart, (t .pillars .positive, tt)))), tt),
+            ),
           ),
         ),
       ))
@@ -296,6 +338,25 @@ module _ (limit : Float) (m : Market) (calls : CallSchedule) where
 pub market-alike : (limit : Float) (m : Market) (first second : CallSchedule) → CallsPassed first → CallsPassed second → marketChecks limit m second ≡ marketChecks limit m first
 unfolding marketChecks
 market-alike limit m first second k l = cc
+
+-- So of puts: two put lists that both pass.
+pub market-puts-alike : (limit : Float) (m : Market) (calls first second : CallSchedule) → CallsPassed first → CallsPassed second → marketChecks limit (withPuts m second) calls ≡ marketChecks limit (withPuts m first) calls
+unfolding marketChecks
+market-puts-alike limit m calls first second k l =
+    let counted = puts-counted first k in
+    let too = puts-counted second l in
+    let most = puts-most first k in
+    let few = puts-most second l in
+    cc
+
+pub grid-puts-alike : (settlement : Settlement) (bond : Bond) (calls : CallSchedule) (controls : TimeGrid) (first second : CallSchedule) → CallsPassed first → CallsPassed second → gridChecks settlement (bondWithPuts bond second) calls controls ≡ gridChecks settlement (bondWithPuts bond first) calls controls
+unfolding gridChecks
+grid-puts-alike settlement bond calls controls first second k l =
+    let counted = puts-counted first k in
+    let too = puts-counted second l in
+    let most = puts-most first k in
+    let few = puts-most second l in
+    cc
 
 -- Nor the spread: where they are passed, another spread is answered by its own check.
 pub other-spread : (limit : Float) (m : Market) (calls : CallSchedule) (s : Float) → marketChecks limit m calls ≡ Passed → treeChecks (withSpread m s) calls ≡ within (float 1) s
@@ -332,6 +393,10 @@ module _ (m : Market) (calls : CallSchedule) where
 pub tree-alike : (m : Market) (first second : CallSchedule) → CallsPassed first → CallsPassed second → treeChecks m second ≡ treeChecks m first
 unfolding treeChecks
 tree-alike = market-alike (float 1)
+
+pub tree-puts-alike : (m : Market) (calls first second : CallSchedule) → CallsPassed first → CallsPassed second → treeChecks (withPuts m second) calls ≡ treeChecks (withPuts m first) calls
+unfolding treeChecks
+tree-puts-alike = market-puts-alike (float 1)
 
 -- ---- spread from price
 

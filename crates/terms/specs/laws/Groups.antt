@@ -16,7 +16,7 @@ pub record LegPassed (settlement : Settlement) (l : Leg) : Type 0 where
   pub amounts : amountRange l ≡ Passed
   pub paid : anyPaid (settlement .day) l ≡ Passed
 
--- Call entries.
+-- Call entries, or put entries: 2 and 37 together say of these what 2 says of those.
 pub record CallsPassed (c : CallSchedule) : Type 0 where
   pub counted : callCount c ≡ Passed
   pub days : callDays c ≡ Passed
@@ -43,6 +43,7 @@ pub record GridTermsPassed (settlement : Settlement) (bond : Bond) (controls : T
   pub steps : settings controls ≡ Passed
   pub leg : LegPassed settlement (bond .leg)
   pub units : unitsRange (bond .units) ≡ Passed
+  pub puts : CallsPassed (bond .puts)
   pub apart : maturityApart settlement (bond .leg) ≡ Passed
 
 -- What the tree value takes, but for the call entries; the limit is the spread's, or that of what stands in its place.

@@ -33,24 +33,24 @@ use Rattle.treebasedbondpricer.specs.laws.ValueRising.{Values, values, v
 -- ---- the tree value, part by part
 
 -- The grid of a market's bond with these calls.
-abbrev gridFor : Market → CallSchedule → Outcome BondEventGrid
+abbrev pub gridFor : Market → CallSchedule → Outcome BondEventGrid
 gridFor m calls = eventGrid (m .settlement) (m .bond) calls (m .controls)
 
 -- The checks are passed, the grid is given, and the tree has this value.
-record Valued (curve : Float → ℕ → Answer) (m : Market) (calls : CallSchedule) (room : Room) (x : Float) (n : ℕ) : Type 0 where
-  checked : treeChecks m calls ≡ check.Passed
-  grid : BondEventGrid
-  has-grid : gridFor m calls ≡ given grid
-  has-value : latticeValueOver curve m room grid ≡ given (Value x n)
+pub record Valued (curve : Float → ℕ → Answer) (m : Market) (calls : CallSchedule) (room : Room) (x : Float) (n : ℕ) : Type 0 where
+  pub checked : treeChecks m calls ≡ check.Passed
+  pub grid : BondEventGrid
+  pub has-grid : gridFor m calls ≡ given grid
+  pub has-value : latticeValueOver curve m room grid ≡ given (Value x n)
 
 module _ (curve : Float → ℕ → Answer) (m : Market) (calls : CallSchedule) (room : Room) where
   -- The answer, given its checks and the outcome of its grid.
-  answer-is : (c : Check) (o : Outcome BondEventGrid) → treeChecks m calls ≡ c → gridFor m calls ≡ o
+  pub answer-is : (c : Check) (o : Outcome BondEventGrid) → treeChecks m calls ≡ c → gridFor m calls ≡ o
       → treeValueOver curve m calls room ≡ onCheck c Refused (onOutcome (follow o λ grid. latticeValueOver curve m room grid) Refused λ v. v)
   unfolding treeValueOver
   answer-is c o e h = rw (e, h)
 
-  valued-as : (x : Float) (n : ℕ) → treeValueOver curve m calls room ≡ Value x n → Valued curve m calls room x n
+  pub valued-as : (x : Float) (n : ℕ) → treeValueOver curve m calls room ≡ Value x n → Valued curve m calls room x n
   unfolding onCheck onOutcome
   valued-as x n h =
       go (treeChecks m calls) (gridFor m calls) refl refl

@@ -13,7 +13,7 @@ use Rattle.terms.specs.Outcomes.{given}
 use Rattle.terms.specs.laws.Lockstep.{Follows, given-both, follows-follow, follows-same, GivenOr27, given-or-27}
 use Rattle.bondevents.specs.declared.CallStep.{CallStep}
 use Rattle.bondevents.specs.declared.BondEventGrid.{BondEventGrid}
-use Rattle.bondevents.specs.laws.NoLower.{NoLowerCalls, NoLowerGrid}
+use Rattle.bondevents.specs.laws.NoLower.{NoLowerSteps, NoLowerGrid}
 use Rattle.treebasedbondpricer.specs.declared.TreeValue.{TreeValue}
 use Rattle.treebasedbondpricer.specs.declared.TreeValue.the-variants.{Value}
 use Rattle.lattice.specs.Layers.{Room}
@@ -30,14 +30,14 @@ pub data Values : TreeValue → TreeValue → Type 0 where
   values : {x y : Float} {n : ℕ} → Higher x y → Values (Value x n) (Value y n)
 
 -- A walk of at least one step.
-some-walk : (dt spread : Float) (cashflows : List Float) (calls calls' : List CallStep) → NoLowerCalls calls calls' → (layers : List Layer) → Proper layers → (shifts : List Float) (final : List ℤ) (steps : ℕ) → length layers ≡ steps → length shifts ≡ steps → 0 < steps → Follows (Rows Higher) (walkFrom dt spread cashflows calls 0 layers shifts final) (walkFrom dt spread cashflows calls' 0 layers shifts final)
+some-walk : (dt spread : Float) (cashflows : List Float) (calls calls' : List CallStep) → NoLowerSteps calls calls' → (layers : List Layer) → Proper layers → (shifts : List Float) (final : List ℤ) (steps : ℕ) → length layers ≡ steps → length shifts ≡ steps → 0 < steps → Follows (Rows Higher) (walkFrom dt spread cashflows calls 0 layers shifts final) (walkFrom dt spread cashflows calls' 0 layers shifts final)
 some-walk dt spread cashflows calls calls' lower [] ps shifts final steps e g h = absurd (omega arith)
 some-walk dt spread cashflows calls calls' lower (l ∷ layers) ps [] final steps e g h = absurd (omega arith)
 some-walk dt spread cashflows calls calls' lower (l ∷ layers) ps (shift ∷ shifts) final steps e g h =
     walk-higher dt spread cashflows calls calls' lower 0 l layers ps shift shifts final
 
 -- Nothing of the fitted tree reads the calls, so it is the same for both.
-value-follows : (curve : Float → ℕ → Answer) (m : Market) (room : Room) (maturity : Float) (steps : ℕ) (cashflows : List Float) (calls calls' : List CallStep) → NoLowerCalls calls calls' → Follows Values (latticeValueOver curve m room (record { «maturity_time» = maturity; steps = steps; cashflows = cashflows; calls = calls })) (latticeValueOver curve m room (record { «maturity_time» = maturity; steps = steps; cashflows = cashflows; calls = calls' }))
+value-follows : (curve : Float → ℕ → Answer) (m : Market) (room : Room) (maturity : Float) (steps : ℕ) (cashflows : List Float) (calls calls' : List CallStep) → NoLowerSteps calls calls' → Follows Values (latticeValueOver curve m room (record { «maturity_time» = maturity; steps = steps; cashflows = cashflows; calls = calls })) (latticeValueOver curve m room (record { «maturity_time» = maturity; steps = steps; cashflows = cashflows; calls = calls' }))
 unfolding latticeValueOver ofBits
 value-follows curve m room maturity steps cashflows calls calls' lower =
     follows-same (fittedTreeOver curve m room maturity steps) _ _ λ f e.
@@ -53,7 +53,7 @@ grid-follows curve m room first second g =
     (g .same-maturity)
     (g .same-steps)
     (g .same-cashflows)
-    (value-follows curve m room (first .«maturity_time») (first .steps) (first .cashflows) (first .calls) (second .calls) (g .no-lower-calls))
+    (value-follows curve m room (first .«maturity_time») (first .steps) (first .cashflows) (first .calls) (second .calls) (g .no-lower-steps))
 
 -- If the first grid has a value, the second has one no lower, with the same node count, or it is refused with 27.
 pub value-no-lower : (curve : Float → ℕ → Answer) (m : Market) (room : Room) (first second : BondEventGrid) → NoLowerGrid first second → (v : TreeValue) → latticeValueOver curve m room first ≡ given v → GivenOr27 (Values v) (latticeValueOver curve m room second)

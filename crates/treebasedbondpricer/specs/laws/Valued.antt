@@ -13,7 +13,7 @@ use Rattle.floats.specs.Answers.{onAnswer}
 use Rattle.terms.specs.Outcomes.{Outcome, given, refused, onOutcome, follow}
 use Rattle.terms.specs.laws.Outcomes.{follow-given, follow-refused}
 use Rattle.bondevents.specs.declared.CallStep.{CallStep}
-use Rattle.bondevents.specs.Parts.{markOf, priceOfStep}
+use Rattle.bondevents.specs.Parts.{stepMark, stepPrices}
 use Rattle.treebasedbondpricer.specs.declared.TreeValue.{TreeValue}
 use Rattle.treebasedbondpricer.specs.declared.TreeValue.the-variants.{Value, Refused}
 use Rattle.treebasedbondpricer.specs.declared.fitted.FittedTree.{FittedTree}
@@ -101,8 +101,8 @@ module _ {o : Outcome Fitted} {one two : ℕ} {counts : List ℕ} {spacings shif
         ∙ sym (ap treeOf (follow-given o (walked spread cashflows calls) (s .is)))
 
 -- The calls as marks and prices are the calls.
-pub same-calls : {marks : List ℕ} {prices : List Float} (calls : List CallStep) → marks ≡ map markOf calls → prices ≡ map priceOfStep calls → callsOf marks prices ≡ calls
-same-calls {marks} {prices} calls e f = ap (λ (ms : List ℕ). callsOf ms prices) e ∙ ap (callsOf (map markOf calls)) f ∙ calls-back calls
+pub same-calls : {marks : List ℕ} {prices : List Float} (calls : List CallStep) → marks ≡ map stepMark calls → prices ≡ stepPrices calls → callsOf marks prices ≡ calls
+same-calls {marks} {prices} calls e f = ap (λ (ms : List ℕ). callsOf ms prices) e ∙ ap (callsOf (map stepMark calls)) f ∙ calls-back calls
 
-pub value-with-calls : (o : Outcome Fitted) (spread : Float) (cashflows : List Float) (calls : List CallStep) {marks : List ℕ} {prices : List Float} {v : TreeValue} → v ≡ treeOf (follow o (walked spread cashflows (callsOf marks prices))) → marks ≡ map markOf calls → prices ≡ map priceOfStep calls → v ≡ treeOf (follow o (walked spread cashflows calls))
+pub value-with-calls : (o : Outcome Fitted) (spread : Float) (cashflows : List Float) (calls : List CallStep) {marks : List ℕ} {prices : List Float} {v : TreeValue} → v ≡ treeOf (follow o (walked spread cashflows (callsOf marks prices))) → marks ≡ map stepMark calls → prices ≡ stepPrices calls → v ≡ treeOf (follow o (walked spread cashflows calls))
 value-with-calls o spread cashflows calls e f g = e ∙ ap (λ (cs : List CallStep). treeOf (follow o (walked spread cashflows cs))) (same-calls calls f g)

@@ -15,8 +15,8 @@ returns : tie.Need-returns
 unfolding worthOf
 returns c = search answers depth 20 fits 4000
 
-lower-requires : tie.Need-lower-requires
-lower-requires c κs = tt
+exercised-requires : tie.Need-exercised-requires
+exercised-requires c κs = tt
 
 not-finite-requires-2 : tie.Need-not-finite-requires-2
 not-finite-requires-2 c κs = tt
@@ -26,11 +26,11 @@ overflow-requires-2 c κs = tt
 
 returns-2 : tie.Need-returns-2
 unfolding worthOf
-returns-2 c = rw (← c .before .before .before .lower .ensures) (left-call _ _ _ (c .before .before .before .before .before .not-finite .ensures) (c .before .before .before .before .if1 .left) (taken-call _ _ _ (c .before .before .not-finite2 .ensures) (c .before .if2 .taken) (c .overflow2 .ensures)))
+returns-2 c = rw (← c .before .before .before .exercised .ensures) (left-call _ _ _ (c .before .before .before .before .before .not-finite .ensures) (c .before .before .before .before .if1 .left) (taken-call _ _ _ (c .before .before .not-finite2 .ensures) (c .before .if2 .taken) (c .overflow2 .ensures)))
 
 returns-3 : tie.Need-returns-3
 unfolding worthOf
-returns-3 c = rw (← c .before .before .lower .ensures) (left-call _ _ _ (c .before .before .before .before .not-finite .ensures) (c .before .before .before .if1 .left) (left-call _ _ _ (c .before .not-finite2 .ensures) (c .if2 .left) refl))
+returns-3 c = rw (← c .before .before .exercised .ensures) (left-call _ _ _ (c .before .before .before .before .not-finite .ensures) (c .before .before .before .if1 .left) (left-call _ _ _ (c .before .not-finite2 .ensures) (c .if2 .left) refl))
 
 pub worth-spec : {M : Type 1} → statement M
 worth-spec =
@@ -39,7 +39,7 @@ worth-spec =
     not-finite-requires
     overflow-requires
     returns
-    lower-requires
+    exercised-requires
     not-finite-requires-2
     overflow-requires-2
     returns-2

@@ -20,20 +20,20 @@ enum-told c = search answers
 refused-by-requires : tie.Need-refused-by-requires
 refused-by-requires c κs = search answers
 
-no-calls-requires : tie.Need-no-calls-requires
-no-calls-requires c κs = search answers
+no-exercises-requires : tie.Need-no-exercises-requires
+no-exercises-requires c κs = search answers
 
 returns : tie.Need-returns
 returns c = search (handed-up, needs)
 
-mul-call : tie.Need-mul-call
-mul-call c = search answers
+mul-exercise : tie.Need-mul-exercise
+mul-exercise c = search answers
 
-array-copy-out-call : tie.Need-array-copy-out-call
-array-copy-out-call c = search answers
+array-copy-out-exercise : tie.Need-array-copy-out-exercise
+array-copy-out-exercise c = search answers
 
-keep-lowest-requires : tie.Need-keep-lowest-requires
-keep-lowest-requires c κs = search answers
+keep-requires : tie.Need-keep-requires
+keep-requires c κs = search answers
 
 mul-kept : tie.Need-mul-kept
 mul-kept c = search answers
@@ -44,7 +44,7 @@ array-set-from-kept c = search answers
 returns-2 : tie.Need-returns-2
 returns-2 c =
     let start = c .before .before .before .before .before .before in
-    let inside : start .args .step < length (start .args .calls) = omega arith in
+    let inside : start .args .step < length (start .args .row) = omega arith in
     search (went-on, kept-at, inside, needs)
 
 pub at-step-spec : {M : Type 1} → statement M
@@ -55,11 +55,11 @@ at-step-spec =
     enum-known-answer
     enum-told
     refused-by-requires
-    no-calls-requires
+    no-exercises-requires
     returns
-    mul-call
-    array-copy-out-call
-    keep-lowest-requires
+    mul-exercise
+    array-copy-out-exercise
+    keep-requires
     mul-kept
     array-set-from-kept
     returns-2)

@@ -4,15 +4,15 @@ use borrow.Author.Needs.{needs}
 use lib.ListN.{getD}
 use lib.Ieee.{nan}
 use Rattle.bondevents.specs.Parts.{axisAt, noEpoch, inWindow, priced}
-use Rattle.bondevents.proofs.Scanning.{Scanning, keep, scanning}
+use Rattle.bondevents.proofs.Scanning.{Scanning, keeps, scanning}
 use Rattle.bondevents.proofs.calls.over_window.Statement.{statement}
 use Rattle.bondevents.proofs.calls.over_window.Tie as tie
 
 abbrev Inv-loop : tie.InvT-loop
-Inv-loop maturity steps from to strike units principals kept₀ i₀ kept i = Scanning (inWindow (axisAt noEpoch maturity steps) from to) (λ step. priced strike (getD principals step nan) units) steps kept₀ kept i
+Inv-loop side maturity steps from to strike units principals kept₀ i₀ kept i = Scanning side (inWindow (axisAt noEpoch maturity steps) from to) (λ step. priced strike (getD principals step nan) units) steps kept₀ kept i
 
 abbrev μ-loop : tie.MeasureT-loop
-μ-loop maturity steps from to strike units principals kept₀ i₀ kept i = steps - i
+μ-loop side maturity steps from to strike units principals kept₀ i₀ kept i = steps - i
 
 loop-holds : tie.Need-loop-holds Inv-loop μ-loop
 loop-holds c = search scanning
@@ -41,20 +41,20 @@ enum-told c = search scanning
 refused-by-requires : tie.Need-refused-by-requires Inv-loop μ-loop
 refused-by-requires c κs = search scanning
 
-no-calls-requires : tie.Need-no-calls-requires Inv-loop μ-loop
-no-calls-requires c κs = search scanning
+no-exercises-requires : tie.Need-no-exercises-requires Inv-loop μ-loop
+no-exercises-requires c κs = search scanning
 
 returns : tie.Need-returns Inv-loop μ-loop
 returns c = search scanning
 
-mul-call : tie.Need-mul-call Inv-loop μ-loop
-mul-call c = search scanning
+mul-exercise : tie.Need-mul-exercise Inv-loop μ-loop
+mul-exercise c = search scanning
 
-array-copy-out-call : tie.Need-array-copy-out-call Inv-loop μ-loop
-array-copy-out-call c = search scanning
+array-copy-out-exercise : tie.Need-array-copy-out-exercise Inv-loop μ-loop
+array-copy-out-exercise c = search scanning
 
-keep-lowest-requires : tie.Need-keep-lowest-requires Inv-loop μ-loop
-keep-lowest-requires c κs = search scanning
+keep-requires : tie.Need-keep-requires Inv-loop μ-loop
+keep-requires c κs = search scanning
 
 mul-kept : tie.Need-mul-kept Inv-loop μ-loop
 mul-kept c = search scanning
@@ -68,7 +68,7 @@ loop-less c = search scanning
 loop-again : tie.Need-loop-again Inv-loop μ-loop
 loop-again c =
     let start = c .before .before .before .before .before .before .before .before .before .before .before in
-    keep _ _ _ (start .pre) _ _ _ (c .before .before .before .before .before .before .before .before .before .before .loop .inv) (c .before .before .before .before .before .before .before .before .before .loop-test .taken) (c .before .before .before .before .before .before .before .before .in-window .ensures) (c .before .before .before .before .before .before .before .if1 .taken) (c .before .before .before .before .before .call-price .ensures) _ (search needs) (c .keep-lowest .ensures)
+    keeps _ _ _ _ (start .pre) _ _ _ (c .before .before .before .before .before .before .before .before .before .before .loop .inv) (c .before .before .before .before .before .before .before .before .before .loop-test .taken) (c .before .before .before .before .before .before .before .before .in-window .ensures) (c .before .before .before .before .before .before .before .if1 .taken) (c .before .before .before .before .before .call-price .ensures) _ (search needs) (c .keep .ensures)
 
 loop-less-2 : tie.Need-loop-less-2 Inv-loop μ-loop
 loop-less-2 c = search scanning
@@ -94,11 +94,11 @@ over-window-spec =
     enum-known-answer
     enum-told
     refused-by-requires
-    no-calls-requires
+    no-exercises-requires
     returns
-    mul-call
-    array-copy-out-call
-    keep-lowest-requires
+    mul-exercise
+    array-copy-out-exercise
+    keep-requires
     mul-kept
     array-set-from-kept
     loop-less

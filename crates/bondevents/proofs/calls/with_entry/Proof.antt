@@ -25,7 +25,7 @@ returns-3 : tie.Need-returns-3
 returns-3 c =
     let start = c .before .before .before .before .before .before .before .before .before in
     let window = c .before .before .before .if2 .left in
-    window-call _ _ _ (start .pre .0 .0) _ _ _ _ (c .before .before .before .before .if1 .left) window (start .pre .1 .1 window) (c .before .before .time-from .ensures) (c .before .time-from2 .ensures) (c .over-window .ensures)
+    window-call _ _ _ _ (start .pre .0 .0) _ _ _ _ (c .before .before .before .before .if1 .left) window (start .pre .1 .1 window) (c .before .before .time-from .ensures) (c .before .time-from2 .ensures) (c .over-window .ensures)
 
 pub with-entry-spec : {M : Type 1} → statement M
 with-entry-spec =

@@ -2,26 +2,30 @@
 use Prim.Native.Nat.{_-_}
 use borrow.Author.Needs.{needs}
 use native.Mathlib.Omega.{arith}
+use mathlib.Core.Path.{ap, _∙_}
 use Rattle.bondevents.proofs.Filling.{begin, more}
-use Rattle.bondevents.specs.Parts.{markOf}
+use Rattle.bondevents.specs.Parts.{markOf, sideMark}
 use Rattle.bondevents.proofs.Copying.{pastEnd, Copying, copied}
 use Rattle.bondevents.proofs.marks.marks_of.Statement.{statement}
 use Rattle.bondevents.proofs.marks.marks_of.Tie as tie
 
 abbrev Inv-loop : tie.InvT-loop
-Inv-loop calls marks₀ i₀ marks i = Copying markOf pastEnd 513 calls i marks
+Inv-loop side steps marks₀ i₀ marks i = Copying (sideMark side) pastEnd 513 steps i marks
 
 abbrev μ-loop : tie.MeasureT-loop
-μ-loop calls marks₀ i₀ marks i = 513 - i
+μ-loop side steps marks₀ i₀ marks i = 513 - i
 
 loop-holds : tie.Need-loop-holds Inv-loop μ-loop
-loop-holds c = begin _ 0 513 _
+loop-holds c = begin _ _ 513 _
 
 mul-step : tie.Need-mul-step Inv-loop μ-loop
 mul-step c = search needs
 
 array-copy-out-step : tie.Need-array-copy-out-step Inv-loop μ-loop
 array-copy-out-step c = search needs
+
+side-of-requires : tie.Need-side-of-requires Inv-loop μ-loop
+side-of-requires c κs = search needs
 
 mark-of-requires : tie.Need-mark-of-requires Inv-loop μ-loop
 mark-of-requires c κs = search needs
@@ -36,10 +40,11 @@ loop-less : tie.Need-loop-less Inv-loop μ-loop
 loop-less c = search needs
 
 loop-again : tie.Need-loop-again Inv-loop μ-loop
-loop-again c = more _ 0 513 _ _ (c .before .before .before .loop .inv) (omega arith) (c .mark-of .ensures)
+unfolding sideMark
+loop-again c = more _ _ 513 _ _ (c .before .before .before .before .loop .inv) (omega arith) (c .mark-of .ensures ∙ ap markOf (c .before .side-of .ensures))
 
 returns : tie.Need-returns Inv-loop μ-loop
-returns c = copied markOf pastEnd 513 (c .before .before .args .t1) _ _ (c .before .before .good .0 .1 .0 .1) (omega arith) (c .before .loop .inv)
+returns c = copied (sideMark _) pastEnd 513 (c .before .before .args .t2) _ _ (search needs) (omega arith) (c .before .loop .inv)
 
 pub marks-of-spec : {M : Type 1} → statement M
 marks-of-spec =
@@ -50,6 +55,7 @@ marks-of-spec =
     loop-holds
     mul-step
     array-copy-out-step
+    side-of-requires
     mark-of-requires
     array-write-marks
     add-i

@@ -14,7 +14,7 @@ enum-told-2 : tie.Need-enum-told-2
 enum-told-2 c = search sequence
 
 returns : tie.Need-returns
-returns c = let start = c .before .before .before .before .before .before .before .before .before in grid-tells (record { perYear = start .args .yearly; maximum = start .args .maximum }) (start .args .code) _ _ (search sequence)
+returns c = let start = c .before .before .before .before .before .before .before .before .before .before .before .before in grid-tells (record { perYear = start .args .yearly; maximum = start .args .maximum }) (start .args .code) _ _ _ (search sequence)
 
 day-count-requires : tie.Need-day-count-requires
 day-count-requires c κs = search sequence
@@ -26,7 +26,7 @@ enum-told-4 : tie.Need-enum-told-4
 enum-told-4 c = search sequence
 
 returns-2 : tie.Need-returns-2
-returns-2 c = let start = c .before .before .before .before .before .before .before .before .before .before .before .before in grid-tells (record { perYear = start .args .yearly; maximum = start .args .maximum }) (start .args .code) _ _ (search sequence)
+returns-2 c = let start = c .before .before .before .before .before .before .before .before .before .before .before .before .before .before .before in grid-tells (record { perYear = start .args .yearly; maximum = start .args .maximum }) (start .args .code) _ _ _ (search sequence)
 
 leg-count-requires : tie.Need-leg-count-requires
 leg-count-requires c κs = search sequence
@@ -38,13 +38,25 @@ enum-told-6 : tie.Need-enum-told-6
 enum-told-6 c = search sequence
 
 returns-3 : tie.Need-returns-3
-returns-3 c = let start = c .before .before .before .before .before .before .before .before .before .before .before .before .before .before .before in grid-tells (record { perYear = start .args .yearly; maximum = start .args .maximum }) (start .args .code) _ _ (search sequence)
+returns-3 c = let start = c .before .before .before .before .before .before .before .before .before .before .before .before .before .before .before .before .before .before in grid-tells (record { perYear = start .args .yearly; maximum = start .args .maximum }) (start .args .code) _ _ _ (search sequence)
 
 call-count-requires : tie.Need-call-count-requires
 call-count-requires c κs = search sequence
 
+enum-told-7 : tie.Need-enum-told-7
+enum-told-7 c = search sequence
+
+enum-told-8 : tie.Need-enum-told-8
+enum-told-8 c = search sequence
+
 returns-4 : tie.Need-returns-4
-returns-4 c = let start = c .before .before .before .before .before .before .before .before .before .before .before .before .before .before .before .before in grid-tells (record { perYear = start .args .yearly; maximum = start .args .maximum }) (start .args .code) _ _ (search sequence)
+returns-4 c = let start = c .before .before .before .before .before .before .before .before .before .before .before .before .before .before .before .before .before .before .before .before .before in grid-tells (record { perYear = start .args .yearly; maximum = start .args .maximum }) (start .args .code) _ _ _ (search sequence)
+
+put-count-requires : tie.Need-put-count-requires
+put-count-requires c κs = search sequence
+
+returns-5 : tie.Need-returns-5
+returns-5 c = let start = c .before .before .before .before .before .before .before .before .before .before .before .before .before .before .before .before .before .before .before .before .before .before in grid-tells (record { perYear = start .args .yearly; maximum = start .args .maximum }) (start .args .code) _ _ _ (search sequence)
 
 pub grid-counts-spec : {M : Type 1} → statement M
 grid-counts-spec =
@@ -63,4 +75,8 @@ grid-counts-spec =
     enum-told-6
     returns-3
     call-count-requires
-    returns-4)
+    enum-told-7
+    enum-told-8
+    returns-4
+    put-count-requires
+    returns-5)

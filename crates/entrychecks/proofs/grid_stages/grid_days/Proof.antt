@@ -30,8 +30,20 @@ returns-2 c = search sequence
 call-days-requires : tie.Need-call-days-requires
 call-days-requires c κs = search sequence
 
+enum-told-5 : tie.Need-enum-told-5
+enum-told-5 c = search sequence
+
+enum-told-6 : tie.Need-enum-told-6
+enum-told-6 c = search sequence
+
 returns-3 : tie.Need-returns-3
 returns-3 c = search sequence
+
+call-days-requires-2 : tie.Need-call-days-requires-2
+call-days-requires-2 c κs = search sequence
+
+returns-4 : tie.Need-returns-4
+returns-4 c = search sequence
 
 pub grid-days-spec : {M : Type 1} → statement M
 grid-days-spec =
@@ -46,4 +58,8 @@ grid-days-spec =
     enum-told-4
     returns-2
     call-days-requires
-    returns-3)
+    enum-told-5
+    enum-told-6
+    returns-3
+    call-days-requires-2
+    returns-4)

@@ -18,8 +18,20 @@ returns c = search sequence
 strike-range-requires : tie.Need-strike-range-requires
 strike-range-requires c κs = search sequence
 
+enum-told-3 : tie.Need-enum-told-3
+enum-told-3 c = search sequence
+
+enum-told-4 : tie.Need-enum-told-4
+enum-told-4 c = search sequence
+
 returns-2 : tie.Need-returns-2
 returns-2 c = search sequence
+
+strike-range-requires-2 : tie.Need-strike-range-requires-2
+strike-range-requires-2 c κs = search sequence
+
+returns-3 : tie.Need-returns-3
+returns-3 c = search sequence
 
 pub list-numbers-spec : {M : Type 1} → statement M
 list-numbers-spec =
@@ -30,4 +42,8 @@ list-numbers-spec =
     enum-told-2
     returns
     strike-range-requires
-    returns-2)
+    enum-told-3
+    enum-told-4
+    returns-2
+    strike-range-requires-2
+    returns-3)

@@ -14,13 +14,13 @@ enum-told-2 : tie.Need-enum-told-2
 enum-told-2 c = search needs
 
 returns : tie.Need-returns
-returns c = let start = c .before .before .before .before .before .before .before .before .before .before .before .before .before in tree-refuses (record { perYear = start .args .yearly; maximum = start .args .maximum }) (start .args .code) _ _ _ _ (c .before .before .grid-counts .ensures) (c .enum-told2 .given .1)
+returns c = let start = c .before .before .before .before .before .before .before .before .before .before .before .before .before .before .before .before in tree-refuses (record { perYear = start .args .yearly; maximum = start .args .maximum }) (start .args .code) _ _ _ _ _ (c .before .before .grid-counts .ensures) (c .enum-told2 .given .1)
 
 model-counts-requires : tie.Need-model-counts-requires
 model-counts-requires c κs = search needs
 
 returns-2 : tie.Need-returns-2
-returns-2 c = let start = c .before .before .before .before .before .before .before .before .before .before .before .before .before .before in tree-tells (record { perYear = start .args .yearly; maximum = start .args .maximum }) (start .args .code) _ _ _ _ (c .before .before .before .grid-counts .ensures) (c .before .enum-told .given .1) (c .model-counts .ensures)
+returns-2 c = let start = c .before .before .before .before .before .before .before .before .before .before .before .before .before .before .before .before .before in tree-tells (record { perYear = start .args .yearly; maximum = start .args .maximum }) (start .args .code) _ _ _ _ _ (c .before .before .before .grid-counts .ensures) (c .before .enum-told .given .1) (c .model-counts .ensures)
 
 pub tree-counts-spec : {M : Type 1} → statement M
 tree-counts-spec =

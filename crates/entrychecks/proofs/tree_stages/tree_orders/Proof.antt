@@ -15,8 +15,8 @@ enum-told-2 c = search sequence
 returns : tie.Need-returns
 returns c = search sequence
 
-sigma-order-requires : tie.Need-sigma-order-requires
-sigma-order-requires c κs = search sequence
+call-order-requires-2 : tie.Need-call-order-requires-2
+call-order-requires-2 c κs = search sequence
 
 enum-told-3 : tie.Need-enum-told-3
 enum-told-3 c = search sequence
@@ -27,11 +27,23 @@ enum-told-4 c = search sequence
 returns-2 : tie.Need-returns-2
 returns-2 c = search sequence
 
-any-paid-requires : tie.Need-any-paid-requires
-any-paid-requires c κs = search sequence
+sigma-order-requires : tie.Need-sigma-order-requires
+sigma-order-requires c κs = search sequence
+
+enum-told-5 : tie.Need-enum-told-5
+enum-told-5 c = search sequence
+
+enum-told-6 : tie.Need-enum-told-6
+enum-told-6 c = search sequence
 
 returns-3 : tie.Need-returns-3
 returns-3 c = search sequence
+
+any-paid-requires : tie.Need-any-paid-requires
+any-paid-requires c κs = search sequence
+
+returns-4 : tie.Need-returns-4
+returns-4 c = search sequence
 
 pub tree-orders-spec : {M : Type 1} → statement M
 tree-orders-spec =
@@ -41,9 +53,13 @@ tree-orders-spec =
     enum-told
     enum-told-2
     returns
-    sigma-order-requires
+    call-order-requires-2
     enum-told-3
     enum-told-4
     returns-2
+    sigma-order-requires
+    enum-told-5
+    enum-told-6
+    returns-3
     any-paid-requires
-    returns-3)
+    returns-4)

@@ -1,6 +1,6 @@
 -- `bondevents::grid::bond_event_grid` meets its contract: the passed checks give what `event_grid` requires (`Grids`). Assumes nothing.
 use borrow.Author.Needs.{needs}
-use Rattle.bondevents.proofs.Grids.{input-refused, answered, settled, leg-sized, calls-sized}
+use Rattle.bondevents.proofs.Grids.{input-refused, answered, settled, leg-sized, calls-sized, puts-sized}
 use Rattle.eventgrid.proofs.grid.bond_event_grid.Statement.{statement}
 use Rattle.eventgrid.proofs.grid.bond_event_grid.Tie as tie
 
@@ -29,7 +29,8 @@ event-grid-requires c κs =
     let steps = settled _ _ _ _ checks passed in
     let leg = leg-sized _ _ _ _ checks passed in
     let calls = calls-sized _ _ _ _ checks passed .entries in
-    ((steps .some-steps, steps .few-steps), ((leg .few, leg .kinds-too, leg .amounts-too), (calls .ends-too, calls .strikes-too)))
+    let puts = puts-sized _ _ _ _ checks passed .entries in
+    ((steps .some-steps, steps .few-steps), ((leg .few, leg .kinds-too, leg .amounts-too), ((calls .ends-too, calls .strikes-too), (puts .ends-too, puts .strikes-too))))
 
 refusal-in-requires-2 : tie.Need-refusal-in-requires-2
 refusal-in-requires-2 c κs = search needs

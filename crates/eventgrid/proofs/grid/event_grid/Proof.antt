@@ -20,7 +20,7 @@ steps-of-requires c κs = search needs
 
 call-steps-requires : tie.Need-call-steps-requires
 call-steps-requires c κs =
-    let start = c .before .before .before .before .before .before .before .before .before .before in
+    let start = c .before .before .before .before .before .before .before .before .before .before .before .before .before in
     (bounded _ _ (c .steps-of .ensures) (start .pre .0 .0) (start .pre .0 .1), start .pre .1)
 
 enum-told : tie.Need-enum-told
@@ -38,12 +38,12 @@ returns c =
 
 paid-into-requires : tie.Need-paid-into-requires
 paid-into-requires c κs =
-    let start = c .before .before .before .before .before .before .before .before .before .before .before .before .before in
+    let start = c .before .before .before .before .before .before .before .before .before .before .before .before .before .before .before .before in
     (bounded _ _ (c .before .before .before .steps-of .ensures) (start .pre .0 .0) (start .pre .0 .1), start .pre .1 .0 .2)
 
-cast-t18 : tie.Need-cast-t18
-cast-t18 c =
-    let start = c .before .before .before .before .before .before .before .before .before .before .before .before .before .before .before in
+cast-t21 : tie.Need-cast-t21
+cast-t21 c =
+    let start = c .before .before .before .before .before .before .before .before .before .before .before .before .before .before .before .before .before .before in
     record { fits = lt-of-le-of-lt (bounded _ _ (c .before .before .before .before .before .steps-of .ensures) (start .pre .0 .0) (start .pre .0 .1) .1) (lit< tt) }
 
 returns-2 : tie.Need-returns-2
@@ -64,5 +64,5 @@ event-grid-spec =
     zero-grid-requires
     returns
     paid-into-requires
-    cast-t18
+    cast-t21
     returns-2)

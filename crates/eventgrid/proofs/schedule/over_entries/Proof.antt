@@ -1,21 +1,21 @@
 -- `bondevents::schedule::over_entries` meets its contract: the loop's invariant is `Entering`. Assumes nothing.
 use Prim.Native.Nat.{_-_}
 use lib.ListN.{length}
-use Rattle.bondevents.specs.Parts.{axisAt, bondOf, noCalls}
+use Rattle.bondevents.specs.Parts.{axisAt, bondOf, noExercises}
 use Rattle.bondevents.proofs.Entering.{Entering, entering}
 use Rattle.eventgrid.proofs.schedule.over_entries.Statement.{statement}
 use Rattle.eventgrid.proofs.schedule.over_entries.Tie as tie
 
 abbrev Inv-loop : tie.InvT-loop
-Inv-loop settlement maturity steps days kinds amounts units starts ends strikes principals kept₀ i₀ kept i =
-    Entering (axisAt settlement maturity steps) (bondOf days kinds amounts units) starts ends strikes noCalls kept i
+Inv-loop side settlement maturity steps days kinds amounts units starts ends strikes principals kept₀ i₀ kept i =
+    Entering side (axisAt settlement maturity steps) (bondOf days kinds amounts units) starts ends strikes noExercises kept i
 
 abbrev μ-loop : tie.MeasureT-loop
-μ-loop settlement maturity steps days kinds amounts units starts ends strikes principals kept₀ i₀ kept i =
+μ-loop side settlement maturity steps days kinds amounts units starts ends strikes principals kept₀ i₀ kept i =
     length starts - i
 
-no-calls-requires : tie.Need-no-calls-requires Inv-loop μ-loop
-no-calls-requires c κs = search entering
+no-exercises-requires : tie.Need-no-exercises-requires Inv-loop μ-loop
+no-exercises-requires c κs = search entering
 
 loop-holds : tie.Need-loop-holds Inv-loop μ-loop
 loop-holds c = search entering
@@ -70,7 +70,7 @@ over-entries-spec =
     (tie.spec
     Inv-loop
     μ-loop
-    no-calls-requires
+    no-exercises-requires
     loop-holds
     add-i
     mul-with-entry

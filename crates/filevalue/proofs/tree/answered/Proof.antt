@@ -10,6 +10,15 @@ fields-of-requires c κs = search needs
 enum-told : tie.Need-enum-told
 enum-told c = search needs
 
+slice-aggregate-tree-value : tie.Need-slice-aggregate-tree-value
+slice-aggregate-tree-value c = search needs
+
+slice-aggregate-tree-value-2 : tie.Need-slice-aggregate-tree-value-2
+slice-aggregate-tree-value-2 c = search needs
+
+slice-aggregate-tree-value-3 : tie.Need-slice-aggregate-tree-value-3
+slice-aggregate-tree-value-3 c = search needs
+
 tree-value-requires : tie.Need-tree-value-requires
 tree-value-requires c κs = search needs
 
@@ -24,6 +33,15 @@ of-calls-requires c κs = search needs
 
 enum-known-ask : tie.Need-enum-known-ask
 enum-known-ask c = search needs
+
+slice-aggregate-spread-from-price : tie.Need-slice-aggregate-spread-from-price
+slice-aggregate-spread-from-price c = search needs
+
+slice-aggregate-spread-from-price-2 : tie.Need-slice-aggregate-spread-from-price-2
+slice-aggregate-spread-from-price-2 c = search needs
+
+slice-aggregate-spread-from-price-3 : tie.Need-slice-aggregate-spread-from-price-3
+slice-aggregate-spread-from-price-3 c = search needs
 
 spread-from-price-requires : tie.Need-spread-from-price-requires
 spread-from-price-requires c κs = search needs
@@ -44,7 +62,7 @@ same-length-4 : tie.Need-same-length-4
 same-length-4 c = search needs
 
 returns : tie.Need-returns
-returns c = valued (c .before .before .before .before .before .before .before .before .before .before .before .before .before .enum-told .given .1) (c .before .before .before .before .before .before .before .before .before .before .before .before .before .before .before .fields-of .ensures) (c .before .before .before .before .before .before .before .before .tree-value .ensures) (c .of-value .ensures)
+returns c = valued (c .before .before .before .before .before .before .before .before .before .before .before .before .before .before .before .before .enum-told .given .1) (c .before .before .before .before .before .before .before .before .before .before .before .before .before .before .before .before .before .before .fields-of .ensures) (c .before .before .before .before .before .before .before .before .tree-value .ensures) (c .of-value .ensures)
 
 same-length-5 : tie.Need-same-length-5
 same-length-5 c = search needs
@@ -74,7 +92,7 @@ same-length-12 : tie.Need-same-length-12
 same-length-12 c = search needs
 
 returns-3 : tie.Need-returns-3
-returns-3 c = solved (c .before .before .before .before .before .before .before .before .before .before .before .before .before .before .ask .given .1) (c .before .before .before .before .before .before .before .before .before .before .before .before .before .before .before .before .fields-of .ensures) (c .before .before .before .before .before .before .before .before .spread-from-price .ensures) (c .of-spread .ensures)
+returns-3 c = solved (c .before .before .before .before .before .before .before .before .before .before .before .before .before .before .before .before .before .ask .given .1) (c .before .before .before .before .before .before .before .before .before .before .before .before .before .before .before .before .before .before .before .fields-of .ensures) (c .before .before .before .before .before .before .before .before .spread-from-price .ensures) (c .of-spread .ensures)
 
 pub answered-spec : {M : Type 1} → statement M
 answered-spec =
@@ -82,11 +100,17 @@ answered-spec =
     (tie.spec
     fields-of-requires
     enum-told
+    slice-aggregate-tree-value
+    slice-aggregate-tree-value-2
+    slice-aggregate-tree-value-3
     tree-value-requires
     of-value-requires
     enum-told-2
     of-calls-requires
     enum-known-ask
+    slice-aggregate-spread-from-price
+    slice-aggregate-spread-from-price-2
+    slice-aggregate-spread-from-price-3
     spread-from-price-requires
     of-spread-requires
     same-length

@@ -13,11 +13,11 @@ abbrev μ-loop : tie.MeasureT-loop
 loop-holds : tie.Need-loop-holds Inv-loop μ-loop
 loop-holds c = search needs
 
-mul-call : tie.Need-mul-call Inv-loop μ-loop
-mul-call c = search needs
+mul-exercised : tie.Need-mul-exercised Inv-loop μ-loop
+mul-exercised c = search needs
 
-array-copy-out-call : tie.Need-array-copy-out-call Inv-loop μ-loop
-array-copy-out-call c = search needs
+array-copy-out-exercised : tie.Need-array-copy-out-exercised Inv-loop μ-loop
+array-copy-out-exercised c = search needs
 
 mul-same-step : tie.Need-mul-same-step Inv-loop μ-loop
 mul-same-step c = search needs
@@ -50,8 +50,8 @@ same-steps-spec =
     Inv-loop
     μ-loop
     loop-holds
-    mul-call
-    array-copy-out-call
+    mul-exercised
+    array-copy-out-exercised
     mul-same-step
     array-read-same-step
     same-step-requires

@@ -1,4 +1,4 @@
--- `replay::spreads::answered` is safe: no part of a list is longer than its eight places. Assumes nothing.
+-- `replay::quotes::answered` is safe: no part of a list is longer than its eight places. Assumes nothing.
 use native.Mathlib.Omega.{arith}
 use mathlib.Core.Path.{sym}
 use lib.Seq.{length-take-le}
@@ -21,11 +21,17 @@ cast-entries c = search needs
 number-requires-3 : tie.Need-number-requires-3
 number-requires-3 c κs = search needs
 
-cast-levels : tie.Need-cast-levels
-cast-levels c = search needs
+cast-rights : tie.Need-cast-rights
+cast-rights c = search needs
 
 number-requires-4 : tie.Need-number-requires-4
 number-requires-4 c κs = search needs
+
+cast-levels : tie.Need-cast-levels
+cast-levels c = search needs
+
+number-requires-5 : tie.Need-number-requires-5
+number-requires-5 c κs = search needs
 
 cast-points : tie.Need-cast-points
 cast-points c = search needs
@@ -41,6 +47,9 @@ returns-3 c = search needs
 
 returns-4 : tie.Need-returns-4
 returns-4 c = search needs
+
+returns-5 : tie.Need-returns-5
+returns-5 c = search needs
 
 eight-numbers-requires : tie.Need-eight-numbers-requires
 eight-numbers-requires c κs = search needs
@@ -60,110 +69,137 @@ eight-numbers-requires-3 c κs = search needs
 eight-floats-requires-2 : tie.Need-eight-floats-requires-2
 eight-floats-requires-2 c κs = search needs
 
+eight-numbers-requires-4 : tie.Need-eight-numbers-requires-4
+eight-numbers-requires-4 c κs = search needs
+
+eight-numbers-requires-5 : tie.Need-eight-numbers-requires-5
+eight-numbers-requires-5 c κs = search needs
+
 eight-floats-requires-3 : tie.Need-eight-floats-requires-3
 eight-floats-requires-3 c κs = search needs
 
 eight-floats-requires-4 : tie.Need-eight-floats-requires-4
 eight-floats-requires-4 c κs = search needs
 
-eight-numbers-requires-4 : tie.Need-eight-numbers-requires-4
-eight-numbers-requires-4 c κs = search needs
-
 eight-floats-requires-5 : tie.Need-eight-floats-requires-5
 eight-floats-requires-5 c κs = search needs
+
+eight-numbers-requires-6 : tie.Need-eight-numbers-requires-6
+eight-numbers-requires-6 c κs = search needs
+
+eight-floats-requires-6 : tie.Need-eight-floats-requires-6
+eight-floats-requires-6 c κs = search needs
 
 settlement-of-requires : tie.Need-settlement-of-requires
 settlement-of-requires c κs = search needs
 
 array-share-prefix-days : tie.Need-array-share-prefix-days
-array-share-prefix-days c = omega (arith, c .before .before .before .before .before .before .before .before .before .before .before .before .before .before .if1 .left)
+array-share-prefix-days c = omega (arith, c .before .before .before .before .before .before .before .before .before .before .before .before .before .before .before .before .before .before .if1 .left)
 
 slice-aggregate-spread-from-price : tie.Need-slice-aggregate-spread-from-price
-slice-aggregate-spread-from-price c = sym (length-take-le _ _ (omega (arith, c .before .before .before .before .before .before .before .before .before .before .before .before .before .before .before .if1 .left, c .before .before .before .before .before .before .before .before .before .before .before .eight-numbers .ensures)))
+slice-aggregate-spread-from-price c = sym (length-take-le _ _ (omega (arith, c .before .before .before .before .before .before .before .before .before .before .before .before .before .before .before .before .before .before .before .if1 .left, c .before .before .before .before .before .before .before .before .before .before .before .before .before .before .eight-numbers .ensures)))
 
 array-share-prefix-kinds : tie.Need-array-share-prefix-kinds
-array-share-prefix-kinds c = omega (arith, c .before .before .before .before .before .before .before .before .before .before .before .before .before .before .before .if1 .left)
+array-share-prefix-kinds c = omega (arith, c .before .before .before .before .before .before .before .before .before .before .before .before .before .before .before .before .before .before .before .if1 .left)
 
 slice-aggregate-spread-from-price-2 : tie.Need-slice-aggregate-spread-from-price-2
-slice-aggregate-spread-from-price-2 c = sym (length-take-le _ _ (omega (arith, c .before .before .before .before .before .before .before .before .before .before .before .before .before .before .before .before .if1 .left, c .before .before .before .before .before .before .before .before .before .before .before .eight-bytes .ensures)))
+slice-aggregate-spread-from-price-2 c = sym (length-take-le _ _ (omega (arith, c .before .before .before .before .before .before .before .before .before .before .before .before .before .before .before .before .before .before .before .before .if1 .left, c .before .before .before .before .before .before .before .before .before .before .before .before .before .before .eight-bytes .ensures)))
 
 array-share-prefix-amounts : tie.Need-array-share-prefix-amounts
-array-share-prefix-amounts c = omega (arith, c .before .before .before .before .before .before .before .before .before .before .before .before .before .before .before .before .if1 .left)
+array-share-prefix-amounts c = omega (arith, c .before .before .before .before .before .before .before .before .before .before .before .before .before .before .before .before .before .before .before .before .if1 .left)
 
 slice-aggregate-spread-from-price-3 : tie.Need-slice-aggregate-spread-from-price-3
-slice-aggregate-spread-from-price-3 c = sym (length-take-le _ _ (omega (arith, c .before .before .before .before .before .before .before .before .before .before .before .before .before .before .before .before .before .if1 .left, c .before .before .before .before .before .before .before .before .before .before .before .eight-floats .ensures)))
+slice-aggregate-spread-from-price-3 c = sym (length-take-le _ _ (omega (arith, c .before .before .before .before .before .before .before .before .before .before .before .before .before .before .before .before .before .before .before .before .before .if1 .left, c .before .before .before .before .before .before .before .before .before .before .before .before .before .before .eight-floats .ensures)))
 
 float-requires : tie.Need-float-requires
 float-requires c κs = search needs
 
 array-share-prefix-starts : tie.Need-array-share-prefix-starts
-array-share-prefix-starts c = omega (arith, c .before .before .before .before .before .before .before .before .before .before .before .before .before .before .before .before .before .if2 .left)
+array-share-prefix-starts c = omega (arith, c .before .before .before .before .before .before .before .before .before .before .before .before .before .before .before .before .before .before .before .before .before .if2 .left)
 
 slice-aggregate-spread-from-price-4 : tie.Need-slice-aggregate-spread-from-price-4
-slice-aggregate-spread-from-price-4 c = sym (length-take-le _ _ (omega (arith, c .before .before .before .before .before .before .before .before .before .before .before .before .before .before .before .before .before .before .if2 .left, c .before .before .before .before .before .before .before .before .before .before .before .before .eight-numbers2 .ensures)))
+slice-aggregate-spread-from-price-4 c = sym (length-take-le _ _ (omega (arith, c .before .before .before .before .before .before .before .before .before .before .before .before .before .before .before .before .before .before .before .before .before .before .if2 .left, c .before .before .before .before .before .before .before .before .before .before .before .before .before .before .before .eight-numbers2 .ensures)))
 
 array-share-prefix-ends : tie.Need-array-share-prefix-ends
-array-share-prefix-ends c = omega (arith, c .before .before .before .before .before .before .before .before .before .before .before .before .before .before .before .before .before .before .if2 .left)
+array-share-prefix-ends c = omega (arith, c .before .before .before .before .before .before .before .before .before .before .before .before .before .before .before .before .before .before .before .before .before .before .if2 .left)
 
 slice-aggregate-spread-from-price-5 : tie.Need-slice-aggregate-spread-from-price-5
-slice-aggregate-spread-from-price-5 c = sym (length-take-le _ _ (omega (arith, c .before .before .before .before .before .before .before .before .before .before .before .before .before .before .before .before .before .before .before .if2 .left, c .before .before .before .before .before .before .before .before .before .before .before .before .eight-numbers3 .ensures)))
+slice-aggregate-spread-from-price-5 c = sym (length-take-le _ _ (omega (arith, c .before .before .before .before .before .before .before .before .before .before .before .before .before .before .before .before .before .before .before .before .before .before .before .if2 .left, c .before .before .before .before .before .before .before .before .before .before .before .before .before .before .before .eight-numbers3 .ensures)))
 
 array-share-prefix-strikes : tie.Need-array-share-prefix-strikes
-array-share-prefix-strikes c = omega (arith, c .before .before .before .before .before .before .before .before .before .before .before .before .before .before .before .before .before .before .before .if2 .left)
+array-share-prefix-strikes c = omega (arith, c .before .before .before .before .before .before .before .before .before .before .before .before .before .before .before .before .before .before .before .before .before .before .before .if2 .left)
 
 slice-aggregate-spread-from-price-6 : tie.Need-slice-aggregate-spread-from-price-6
-slice-aggregate-spread-from-price-6 c = sym (length-take-le _ _ (omega (arith, c .before .before .before .before .before .before .before .before .before .before .before .before .before .before .before .before .before .before .before .before .if2 .left, c .before .before .before .before .before .before .before .before .before .before .before .before .eight-floats2 .ensures)))
+slice-aggregate-spread-from-price-6 c = sym (length-take-le _ _ (omega (arith, c .before .before .before .before .before .before .before .before .before .before .before .before .before .before .before .before .before .before .before .before .before .before .before .before .if2 .left, c .before .before .before .before .before .before .before .before .before .before .before .before .before .before .before .eight-floats2 .ensures)))
 
-number-requires-5 : tie.Need-number-requires-5
-number-requires-5 c κs = search needs
+array-share-prefix-put-starts : tie.Need-array-share-prefix-put-starts
+array-share-prefix-put-starts c = omega (arith, c .before .before .before .before .before .before .before .before .before .before .before .before .before .before .before .before .before .before .before .before .before .before .before .if3 .left)
+
+slice-aggregate-spread-from-price-7 : tie.Need-slice-aggregate-spread-from-price-7
+slice-aggregate-spread-from-price-7 c = sym (length-take-le _ _ (omega (arith, c .before .before .before .before .before .before .before .before .before .before .before .before .before .before .before .before .before .before .before .before .before .before .before .before .if3 .left, c .before .before .before .before .before .before .before .before .before .before .before .before .before .before .before .eight-numbers4 .ensures)))
+
+array-share-prefix-put-ends : tie.Need-array-share-prefix-put-ends
+array-share-prefix-put-ends c = omega (arith, c .before .before .before .before .before .before .before .before .before .before .before .before .before .before .before .before .before .before .before .before .before .before .before .before .if3 .left)
+
+slice-aggregate-spread-from-price-8 : tie.Need-slice-aggregate-spread-from-price-8
+slice-aggregate-spread-from-price-8 c = sym (length-take-le _ _ (omega (arith, c .before .before .before .before .before .before .before .before .before .before .before .before .before .before .before .before .before .before .before .before .before .before .before .before .before .if3 .left, c .before .before .before .before .before .before .before .before .before .before .before .before .before .before .before .eight-numbers5 .ensures)))
+
+array-share-prefix-put-strikes : tie.Need-array-share-prefix-put-strikes
+array-share-prefix-put-strikes c = omega (arith, c .before .before .before .before .before .before .before .before .before .before .before .before .before .before .before .before .before .before .before .before .before .before .before .before .before .if3 .left)
+
+slice-aggregate-spread-from-price-9 : tie.Need-slice-aggregate-spread-from-price-9
+slice-aggregate-spread-from-price-9 c = sym (length-take-le _ _ (omega (arith, c .before .before .before .before .before .before .before .before .before .before .before .before .before .before .before .before .before .before .before .before .before .before .before .before .before .before .if3 .left, c .before .before .before .before .before .before .before .before .before .before .before .before .before .before .before .eight-floats3 .ensures)))
 
 number-requires-6 : tie.Need-number-requires-6
 number-requires-6 c κs = search needs
+
+number-requires-7 : tie.Need-number-requires-7
+number-requires-7 c κs = search needs
 
 float-requires-2 : tie.Need-float-requires-2
 float-requires-2 c κs = search needs
 
 array-share-prefix-times : tie.Need-array-share-prefix-times
-array-share-prefix-times c = omega (arith, c .before .before .before .before .before .before .before .before .before .before .before .before .before .before .before .before .before .before .before .before .before .before .if3 .left)
+array-share-prefix-times c = omega (arith, c .before .before .before .before .before .before .before .before .before .before .before .before .before .before .before .before .before .before .before .before .before .before .before .before .before .before .before .before .if4 .left)
 
-slice-aggregate-spread-from-price-7 : tie.Need-slice-aggregate-spread-from-price-7
-slice-aggregate-spread-from-price-7 c = sym (length-take-le _ _ (omega (arith, c .before .before .before .before .before .before .before .before .before .before .before .before .before .before .before .before .before .before .before .before .before .before .before .if3 .left, c .before .before .before .before .before .before .before .before .before .before .before .before .before .before .before .eight-floats3 .ensures)))
+slice-aggregate-spread-from-price-10 : tie.Need-slice-aggregate-spread-from-price-10
+slice-aggregate-spread-from-price-10 c = sym (length-take-le _ _ (omega (arith, c .before .before .before .before .before .before .before .before .before .before .before .before .before .before .before .before .before .before .before .before .before .before .before .before .before .before .before .before .before .if4 .left, c .before .before .before .before .before .before .before .before .before .before .before .before .before .before .before .before .before .before .eight-floats4 .ensures)))
 
 array-share-prefix-sigmas : tie.Need-array-share-prefix-sigmas
-array-share-prefix-sigmas c = omega (arith, c .before .before .before .before .before .before .before .before .before .before .before .before .before .before .before .before .before .before .before .before .before .before .before .if3 .left)
+array-share-prefix-sigmas c = omega (arith, c .before .before .before .before .before .before .before .before .before .before .before .before .before .before .before .before .before .before .before .before .before .before .before .before .before .before .before .before .before .if4 .left)
 
-slice-aggregate-spread-from-price-8 : tie.Need-slice-aggregate-spread-from-price-8
-slice-aggregate-spread-from-price-8 c = sym (length-take-le _ _ (omega (arith, c .before .before .before .before .before .before .before .before .before .before .before .before .before .before .before .before .before .before .before .before .before .before .before .before .if3 .left, c .before .before .before .before .before .before .before .before .before .before .before .before .before .before .before .eight-floats4 .ensures)))
+slice-aggregate-spread-from-price-11 : tie.Need-slice-aggregate-spread-from-price-11
+slice-aggregate-spread-from-price-11 c = sym (length-take-le _ _ (omega (arith, c .before .before .before .before .before .before .before .before .before .before .before .before .before .before .before .before .before .before .before .before .before .before .before .before .before .before .before .before .before .before .if4 .left, c .before .before .before .before .before .before .before .before .before .before .before .before .before .before .before .before .before .before .eight-floats5 .ensures)))
 
 float-requires-3 : tie.Need-float-requires-3
 float-requires-3 c κs = search needs
 
 array-share-prefix-pillars : tie.Need-array-share-prefix-pillars
-array-share-prefix-pillars c = omega (arith, c .before .before .before .before .before .before .before .before .before .before .before .before .before .before .before .before .before .before .before .before .before .before .before .before .if4 .left)
+array-share-prefix-pillars c = omega (arith, c .before .before .before .before .before .before .before .before .before .before .before .before .before .before .before .before .before .before .before .before .before .before .before .before .before .before .before .before .before .before .if5 .left)
 
-slice-aggregate-spread-from-price-9 : tie.Need-slice-aggregate-spread-from-price-9
-slice-aggregate-spread-from-price-9 c = sym (length-take-le _ _ (omega (arith, c .before .before .before .before .before .before .before .before .before .before .before .before .before .before .before .before .before .before .before .before .before .before .before .before .before .if4 .left, c .before .before .before .before .before .before .before .before .before .before .before .before .before .before .before .before .eight-numbers4 .ensures)))
+slice-aggregate-spread-from-price-12 : tie.Need-slice-aggregate-spread-from-price-12
+slice-aggregate-spread-from-price-12 c = sym (length-take-le _ _ (omega (arith, c .before .before .before .before .before .before .before .before .before .before .before .before .before .before .before .before .before .before .before .before .before .before .before .before .before .before .before .before .before .before .before .if5 .left, c .before .before .before .before .before .before .before .before .before .before .before .before .before .before .before .before .before .before .before .eight-numbers6 .ensures)))
 
 array-share-prefix-factors : tie.Need-array-share-prefix-factors
-array-share-prefix-factors c = omega (arith, c .before .before .before .before .before .before .before .before .before .before .before .before .before .before .before .before .before .before .before .before .before .before .before .before .before .if4 .left)
+array-share-prefix-factors c = omega (arith, c .before .before .before .before .before .before .before .before .before .before .before .before .before .before .before .before .before .before .before .before .before .before .before .before .before .before .before .before .before .before .before .if5 .left)
 
-slice-aggregate-spread-from-price-10 : tie.Need-slice-aggregate-spread-from-price-10
-slice-aggregate-spread-from-price-10 c = sym (length-take-le _ _ (omega (arith, c .before .before .before .before .before .before .before .before .before .before .before .before .before .before .before .before .before .before .before .before .before .before .before .before .before .before .if4 .left, c .before .before .before .before .before .before .before .before .before .before .before .before .before .before .before .before .eight-floats5 .ensures)))
+slice-aggregate-spread-from-price-13 : tie.Need-slice-aggregate-spread-from-price-13
+slice-aggregate-spread-from-price-13 c = sym (length-take-le _ _ (omega (arith, c .before .before .before .before .before .before .before .before .before .before .before .before .before .before .before .before .before .before .before .before .before .before .before .before .before .before .before .before .before .before .before .before .if5 .left, c .before .before .before .before .before .before .before .before .before .before .before .before .before .before .before .before .before .before .before .eight-floats6 .ensures)))
 
 spread-from-price-requires : tie.Need-spread-from-price-requires
 spread-from-price-requires c κs = search needs
 
-number-requires-7 : tie.Need-number-requires-7
-number-requires-7 c κs = search needs
-
 number-requires-8 : tie.Need-number-requires-8
 number-requires-8 c κs = search needs
+
+number-requires-9 : tie.Need-number-requires-9
+number-requires-9 c κs = search needs
 
 float-requires-4 : tie.Need-float-requires-4
 float-requires-4 c κs = search needs
 
-number-requires-9 : tie.Need-number-requires-9
-number-requires-9 c κs = search needs
+number-requires-10 : tie.Need-number-requires-10
+number-requires-10 c κs = search needs
 
 is-answer-requires : tie.Need-is-answer-requires
 is-answer-requires c κs = search needs
@@ -180,8 +216,8 @@ same-length-3 c = search needs
 same-length-4 : tie.Need-same-length-4
 same-length-4 c = search needs
 
-returns-5 : tie.Need-returns-5
-returns-5 c = search needs
+returns-6 : tie.Need-returns-6
+returns-6 c = search needs
 
 pub answered-spec : {M : Type 1} → statement M
 answered-spec =
@@ -192,23 +228,29 @@ answered-spec =
     number-requires-2
     cast-entries
     number-requires-3
-    cast-levels
+    cast-rights
     number-requires-4
+    cast-levels
+    number-requires-5
     cast-points
     returns
     returns-2
     returns-3
     returns-4
+    returns-5
     eight-numbers-requires
     eight-bytes-requires
     eight-floats-requires
     eight-numbers-requires-2
     eight-numbers-requires-3
     eight-floats-requires-2
+    eight-numbers-requires-4
+    eight-numbers-requires-5
     eight-floats-requires-3
     eight-floats-requires-4
-    eight-numbers-requires-4
     eight-floats-requires-5
+    eight-numbers-requires-6
+    eight-floats-requires-6
     settlement-of-requires
     array-share-prefix-days
     slice-aggregate-spread-from-price
@@ -223,26 +265,32 @@ answered-spec =
     slice-aggregate-spread-from-price-5
     array-share-prefix-strikes
     slice-aggregate-spread-from-price-6
-    number-requires-5
+    array-share-prefix-put-starts
+    slice-aggregate-spread-from-price-7
+    array-share-prefix-put-ends
+    slice-aggregate-spread-from-price-8
+    array-share-prefix-put-strikes
+    slice-aggregate-spread-from-price-9
     number-requires-6
+    number-requires-7
     float-requires-2
     array-share-prefix-times
-    slice-aggregate-spread-from-price-7
+    slice-aggregate-spread-from-price-10
     array-share-prefix-sigmas
-    slice-aggregate-spread-from-price-8
+    slice-aggregate-spread-from-price-11
     float-requires-3
     array-share-prefix-pillars
-    slice-aggregate-spread-from-price-9
+    slice-aggregate-spread-from-price-12
     array-share-prefix-factors
-    slice-aggregate-spread-from-price-10
+    slice-aggregate-spread-from-price-13
     spread-from-price-requires
-    number-requires-7
     number-requires-8
-    float-requires-4
     number-requires-9
+    float-requires-4
+    number-requires-10
     is-answer-requires
     same-length
     same-length-2
     same-length-3
     same-length-4
-    returns-5)
+    returns-6)

@@ -8,7 +8,7 @@ abbrev Inv-loop : tie.InvT-loop
 Inv-loop «record» at₀ at = Unit {0}
 
 abbrev μ-loop : tie.MeasureT-loop
-μ-loop «record» at₀ at = 160 - at
+μ-loop «record» at₀ at = 223 - at
 
 loop-holds : tie.Need-loop-holds Inv-loop μ-loop
 loop-holds c = search needs

@@ -173,6 +173,60 @@ slice-aggregate-text-line-28 c = search needs
 text-line-requires-28 : tie.Need-text-line-requires-28
 text-line-requires-28 c κs = search needs
 
+slice-aggregate-text-line-29 : tie.Need-slice-aggregate-text-line-29
+slice-aggregate-text-line-29 c = search needs
+
+text-line-requires-29 : tie.Need-text-line-requires-29
+text-line-requires-29 c κs = search needs
+
+slice-aggregate-text-line-30 : tie.Need-slice-aggregate-text-line-30
+slice-aggregate-text-line-30 c = search needs
+
+text-line-requires-30 : tie.Need-text-line-requires-30
+text-line-requires-30 c κs = search needs
+
+slice-aggregate-text-line-31 : tie.Need-slice-aggregate-text-line-31
+slice-aggregate-text-line-31 c = search needs
+
+text-line-requires-31 : tie.Need-text-line-requires-31
+text-line-requires-31 c κs = search needs
+
+slice-aggregate-text-line-32 : tie.Need-slice-aggregate-text-line-32
+slice-aggregate-text-line-32 c = search needs
+
+text-line-requires-32 : tie.Need-text-line-requires-32
+text-line-requires-32 c κs = search needs
+
+slice-aggregate-text-line-33 : tie.Need-slice-aggregate-text-line-33
+slice-aggregate-text-line-33 c = search needs
+
+text-line-requires-33 : tie.Need-text-line-requires-33
+text-line-requires-33 c κs = search needs
+
+slice-aggregate-text-line-34 : tie.Need-slice-aggregate-text-line-34
+slice-aggregate-text-line-34 c = search needs
+
+text-line-requires-34 : tie.Need-text-line-requires-34
+text-line-requires-34 c κs = search needs
+
+slice-aggregate-text-line-35 : tie.Need-slice-aggregate-text-line-35
+slice-aggregate-text-line-35 c = search needs
+
+text-line-requires-35 : tie.Need-text-line-requires-35
+text-line-requires-35 c κs = search needs
+
+slice-aggregate-text-line-36 : tie.Need-slice-aggregate-text-line-36
+slice-aggregate-text-line-36 c = search needs
+
+text-line-requires-36 : tie.Need-text-line-requires-36
+text-line-requires-36 c κs = search needs
+
+slice-aggregate-text-line-37 : tie.Need-slice-aggregate-text-line-37
+slice-aggregate-text-line-37 c = search needs
+
+text-line-requires-37 : tie.Need-text-line-requires-37
+text-line-requires-37 c κs = search needs
+
 returns : tie.Need-returns
 unfolding sentenceFor
 returns c = named (c .before .before .match .keys1) (c .text-line .ensures)
@@ -283,7 +337,43 @@ returns-27 c = named (c .before .before .match .keys27) (c .text-line27 .ensures
 
 returns-28 : tie.Need-returns-28
 unfolding sentenceFor
-returns-28 c = unnamed _ (c .before .before .match .rest) (c .text-line28 .ensures)
+returns-28 c = named (c .before .before .match .keys28) (c .text-line28 .ensures)
+
+returns-29 : tie.Need-returns-29
+unfolding sentenceFor
+returns-29 c = named (c .before .before .match .keys29) (c .text-line29 .ensures)
+
+returns-30 : tie.Need-returns-30
+unfolding sentenceFor
+returns-30 c = named (c .before .before .match .keys30) (c .text-line30 .ensures)
+
+returns-31 : tie.Need-returns-31
+unfolding sentenceFor
+returns-31 c = named (c .before .before .match .keys31) (c .text-line31 .ensures)
+
+returns-32 : tie.Need-returns-32
+unfolding sentenceFor
+returns-32 c = named (c .before .before .match .keys32) (c .text-line32 .ensures)
+
+returns-33 : tie.Need-returns-33
+unfolding sentenceFor
+returns-33 c = named (c .before .before .match .keys33) (c .text-line33 .ensures)
+
+returns-34 : tie.Need-returns-34
+unfolding sentenceFor
+returns-34 c = named (c .before .before .match .keys34) (c .text-line34 .ensures)
+
+returns-35 : tie.Need-returns-35
+unfolding sentenceFor
+returns-35 c = named (c .before .before .match .keys35) (c .text-line35 .ensures)
+
+returns-36 : tie.Need-returns-36
+unfolding sentenceFor
+returns-36 c = named (c .before .before .match .keys36) (c .text-line36 .ensures)
+
+returns-37 : tie.Need-returns-37
+unfolding sentenceFor
+returns-37 c = unnamed _ (c .before .before .match .rest) (c .text-line37 .ensures)
 
 pub what-to-do-spec : {M : Type 1} → statement M
 what-to-do-spec =
@@ -345,6 +435,24 @@ what-to-do-spec =
     text-line-requires-27
     slice-aggregate-text-line-28
     text-line-requires-28
+    slice-aggregate-text-line-29
+    text-line-requires-29
+    slice-aggregate-text-line-30
+    text-line-requires-30
+    slice-aggregate-text-line-31
+    text-line-requires-31
+    slice-aggregate-text-line-32
+    text-line-requires-32
+    slice-aggregate-text-line-33
+    text-line-requires-33
+    slice-aggregate-text-line-34
+    text-line-requires-34
+    slice-aggregate-text-line-35
+    text-line-requires-35
+    slice-aggregate-text-line-36
+    text-line-requires-36
+    slice-aggregate-text-line-37
+    text-line-requires-37
     returns
     returns-2
     returns-3
@@ -372,4 +480,13 @@ what-to-do-spec =
     returns-25
     returns-26
     returns-27
-    returns-28)
+    returns-28
+    returns-29
+    returns-30
+    returns-31
+    returns-32
+    returns-33
+    returns-34
+    returns-35
+    returns-36
+    returns-37)

@@ -70,7 +70,7 @@ module _ (t : ℕ) (c : walk-lts.Start (calls t) (walk-at t) walk.Post) where
     behind : Behind (c .args .flat) (length (c .args .first .now)) (length (c .args .second .now)) (c .args .counts .now) (c .args .spacings .now) (c .args .nodes .now) (c .args .probabilities .now)
     behind = behind-of (c .pre .1 .0) h
 
-    asked : (length (partFrom 1 (c .args .spacings .now)) < t) × (Laid (c .args .flat) (length (c .args .first .now)) (length (c .args .second .now)) (partFrom 1 (c .args .counts .now)) (partFrom 1 (c .args .spacings .now)) (partFrom (getD (c .args .counts .now) 0 0 * 2) (c .args .nodes .now)) (partFrom (getD (c .args .counts .now) 0 0 * 3) (c .args .probabilities .now)) × (((length (partFrom 1 (c .args .shifts .now)) ≡ length (partFrom 1 (c .args .spacings .now))) × (c .args .step + 1 + length (partFrom 1 (c .args .spacings .now)) < length (c .args .cashflows .now)) × (length (c .args .cashflows .now) < 2 ^ 32)) × ((length (c .args .marks .now) ≡ length (c .args .cashflows .now)) × (length (c .args .prices .now) ≡ length (c .args .cashflows .now)))))
+    asked : (length (partFrom 1 (c .args .spacings .now)) < t) × (Laid (c .args .flat) (length (c .args .first .now)) (length (c .args .second .now)) (partFrom 1 (c .args .counts .now)) (partFrom 1 (c .args .spacings .now)) (partFrom (getD (c .args .counts .now) 0 0 * 2) (c .args .nodes .now)) (partFrom (getD (c .args .counts .now) 0 0 * 3) (c .args .probabilities .now)) × (((length (partFrom 1 (c .args .shifts .now)) ≡ length (partFrom 1 (c .args .spacings .now))) × (c .args .step + 1 + length (partFrom 1 (c .args .spacings .now)) < length (c .args .cashflows .now)) × (length (c .args .cashflows .now) < 2 ^ 32)) × ((length (c .args .marks .now) ≡ length (c .args .cashflows .now)) × (length (c .args .prices .now) ≡ length (c .args .cashflows .now) * 2))))
     asked =
         let e : length (partFrom 1 (c .args .spacings .now)) + 1 ≡ length (c .args .spacings .now) = omega (arith, part-length 1 (c .args .spacings .now), some-spacing) in
         let f : length (partFrom 1 (c .args .shifts .now)) + 1 ≡ length (c .args .shifts .now) = omega (arith, part-length 1 (c .args .shifts .now), some-shift) in
@@ -190,7 +190,7 @@ walk-shared-slice-read-t60 : (t : ℕ) → walk-lts.Need-shared-slice-read-t60 (
 walk-shared-slice-read-t60 t c = some-shift t (c .before .before .before .before .before .before .before .before .before .before .before .before .before .before .before .before .before .before .before .before .before .before .before .before .before .before .before .before) (c .before .before .before .before .before .before .before .before .before .before .before .before .before .before .before .before .if1 .left)
 
 walk-call-at-requires : (t : ℕ) → walk-lts.Need-call-at-requires (calls t) (walk-at t) walk.Post
-walk-call-at-requires t c κs = (inside-marks t (c .before .before .before .before .before .before .before .before .before .before .before .before .before .before .before .before .before .before .before .before .before .before .before .before .before .before .before .before), c .before .before .before .before .before .before .before .before .before .before .before .before .before .before .before .before .before .before .before .before .before .before .before .before .before .before .before .before .pre .1 .1 .1 .1 ∙ sym (c .before .before .before .before .before .before .before .before .before .before .before .before .before .before .before .before .before .before .before .before .before .before .before .before .before .before .before .before .pre .1 .1 .1 .0))
+walk-call-at-requires t c κs = let start = c .before .before .before .before .before .before .before .before .before .before .before .before .before .before .before .before .before .before .before .before .before .before .before .before .before .before .before .before in (inside-marks t start, omega (arith, start .pre .1 .1 .1 .0, start .pre .1 .1 .1 .1))
 
 walk-slice-aggregate-roll-step : (t : ℕ) → walk-lts.Need-slice-aggregate-roll-step (calls t) (walk-at t) walk.Post
 walk-slice-aggregate-roll-step t c = sym (length-take-le _ _ (front t (c .before .before .before .before .before .before .before .before .before .before .before .before .before .before .before .before .before .before .before .before .before .before .before .before .before .before .before .before .before .before) .pairs))

@@ -72,7 +72,7 @@ same-length c = search needs
 returns-2 : tie.Need-returns-2
 unfolding axisOf
 returns-2 c =
-    let time = c .before .before .before .before .before .before .before .year-fraction .ensures ∙ ap (yearFraction (c .before .before .before .before .before .before .before .before .before .before .before .before .before .before .before .before .before .before .before .before .before .before .before .before .before .args .settlement)) (c .before .before .before .before .before .before .before .before .last-day .ensures) in
+    let time = c .before .before .before .before .before .before .before .year-fraction .ensures ∙ ap (yearFraction (c .before .before .before .before .before .before .before .before .before .before .before .before .before .before .before .before .before .before .before .before .before .before .before .before .before .before .before .before .args .settlement)) (c .before .before .before .before .before .before .before .before .last-day .ensures) in
     entered-zeroed _ _ (c .before .before .before .before .before .before .before .before .before .before .before .tree-checks .ensures) _ (c .before .before .before .before .before .before .before .before .before .enum-told .given .1) time (c .before .before .before .before .before .before .steps-of .ensures ∙ (rw time)) (c .before .before .before .before .sizes-at .ensures) (c .before .zero-numbers .ensures) (c .before .before .before .before .sizes-at .kept .1 .1 .1 .1 .1 .0)
 
 pub sizes-spec : {M : Type 1} → statement M

@@ -19,7 +19,7 @@ enum-told c = c .match .keys2
 
 solve-grid-requires : tie.Need-solve-grid-requires
 solve-grid-requires c κs =
-    let start = c .before .before .before .before .before .before .before .before .before .before .before .before .before .before .before .before .before .before .before .before .before .before in
+    let start = c .before .before .before .before .before .before .before .before .before .before .before .before .before .before .before .before .before .before .before .before .before .before .before .before .before in
     steps-of-grid _ _ _ _ (c .before .before .before .before .before .before .before .event-grid .ensures) (c .before .before .before .before .before .enum-told .given .1) (start .pre .0 .0) (start .pre .0 .1)
 
 same-length : tie.Need-same-length
@@ -35,7 +35,7 @@ same-length-4 : tie.Need-same-length-4
 same-length-4 c = c .before .before .before .before .before .before .before .solve-grid .kept .1 .1 .1 .1 .1 .1 .1 .1 .1 .1 .0
 
 returns-2 : tie.Need-returns-2
-returns-2 c = root-checked _ _ _ (c .before .before .before .before .before .before .before .before .before .before .before .before .before .before .before .event-grid .ensures) (c .before .before .before .before .before .before .before .before .before .before .before .before .before .before .before .before .before .before .before .before .before .before .before .before .before .before .before .before .before .before .pre .1 .1 .1) (c .before .before .before .before .before .before .before .before .before .before .before .before .before .enum-told .given .1) (c .before .before .before .before .before .before .before .solve-grid .ensures)
+returns-2 c = root-checked _ _ _ (c .before .before .before .before .before .before .before .before .before .before .before .before .before .before .before .event-grid .ensures) (c .before .before .before .before .before .before .before .before .before .before .before .before .before .before .before .before .before .before .before .before .before .before .before .before .before .before .before .before .before .before .before .before .before .pre .1 .1 .1 .1) (c .before .before .before .before .before .before .before .before .before .before .before .before .before .enum-told .given .1) (c .before .before .before .before .before .before .before .solve-grid .ensures)
 
 pub checked-spread-spec : {M : Type 1} → statement M
 checked-spread-spec =

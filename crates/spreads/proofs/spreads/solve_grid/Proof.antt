@@ -8,11 +8,11 @@ use borrow.Author.Needs.{needs}
 use Rattle.spreads.proofs.spreads.solve_grid.Statement.{statement}
 use Rattle.spreads.proofs.spreads.solve_grid.Tie as tie
 
-marks-of-requires : tie.Need-marks-of-requires
-marks-of-requires c κs = tt
+step-marks-requires : tie.Need-step-marks-requires
+step-marks-requires c κs = tt
 
-prices-of-requires : tie.Need-prices-of-requires
-prices-of-requires c κs = tt
+step-prices-requires : tie.Need-step-prices-requires
+step-prices-requires c κs = tt
 
 cast-n : tie.Need-cast-n
 cast-n c = record { fits = omega (arith, c .before .before .before .before .before .before .before .before .before .before .before .pre) }
@@ -63,14 +63,14 @@ same-length-4 : tie.Need-same-length-4
 same-length-4 c = c .before .before .before .before .before .before .before .before .before .before .solve-over .kept .1 .1 .1 .1 .1 .1 .1 .1 .1 .1 .1 .1 .1 .1 .1 .1 .1 .0
 
 returns : tie.Need-returns
-returns c = root-with-calls _ _ _ _ (c .before .before .before .before .before .before .before .before .before .before .solve-over .ensures) (c .before .before .before .before .before .before .before .before .before .before .before .before .before .before .before .before .before .before .before .before .before .before .marks-of .ensures) (c .before .before .before .before .before .before .before .before .before .before .before .before .before .before .before .before .before .before .before .before .before .prices-of .ensures)
+returns c = root-with-calls _ _ _ _ (c .before .before .before .before .before .before .before .before .before .before .solve-over .ensures) (c .before .before .before .before .before .before .before .before .before .before .before .before .before .before .before .before .before .before .before .before .before .before .step-marks .ensures) (c .before .before .before .before .before .before .before .before .before .before .before .before .before .before .before .before .before .before .before .before .before .step-prices .ensures)
 
 pub solve-grid-spec : {M : Type 1} → statement M
 solve-grid-spec =
     tie.close
     (tie.spec
-    marks-of-requires
-    prices-of-requires
+    step-marks-requires
+    step-prices-requires
     cast-n
     slice-aggregate-solve-over
     slice-aggregate-solve-over-2

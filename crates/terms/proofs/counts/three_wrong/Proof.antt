@@ -9,11 +9,11 @@ out-of-requires c κs = search tests
 returns : tie.Need-returns
 returns c = search tests
 
+unequal-requires : tie.Need-unequal-requires
+unequal-requires c κs = search tests
+
 returns-2 : tie.Need-returns-2
 returns-2 c = search tests
 
-returns-3 : tie.Need-returns-3
-returns-3 c = search tests
-
 pub three-wrong-spec : {M : Type 1} → statement M
-three-wrong-spec = tie.close (tie.spec out-of-requires returns returns-2 returns-3)
+three-wrong-spec = tie.close (tie.spec out-of-requires returns unequal-requires returns-2)

@@ -18,7 +18,7 @@ enum-told c = c .match .keys2
 
 lattice-value-requires : tie.Need-lattice-value-requires
 lattice-value-requires c κs =
-    let start = c .before .before .before .before .before .before .before .before .before .before .before .before .before .before .before .before .before .before .before .before .before .before in
+    let start = c .before .before .before .before .before .before .before .before .before .before .before .before .before .before .before .before .before .before .before .before .before .before .before .before .before in
     steps-of-grid _ _ _ _ (c .before .before .before .before .before .before .before .event-grid .ensures) (c .before .before .before .before .before .enum-told .given .1) (start .pre .0 .0) (start .pre .0 .1)
 
 same-length : tie.Need-same-length
@@ -34,7 +34,7 @@ same-length-4 : tie.Need-same-length-4
 same-length-4 c = c .before .before .before .before .before .before .before .lattice-value .kept .1 .1 .1 .1 .1 .1 .1 .1 .1 .1 .0
 
 returns-2 : tie.Need-returns-2
-returns-2 c = value-checked _ _ _ (c .before .before .before .before .before .before .before .before .before .before .before .before .before .before .before .event-grid .ensures) (c .before .before .before .before .before .before .before .before .before .before .before .before .before .before .before .before .before .before .before .before .before .before .before .before .before .before .before .before .before .before .pre .1 .1 .1) (c .before .before .before .before .before .before .before .before .before .before .before .before .before .enum-told .given .1) (c .before .before .before .before .before .before .before .lattice-value .ensures)
+returns-2 c = value-checked _ _ _ (c .before .before .before .before .before .before .before .before .before .before .before .before .before .before .before .event-grid .ensures) (c .before .before .before .before .before .before .before .before .before .before .before .before .before .before .before .before .before .before .before .before .before .before .before .before .before .before .before .before .before .before .before .before .before .pre .1 .1 .1 .1) (c .before .before .before .before .before .before .before .before .before .before .before .before .before .enum-told .given .1) (c .before .before .before .before .before .before .before .lattice-value .ensures)
 
 pub checked-value-spec : {M : Type 1} → statement M
 checked-value-spec =

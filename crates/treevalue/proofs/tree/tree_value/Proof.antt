@@ -4,7 +4,7 @@ use native.Mathlib.Omega.{arith}
 use lib.Seq.{length-take-le}
 use Rattle.terms.specs.laws.EntryChecks.{tree-grid, tree-few-pillars}
 use Rattle.terms.proofs.Timing.{fronted}
-use Rattle.bondevents.proofs.Grids.{settled, leg-sized, calls-sized}
+use Rattle.bondevents.proofs.Grids.{settled, leg-sized, calls-sized, puts-sized}
 use Rattle.treebasedbondpricer.specs.laws.Entered.{entered-refused, entered-zeroed}
 use borrow.Author.Needs.{needs}
 use Rattle.treevalue.proofs.tree.tree_value.Statement.{statement}
@@ -47,8 +47,9 @@ checked-value-requires c κs =
     let steps = settled _ _ _ _ passed refl in
     let leg = leg-sized _ _ _ _ passed refl in
     let calls = calls-sized _ _ _ _ passed refl .entries in
+    let puts = puts-sized _ _ _ _ passed refl .entries in
     let times = fronted _ _ _ (c .before .before .before .before .before .before .before .before .before .timed-pillars .ensures) (c .before .before .before .before .before .before .before .before .before .before .pillar-times .ensures) in
-    ((steps .some-steps, steps .few-steps), ((leg .few, leg .kinds-too, leg .amounts-too), ((calls .ends-too, calls .strikes-too), times .timed (tree-few-pillars _ _ all))))
+    ((steps .some-steps, steps .few-steps), ((leg .few, leg .kinds-too, leg .amounts-too), ((calls .ends-too, calls .strikes-too), ((puts .ends-too, puts .strikes-too), times .timed (tree-few-pillars _ _ all)))))
 
 zero-numbers-requires : tie.Need-zero-numbers-requires
 zero-numbers-requires c κs = tt
@@ -63,21 +64,21 @@ zero-floats-requires-3 : tie.Need-zero-floats-requires-3
 zero-floats-requires-3 c κs = tt
 
 same-length : tie.Need-same-length
-same-length c = c .before .before .before .before .before .before .before .before .before .before .before .before .before .zero-numbers .kept .0 ∙ c .before .before .before .before .before .before .before .before .before .before .before .before .before .before .before .before .before .before .before .before .before .before .checked-value .kept .1 .1 .1 .1 .1 .1 .1 .1 .1 .1 .1 .1 .1 .1 .1 .1 .1 .0
+same-length c = c .before .before .before .before .before .before .before .before .before .before .before .before .before .zero-numbers .kept .0 ∙ c .before .before .before .before .before .before .before .before .before .before .before .before .before .before .before .before .before .before .before .before .before .before .checked-value .kept .1 .1 .1 .1 .1 .1 .1 .1 .1 .1 .1 .1 .1 .1 .1 .1 .1 .1 .1 .1 .0
 
 same-length-2 : tie.Need-same-length-2
-same-length-2 c = c .before .before .before .before .before .before .before .before .before .before .zero-floats .kept .0 ∙ c .before .before .before .before .before .before .before .before .before .before .before .before .before .before .before .before .before .before .before .before .before .before .checked-value .kept .1 .1 .1 .1 .1 .1 .1 .1 .1 .1 .1 .1 .1 .1 .1 .1 .1 .1 .0
+same-length-2 c = c .before .before .before .before .before .before .before .before .before .before .zero-floats .kept .0 ∙ c .before .before .before .before .before .before .before .before .before .before .before .before .before .before .before .before .before .before .before .before .before .before .checked-value .kept .1 .1 .1 .1 .1 .1 .1 .1 .1 .1 .1 .1 .1 .1 .1 .1 .1 .1 .1 .1 .1 .0
 
 same-length-3 : tie.Need-same-length-3
-same-length-3 c = c .before .before .before .before .before .before .zero-floats2 .kept .0 ∙ c .before .before .before .before .before .before .before .before .before .before .before .before .before .before .before .before .before .before .before .before .before .before .checked-value .kept .1 .1 .1 .1 .1 .1 .1 .1 .1 .1 .1 .1 .1 .1 .1 .1 .1 .1 .1 .0
+same-length-3 c = c .before .before .before .before .before .before .zero-floats2 .kept .0 ∙ c .before .before .before .before .before .before .before .before .before .before .before .before .before .before .before .before .before .before .before .before .before .before .checked-value .kept .1 .1 .1 .1 .1 .1 .1 .1 .1 .1 .1 .1 .1 .1 .1 .1 .1 .1 .1 .1 .1 .1 .0
 
 same-length-4 : tie.Need-same-length-4
-same-length-4 c = c .before .before .zero-floats3 .kept .0 ∙ c .before .before .before .before .before .before .before .before .before .before .before .before .before .before .before .before .before .before .before .before .before .before .checked-value .kept .1 .1 .1 .1 .1 .1 .1 .1 .1 .1 .1 .1 .1 .1 .1 .1 .1 .1 .1 .1 .0
+same-length-4 c = c .before .before .zero-floats3 .kept .0 ∙ c .before .before .before .before .before .before .before .before .before .before .before .before .before .before .before .before .before .before .before .before .before .before .checked-value .kept .1 .1 .1 .1 .1 .1 .1 .1 .1 .1 .1 .1 .1 .1 .1 .1 .1 .1 .1 .1 .1 .1 .1 .0
 
 returns-2 : tie.Need-returns-2
 returns-2 c =
     let kept = c .before .before .before .before .before .before .before .before .before .before .before .before .before .before .before .before .before .before .before .before .before .before .checked-value .kept in
-    entered-zeroed _ _ (c .before .before .before .before .before .before .before .before .before .before .before .before .before .before .before .before .before .before .before .before .before .before .before .before .before .before .before .before .before .before .tree-checks .ensures) _ (c .before .before .before .before .before .before .before .before .before .before .before .before .before .before .before .before .before .before .before .before .before .before .before .before .before .before .before .before .enum-told .given .1) (c .before .before .before .before .before .before .before .before .before .before .before .before .before .before .before .before .before .before .before .before .before .before .checked-value .ensures) (c .before .before .before .before .before .before .before .before .before .before .before .before .before .zero-numbers .ensures) (c .before .before .before .before .before .before .before .before .before .before .zero-floats .ensures) (c .before .before .before .before .before .before .zero-floats2 .ensures) (c .before .before .zero-floats3 .ensures) (kept .1 .1 .1 .1 .1 .1 .1 .1 .1 .1 .1 .1 .1 .1 .1 .1 .1 .0) (kept .1 .1 .1 .1 .1 .1 .1 .1 .1 .1 .1 .1 .1 .1 .1 .1 .1 .1 .0) (kept .1 .1 .1 .1 .1 .1 .1 .1 .1 .1 .1 .1 .1 .1 .1 .1 .1 .1 .1 .0) (kept .1 .1 .1 .1 .1 .1 .1 .1 .1 .1 .1 .1 .1 .1 .1 .1 .1 .1 .1 .1 .0)
+    entered-zeroed _ _ (c .before .before .before .before .before .before .before .before .before .before .before .before .before .before .before .before .before .before .before .before .before .before .before .before .before .before .before .before .before .before .tree-checks .ensures) _ (c .before .before .before .before .before .before .before .before .before .before .before .before .before .before .before .before .before .before .before .before .before .before .before .before .before .before .before .before .enum-told .given .1) (c .before .before .before .before .before .before .before .before .before .before .before .before .before .before .before .before .before .before .before .before .before .before .checked-value .ensures) (c .before .before .before .before .before .before .before .before .before .before .before .before .before .zero-numbers .ensures) (c .before .before .before .before .before .before .before .before .before .before .zero-floats .ensures) (c .before .before .before .before .before .before .zero-floats2 .ensures) (c .before .before .zero-floats3 .ensures) (kept .1 .1 .1 .1 .1 .1 .1 .1 .1 .1 .1 .1 .1 .1 .1 .1 .1 .1 .1 .1 .0) (kept .1 .1 .1 .1 .1 .1 .1 .1 .1 .1 .1 .1 .1 .1 .1 .1 .1 .1 .1 .1 .1 .0) (kept .1 .1 .1 .1 .1 .1 .1 .1 .1 .1 .1 .1 .1 .1 .1 .1 .1 .1 .1 .1 .1 .1 .0) (kept .1 .1 .1 .1 .1 .1 .1 .1 .1 .1 .1 .1 .1 .1 .1 .1 .1 .1 .1 .1 .1 .1 .1 .0)
 
 pub tree-value-spec : {M : Type 1} → statement M
 tree-value-spec =
