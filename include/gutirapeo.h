@@ -290,6 +290,51 @@ uint32_t gutirapeo_sizes(uint32_t settlement, uint32_t day_count,
                          uint32_t *place, uint64_t *nodes_needed, uint64_t *probabilities_needed,
                          uint64_t *row_needed, uint64_t *node_count);
 
+/* A book of 1 to 32 bonds on one settlement day, sigma, alpha, curve and set of lent slices, all or none: each value, their sum in
+ * book order from 0, and the sum of the trees' node counts.
+ *
+ * Each bond has a place in day_counts, cashflow_counts, units, call_counts, put_counts, steps_per_year, max_steps and spreads; the
+ * number of cashflow_counts is the size of the book. Cashflows, calls and puts of all bonds stand one after the other in the other
+ * arrays, so many for each bond as its counts say. Each value is that of gutirapeo_tree_value for the bond alone with the same
+ * slices, every bond having the whole of them.
+ *
+ * All bonds are checked before any is valued. *bond, from 0, names the bond that is refused: the first in book order that the
+ * checks refuse, or, where they refuse none, the first refused while it is valued. The refusal and its place are those of the bond
+ * alone, the place counting inside the bond's own lists. Beside a refusal the 32 values, the sum and the count are 0; values past
+ * the size are 0 too. Lent slices are untouched after 39 and after a refusal of the checks, and else all zero.
+ *   39  no bonds, or more than 32 (bond 0, place 0), tried before anything else
+ *   2   arrays that don't add up (place 0): a bond's place is missing, its entries pass the end of an array, or, at the last bond,
+ *       something is left over. Tried after 1 and 33; first where the bond's day count or step settings are themselves missing
+ *   27  a sum that isn't finite (place 0), tried once every bond is valued, of the first bond that makes it so */
+uint32_t gutirapeo_book_value(uint32_t settlement,
+                              const uint32_t *day_counts, size_t day_counts_length,
+                              const uint32_t *cashflow_counts, size_t cashflow_counts_length,
+                              const uint32_t *cashflow_days, size_t cashflow_days_length,
+                              const uint8_t *cashflow_kinds, size_t cashflow_kinds_length,
+                              const double *cashflow_amounts, size_t cashflow_amounts_length,
+                              const double *units, size_t units_length,
+                              const uint32_t *call_counts, size_t call_counts_length,
+                              const uint32_t *call_starts, size_t call_starts_length,
+                              const uint32_t *call_ends, size_t call_ends_length,
+                              const double *call_strikes, size_t call_strikes_length,
+                              const uint32_t *put_counts, size_t put_counts_length,
+                              const uint32_t *put_starts, size_t put_starts_length,
+                              const uint32_t *put_ends, size_t put_ends_length,
+                              const double *put_strikes, size_t put_strikes_length,
+                              const uint32_t *steps_per_year, size_t steps_per_year_length,
+                              const uint32_t *max_steps, size_t max_steps_length,
+                              const double *spreads, size_t spreads_length,
+                              double alpha,
+                              const double *sigma_times, size_t sigma_times_length,
+                              const double *sigmas, size_t sigmas_length,
+                              const uint32_t *pillar_days, size_t pillar_days_length,
+                              const double *pillar_factors, size_t pillar_factors_length,
+                              int32_t *nodes, size_t nodes_length,
+                              double *probabilities, size_t probabilities_length,
+                              double *first_row, size_t first_row_length,
+                              double *second_row, size_t second_row_length,
+                              uint32_t *place, uint32_t *bond, double values[32], double *sum, uint64_t *node_count);
+
 /* What the bond is worth without its calls and puts.
  * 25: settlement's factor comes out as 0. 26: exp or ln outside its range. 27: a result that isn't finite. */
 uint32_t gutirapeo_straight_value(uint32_t settlement, uint32_t day_count,

@@ -14,4 +14,6 @@ pub mod HostCallLists
 pub mod ClosingSheet
 pub mod Sizing
 pub mod FitNodes
+pub mod Books
+pub mod BookExamples
 pub mod laws

@@ -29,3 +29,6 @@ pub mod ClosingSheet
 pub mod Sizing
 pub mod SortedSets
 pub mod FitNodes
+pub mod BookAnswers
+pub mod BookRules
+pub mod Books

@@ -1,0 +1,4 @@
+pub mod Book
+pub mod Checks
+pub mod Slices
+pub mod laws

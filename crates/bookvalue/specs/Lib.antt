@@ -1,0 +1,4 @@
+pub mod Values
+pub mod Entry
+pub mod Slices
+pub mod laws
