@@ -73,7 +73,7 @@ uint32_t gutirapeo_midpoint(double a, double b, uint32_t *place, double *value);
  *   7   no cashflow after settlement
  *   8   pillar days that don't rise, the first not settlement, the last before maturity
  *   34  two pillars at one time, tried after 8 (the place is the later one)
- *   35  a maturity whose time is 0: in the grid, the tree value, sizing and the spread
+ *   35  a maturity whose time is 0: in the grid and in all that is built on it
  *   9   an unknown compounding code, or a frequency that can't be used
  *   37  more than 64 puts, tried after every 2 (place 0); put arrays of unequal length are 2
  *   44  a pillar's discount factor that isn't positive, tried last
@@ -210,6 +210,42 @@ uint32_t gutirapeo_closing_line(uint32_t bond, uint32_t settlement, uint32_t day
                                 double *first_row, size_t first_row_length,
                                 double *second_row, size_t second_row_length,
                                 uint32_t *place, uint8_t line[35]);
+
+/* The spread by sigma table: a page with a row for each shift (1 to 16) and a column for each spread (1 to 16), 16 characters a
+ * cell and a newline after each row. Its length is rows x (16 x columns + 1); all 4,112 bytes are written on every call, zero
+ * past the length.
+ *
+ * Each cell is the tree value with that spread and with the shift added to every sigma, printed as the closing sheet prints a
+ * value, whatever the node count. A cell whose tree value is refused, or whose value is too wide for that (32), shows the number
+ * right behind a hash sign, right-justified; the other cells don't change for it.
+ *   45  no spreads or shifts, or more than 16 of either; tried first: place 0, length 0, the page all zero, the slices untouched
+ *   46  shown in each cell of a row in which a shifted sigma isn't finite or lies outside 0 to 10, ahead of any other refusal
+ * The sigmas that are given need not lie within 0 to 10 themselves. But for 45 the result is 0 whatever the cells show, and the
+ * lent slices are all zero. */
+uint32_t gutirapeo_spread_table(uint32_t settlement, uint32_t day_count,
+                                const uint32_t *cashflow_days, size_t cashflow_days_length,
+                                const uint8_t *cashflow_kinds, size_t cashflow_kinds_length,
+                                const double *cashflow_amounts, size_t cashflow_amounts_length,
+                                double units,
+                                const uint32_t *call_starts, size_t call_starts_length,
+                                const uint32_t *call_ends, size_t call_ends_length,
+                                const double *call_strikes, size_t call_strikes_length,
+                                const uint32_t *put_starts, size_t put_starts_length,
+                                const uint32_t *put_ends, size_t put_ends_length,
+                                const double *put_strikes, size_t put_strikes_length,
+                                uint32_t steps_per_year, uint32_t max_steps,
+                                double alpha,
+                                const double *sigma_times, size_t sigma_times_length,
+                                const double *sigmas, size_t sigmas_length,
+                                const uint32_t *pillar_days, size_t pillar_days_length,
+                                const double *pillar_factors, size_t pillar_factors_length,
+                                const double *spreads, size_t spreads_length,
+                                const double *shifts, size_t shifts_length,
+                                int32_t *nodes, size_t nodes_length,
+                                double *probabilities, size_t probabilities_length,
+                                double *first_row, size_t first_row_length,
+                                double *second_row, size_t second_row_length,
+                                uint32_t *place, uint32_t *length, uint8_t page[4112]);
 
 /* The spread that makes the bond worth a target (within 1e15 of 0), and how many spreads were tried (at most 386; 0 where the
  * input is refused). Everything else is taken as for the tree value, the lent slices too, and they are left as it leaves them.

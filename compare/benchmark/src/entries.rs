@@ -49,6 +49,7 @@ pub fn run() {
     crate::trees::run();
     crate::sizing::run();
     crate::spreads::run();
+    crate::tables::run();
     crate::trees::stacks();
 }
 

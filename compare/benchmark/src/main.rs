@@ -6,6 +6,7 @@ mod puts;
 mod sheet;
 mod sizing;
 mod spreads;
+mod tables;
 mod trees;
 
 use reading::{elementary as reading01, Answer};
@@ -67,6 +68,9 @@ fn main() {
     let words: Vec<String> = std::env::args().collect();
     if words[1..] == ["--sizing"] {
         return sizing::run();
+    }
+    if words[1..] == ["--table"] {
+        return tables::run();
     }
     if let [_, word, entry, bytes] = &words[..] {
         assert_eq!(word, "--stack");

@@ -60,10 +60,11 @@ fn wide() {
 /// One call of an entry with the most steps on a thread with a stack of so many bytes.
 pub fn on_stack(entry: &str, bytes: usize) {
     let (terms, mut lent) = (ordinary::bond(512), Lent::new(ordinary::room(512)));
-    let spread = entry == "spread";
-    let called = std::thread::Builder::new().stack_size(bytes).spawn(move || match spread {
-        true => host::spread_from_price(&terms, 100.0, &mut lent).0.is_ok(),
-        false => host::tree_value(&terms, &mut lent).is_ok(),
+    let entry = entry.to_owned();
+    let called = std::thread::Builder::new().stack_size(bytes).spawn(move || match entry.as_str() {
+        "spread" => host::spread_from_price(&terms, 100.0, &mut lent).0.is_ok(),
+        "table" => host::spread_table(&terms, &[0.0], &[0.0], &mut lent).0 == 0,
+        _ => host::tree_value(&terms, &mut lent).is_ok(),
     });
     assert!(called.expect("a thread starts").join().is_ok_and(|accepted| accepted));
 }
@@ -89,5 +90,6 @@ fn stack(entry: &str) -> usize {
 }
 
 pub fn stacks() {
-    println!("512 steps need a thread with {} KB of stack for the tree value, {} KB for the spread from price", stack("tree"), stack("spread"));
+    let [value, spread, table] = ["tree", "spread", "table"].map(stack);
+    println!("512 steps need a thread with {value} KB of stack for the tree value, {spread} KB for the spread from price, {table} KB for a table");
 }

@@ -3,11 +3,13 @@ mod c;
 mod notices;
 mod sheets;
 mod sizing;
+mod tables;
 mod tree;
 
 pub use notices::call_list;
 pub use sheets::closing_line;
 pub use sizing::sizes;
+pub use tables::spread_table;
 pub use tree::{spread_from_price, tree_value, Lent};
 
 use reading::bondevents::Grid;

@@ -20,6 +20,7 @@ pub mod notices;
 pub mod ordinary;
 pub mod sheet;
 pub mod sizing;
+pub mod table;
 pub mod terms;
 pub mod treebasedbondpricer;
 

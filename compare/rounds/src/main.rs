@@ -21,6 +21,8 @@ mod sizing;
 mod spreads;
 mod spreadterms;
 mod straight;
+mod table;
+mod tablerecords;
 mod tally;
 mod terms;
 mod tree;
@@ -51,7 +53,7 @@ fn main() {
         return;
     }
     let mut found = elementary::round(long, seed, &wanted);
-    let entries: [(&str, fn(bool, u64) -> Found); 10] = [
+    let entries: [(&str, fn(bool, u64) -> Found); 11] = [
         ("grid", grid::round),
         ("tree", tree::round),
         ("monthends", monthends::round),
@@ -62,6 +64,7 @@ fn main() {
         ("notices", notices::round),
         ("sheet", sheet::round),
         ("sizing", sizing::round),
+        ("table", table::round),
     ];
     for (name, round) in entries {
         if wanted(name) {

@@ -1,13 +1,14 @@
 //! Writes the stored sample that the program `replay` runs without Rust: `rounds --sample FILE`.
 //!
 //! Records are written little-endian. Accepted answers are the published text's where there are no puts; with puts, refusals, lengths of
-//! slices, the call lists of notices and the lines of the closing sheet are the second reading's.
+//! slices, the call lists of notices, the lines of the closing sheet and the spread by sigma tables are the second reading's.
 use crate::notices::{damage, good, parallel};
 use crate::random::Random;
 use crate::record::*;
 use crate::sheet::{bond_number, value};
 use crate::sizing::{sized_terms, SIZED};
 use crate::spreadterms::{spread_terms, target};
+use crate::tablerecords::table_records;
 use crate::tally::published;
 use crate::terms;
 use crate::tree::tree_terms;
@@ -22,7 +23,7 @@ use std::collections::BTreeMap;
 use std::io::Write;
 
 /// Terms small enough for a record, with no NaN.
-fn small(random: &mut Random, terms: fn(&mut Random) -> Terms) -> Terms {
+pub fn small(random: &mut Random, terms: fn(&mut Random) -> Terms) -> Terms {
     loop {
         let mut t = terms(random);
         if random.below(4) == 0 {
@@ -123,7 +124,7 @@ fn grid_records(random: &mut Random) -> Vec<Record> {
 }
 
 /// What the replayed tree is lent at the most.
-const LENT: Room = Room { nodes: 2_000, probabilities: 3_000, first: 100, second: 100 };
+pub const LENT: Room = Room { nodes: 2_000, probabilities: 3_000, first: 100, second: 100 };
 
 fn tree_record(random: &mut Random) -> Record {
     let mut t = small(random, tree_terms);
@@ -153,9 +154,9 @@ fn tree_record(random: &mut Random) -> Record {
 /// The refusals of the tree value that can be met by what a record holds.
 const TREE: [u64; 20] = [1, 2, 3, 4, 5, 6, 7, 8, 20, 21, 22, 23, 25, 26, 27, 33, 34, 35, 38, 44];
 /// Of any other kind, beside those that are counted one by one.
-const PLAIN: u64 = 100;
+pub const PLAIN: u64 = 100;
 /// Accepted with a put.
-const PUT: u64 = 101;
+pub const PUT: u64 = 101;
 
 /// What is counted of a tree value or a spread: its refusal, or, accepted, whether there are puts, or calls and so many nodes.
 fn counted(r: &Record, nodes: u64) -> u64 {
@@ -209,7 +210,7 @@ fn spread_record(random: &mut Random) -> Record {
 }
 
 /// So many records of each kind, as they come.
-fn sorted(random: &mut Random, mut left: BTreeMap<u64, u32>, record: fn(&mut Random) -> Record, kind: fn(&Record) -> u64) -> Vec<Record> {
+pub fn sorted(random: &mut Random, mut left: BTreeMap<u64, u32>, record: fn(&mut Random) -> Record, kind: fn(&Record) -> u64) -> Vec<Record> {
     let mut records = Vec::new();
     while left.values().any(|&count| count > 0) {
         let next = record(random);
@@ -385,6 +386,7 @@ pub fn write(path: &str, seed: u64, kinds: &[u64]) {
             18 => notice_records(&mut random),
             19 => (0..200).map(|_| sheet_record(&mut random)).collect(),
             20 => sizes_records(&mut random),
+            21 => table_records(&mut random),
             _ => (0..60).map(|_| yield_record(&mut random, kind)).collect(),
         };
         bytes.extend(records.iter().flatten().flat_map(|word| word.to_le_bytes()));

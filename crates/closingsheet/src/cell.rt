@@ -10,7 +10,7 @@ use bondreport::figures::decimals_left;
 use decimal::Decimals;
 
 // The first 16 columns of a line.
-fn first_columns(line: [u8; 80]) -> [u8; 16]
+pub fn first_columns(line: [u8; 80]) -> [u8; 16]
     ensures { λ r. ⌜ r ≡ take 16 line ⌝ }
 {
     let mut cell = [32u8; 16];

@@ -2,3 +2,4 @@
 pub mod Equal
 pub mod Lines
 pub mod Booked
+pub mod Pages

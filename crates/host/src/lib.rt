@@ -7,6 +7,7 @@ mod notices;
 mod quotes;
 mod sheets;
 mod sizes;
+mod tables;
 mod trees;
 
 use crate::grids::hand_grid;

@@ -14,6 +14,7 @@ use Rattle.treebasedbondpricer.specs.Tree.{Lent, roomOf}
 use Rattle.spreads.specs.Spreads.{quoting}
 use Rattle.host.specs.Handed.{HandedGrid, HandedTree, HandedSpread, HandedSizes}
 use Rattle.host.specs.Sheets.{HandedSheet}
+use Rattle.host.specs.Tables.{HandedTable}
 
 -- ---- one call of each function: what is lent, what is left there, and what is handed back
 
@@ -70,6 +71,16 @@ pub record SizesCall (m : Market) (calls : CallSchedule) : Type 0 where
   pub row : ℕ
   pub count : ℕ
   pub handed : HandedSizes m calls lent left number place nodes probabilities row count
+
+-- gutirapeo_spread_table; the terms' own spread isn't read
+pub record TableCall (m : Market) (spreads shifts : List Float) (calls : CallSchedule) : Type 0 where
+  pub lent : Lent
+  pub left : Lent
+  pub number : ℕ
+  pub place : ℕ
+  pub size : ℕ
+  pub page : List ℕ
+  pub handed : HandedTable m calls spreads shifts lent left number place size page
 
 -- ---- the call-list rule
 
@@ -132,13 +143,21 @@ pub record SameSizes {m n : Market} {first second : CallSchedule} (a : SizesCall
   pub count : b .count ≡ a .count
   pub slice : b .lent ≡ a .lent → b .left ≡ a .left
 
--- No bit of what any of the five hands back.
+pub record SameTables {m n : Market} {spreads shifts : List Float} {first second : CallSchedule} (a : TableCall m spreads shifts first) (b : TableCall n spreads shifts second) : Type 0 where
+  pub number : b .number ≡ a .number
+  pub place : b .place ≡ a .place
+  pub size : b .size ≡ a .size
+  pub page : b .page ≡ a .page
+  pub slices : b .lent ≡ a .lent → b .left ≡ a .left
+
+-- No bit of what any of the six hands back.
 pub record Unchanged (m : Market) (first second : CallSchedule) : Type 0 where
   pub grids : (a : GridCall m first) (b : GridCall m second) → SameGrids a b
   pub values : (a : TreeCall m first) (b : TreeCall m second) → roomOf (b .lent) ≡ roomOf (a .lent) → SameValues a b
   pub spreads : (target : Float) (a : SpreadCall m target first) (b : SpreadCall m target second) → roomOf (b .lent) ≡ roomOf (a .lent) → SameSpreads a b
   pub lines : (bond : ℕ) (a : SheetCall bond m first) (b : SheetCall bond m second) → roomOf (b .lent) ≡ roomOf (a .lent) → SameLines a b
   pub sizes : (a : SizesCall m first) (b : SizesCall m second) → length (b .lent) ≡ length (a .lent) → SameSizes a b
+  pub tables : (spreads shifts : List Float) (a : TableCall m spreads shifts first) (b : TableCall m spreads shifts second) → roomOf (b .lent) ≡ roomOf (a .lent) → SameTables a b
 
 -- Whenever the grid accepts a list, reordering it changes nothing.
 abbrev pub HostReorderingRule : Type 0

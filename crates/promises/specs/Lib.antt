@@ -13,6 +13,7 @@ pub mod Evaluations
 pub mod HostCallLists
 pub mod ClosingSheet
 pub mod Sizing
+pub mod SpreadTable
 pub mod FitNodes
 pub mod Books
 pub mod BookExamples

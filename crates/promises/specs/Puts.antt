@@ -21,7 +21,7 @@ use Rattle.sizing.specs.Sizing.{sizesOf, nodesAfter}
 use Rattle.spreads.specs.Spreads.{Quoted, spreadFromPrice}
 use Rattle.spreads.specs.Spreads as spreads
 use Rattle.promises.specs.Callable as callable
-use Rattle.promises.specs.HostCallLists.{GridCall, TreeCall, SpreadCall, SheetCall, SizesCall, SameGrids, SameValues, SameSpreads, SameLines, SameSizes, HostCallListRule, HostReorderingRule}
+use Rattle.promises.specs.HostCallLists.{GridCall, TreeCall, SpreadCall, SheetCall, SizesCall, TableCall, SameGrids, SameValues, SameSpreads, SameLines, SameSizes, SameTables, HostCallListRule, HostReorderingRule}
 
 -- ---- put lists
 
@@ -36,13 +36,14 @@ HostPutListRule =
     → b .number ≡ 0
     → T (le (b .value) (a .value))
 
--- No bit of what any of the five hands back.
+-- No bit of what any of the six hands back.
 pub record PutsUnchanged (m : Market) (calls first second : CallSchedule) : Type 0 where
   pub grids : (a : GridCall (withPuts m first) calls) (b : GridCall (withPuts m second) calls) → SameGrids a b
   pub values : (a : TreeCall (withPuts m first) calls) (b : TreeCall (withPuts m second) calls) → roomOf (b .lent) ≡ roomOf (a .lent) → SameValues a b
   pub spreads : (target : Float) (a : SpreadCall (withPuts m first) target calls) (b : SpreadCall (withPuts m second) target calls) → roomOf (b .lent) ≡ roomOf (a .lent) → SameSpreads a b
   pub lines : (bond : ℕ) (a : SheetCall bond (withPuts m first) calls) (b : SheetCall bond (withPuts m second) calls) → roomOf (b .lent) ≡ roomOf (a .lent) → SameLines a b
   pub sizes : (a : SizesCall (withPuts m first) calls) (b : SizesCall (withPuts m second) calls) → length (b .lent) ≡ length (a .lent) → SameSizes a b
+  pub tables : (spreads shifts : List Float) (a : TableCall (withPuts m first) spreads shifts calls) (b : TableCall (withPuts m second) spreads shifts calls) → roomOf (b .lent) ≡ roomOf (a .lent) → SameTables a b
 
 -- Whenever the grid accepts, reordering the puts changes nothing.
 abbrev pub HostPutReorderingRule : Type 0

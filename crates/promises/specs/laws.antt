@@ -27,6 +27,8 @@ pub mod Puts
 pub mod WithoutPuts
 pub mod ClosingSheet
 pub mod Sizing
+pub mod LastTable
+pub mod SpreadTable
 pub mod SortedSets
 pub mod FitNodes
 pub mod BookAnswers

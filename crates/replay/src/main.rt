@@ -9,6 +9,7 @@ mod record;
 mod report;
 mod sheets;
 mod sizes;
+mod tables;
 mod trees;
 
 use crate::record::any_nan;
@@ -62,6 +63,12 @@ fn tallied(tally: Tally, record: &[u8; 1784]) -> Tally {
             return tally.sizes(false);
         }
         return tally.sizes(sizes::same(record));
+    }
+    if kind == 21 {
+        if any_nan(record) {
+            return tally.table(false);
+        }
+        return tally.table(trees::same(record));
     }
     tally.unknown()
 }

@@ -17,6 +17,8 @@ pub struct Tally {
     sheet_differ: u64,
     sizes: u64,
     sizes_differ: u64,
+    table: u64,
+    table_differ: u64,
     unknown: u64,
 }
 
@@ -56,6 +58,8 @@ impl Tally {
             sheet_differ: 0,
             sizes: 0,
             sizes_differ: 0,
+            table: 0,
+            table_differ: 0,
             unknown: 0,
         }
     }
@@ -102,6 +106,12 @@ impl Tally {
         self
     }
 
+    pub(crate) fn table(mut self, same: bool) -> Self {
+        self.table = one_more(self.table);
+        self.table_differ = one_more_unless(same, self.table_differ);
+        self
+    }
+
     pub(crate) fn unknown(mut self) -> Self {
         self.unknown = one_more(self.unknown);
         self
@@ -115,6 +125,7 @@ impl Tally {
         write_line(b"call notices ", self.notices, self.notices_differ);
         write_line(b"closing sheet ", self.sheet, self.sheet_differ);
         write_line(b"sizing ", self.sizes, self.sizes_differ);
+        write_line(b"spread by sigma table ", self.table, self.table_differ);
         io::write_all(1, b"unknown ");
         io::print_decimal(1, self.unknown);
         io::write_all(1, b"\n");

@@ -1,4 +1,4 @@
-// The tree value, kind 13, and what is lent to it and to spread from price, kind 14: at most 8 cashflows, 4 call and 4 put entries, 4 sigma
+// The tree value, kind 13, and what is lent to it, to spread from price, kind 14, and to a table, kind 21: at most 8 cashflows, 4 call and 4 put entries, 4 sigma
 // entries and 8 pillars, and slices of the lengths that a record holds, up to 2,000, 3,000, 100 and 100.
 
 use crate::lists::eight_bytes;
@@ -9,6 +9,7 @@ use crate::record::float;
 use crate::record::number;
 use crate::record::settlement_of;
 use crate::record::word;
+use crate::tables;
 use treebasedbondpricer::TreeValue;
 
 // Whether an answer is the number, the place, the value and the node count that a record holds.
@@ -44,7 +45,7 @@ fn all_floats(xs: &[f64], x: f64) -> bool {
     true
 }
 
-// Whether a refusal is the input's: 1 to 8, 33 to 35, 37, or 44.
+// Whether a refusal leaves the slices untouched: the input's, 1 to 8, 33 to 35, 37 and 44, and a table's 45.
 pub(crate) fn of_input(refused: u32) -> bool {
     if refused > 0 && refused < 9 {
         return true;
@@ -52,10 +53,10 @@ pub(crate) fn of_input(refused: u32) -> bool {
     if refused > 32 && refused < 36 {
         return true;
     }
-    refused == 37 || refused == 44
+    refused == 37 || refused == 44 || refused == 45
 }
 
-// Whether the slices, filled with 7, are still so after a refusal of the input, and else all zero.
+// Whether the slices, filled with 7, are still so after such a refusal, and else all zero.
 fn left_so(
     refused: u32,
     nodes: &[i32],
@@ -160,6 +161,9 @@ fn replied(
 ) -> bool {
     if word(record, 0) == 14 {
         return quotes::answered(record, nodes, probabilities, first, second);
+    }
+    if word(record, 0) == 21 {
+        return tables::answered(record, nodes, probabilities, first, second);
     }
     answered(record, nodes, probabilities, first, second)
 }

@@ -145,7 +145,7 @@ whole-other : (line : List ℕ) (end n i : ℕ) → (i + widthOf n < end) ⊎ (e
 unfolding wholeLeft
 whole-other line end n i h = digits-other (widthOf n) end line n i h
 
-whole-length : (line : List ℕ) (end n : ℕ) → length (putWhole line end n) ≡ length line
+pub whole-length : (line : List ℕ) (end n : ℕ) → length (putWhole line end n) ≡ length line
 unfolding wholeLeft
 whole-length line end n = digits-length (widthOf n) end line n
 
@@ -230,7 +230,7 @@ refused-columns bond q h =
 
 -- ---- the value's cell
 
-byte-length : (c : Leftward) (b : ℕ) → length (byteLeft c b .line) ≡ length (c .line)
+pub byte-length : (c : Leftward) (b : ℕ) → length (byteLeft c b .line) ≡ length (c .line)
 unfolding byteLeft
 byte-length c b = go (eqb (c .end) 0)
   where

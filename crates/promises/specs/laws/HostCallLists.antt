@@ -9,7 +9,7 @@ use lib.IntN.{ℤ, pos}
 use lib.Ieee.{Float, le}
 use Rattle.floats.specs.declared.Refusal.{Refusal}
 use Rattle.floats.specs.laws.Order.{not-le-of-lt}
-use Rattle.terms.specs.Terms.{CallSchedule, Market}
+use Rattle.terms.specs.Terms.{CallSchedule, Market, withSpread}
 use Rattle.terms.specs.CallLists.{Reordered, StrikeAbove, strikeOf}
 use Rattle.terms.specs.Checks.{onCheck}
 use Rattle.terms.specs.Entries.{treeChecks}
@@ -38,8 +38,12 @@ use Rattle.spreads.specs.Spreads.{quoting, spreadFromPrice}
 use Rattle.spreads.specs.Spreads as spreads
 use Rattle.closingsheet.specs.declared.ClosingLine.{ClosingLine}
 use Rattle.closingsheet.specs.Sheet.{sheetOf}
+use Rattle.spreadtable.specs.declared.SpreadTable.{SpreadTable}
+use Rattle.spreadtable.specs.Table.{withShift, tableOf}
+use Rattle.spreadtable.specs.Table as table
+use Rattle.spreadtable.specs.laws.Alike.{same-table}
 use Rattle.promises.specs.RefusalNumbers.{Among, treeRefusals}
-use Rattle.promises.specs.HostCallLists.{GridCall, TreeCall, SpreadCall, SheetCall, SizesCall, HostCallListRule, SameGrids, SameValues, SameSpreads, SameLines, SameSizes, HostReorderingRule, HostSizesRule}
+use Rattle.promises.specs.HostCallLists.{GridCall, TreeCall, SpreadCall, SheetCall, SizesCall, TableCall, HostCallListRule, SameGrids, SameValues, SameSpreads, SameLines, SameSizes, SameTables, HostReorderingRule, HostSizesRule}
 use Rattle.promises.specs.laws.TreeNumbers.{tree-numbers}
 use Rattle.promises.specs.laws.SpreadNumbers.{passed}
 use Rattle.promises.specs.laws.SpreadReordering.{spread-reordering-rule}
@@ -158,6 +162,20 @@ same-sizes {m} {n} {first} checks as-wide a b as-long =
     ∙ ap (λ (o : Outcome (List ℕ)). onCheck (treeChecks m first) sizes.Refused (onOutcome o sizes.Refused sizesFrom)) (as-wide room))
     (λ nodes. ap (λ (c : Check). onCheck c (λ r. nodes) (replicate (length nodes) (pos 0))) checks)
 
+pub tables-alike : {m n : Market} {spreads shifts : List Float} {first second : CallSchedule} (a : TableCall m spreads shifts first) (b : TableCall n spreads shifts second) → roomOf (b .lent) ≡ roomOf (a .lent)
+    → ((room : Room) → tableOf n second room spreads shifts ≡ tableOf m first room spreads shifts) → SameTables a b
+tables-alike {m} {n} {spreads} {shifts} {first} {second} a b as-long same =
+    let p = a .handed .handed in
+    let q = b .handed .handed in
+    let e : tableOf n second (roomOf (b .lent)) spreads shifts ≡ tableOf m first (roomOf (a .lent)) spreads shifts = ap (λ (room : Room). tableOf n second room spreads shifts) as-long ∙ same (roomOf (a .lent)) in
+    record {
+      number = q .number-is ∙ ap (λ (t : SpreadTable). t .refusal .number) e ∙ sym (p .number-is);
+      place = q .place-is ∙ ap (λ (t : SpreadTable). t .refusal .place) e ∙ sym (p .place-is);
+      size = q .length-is ∙ ap (λ (t : SpreadTable). t .length) e ∙ sym (p .length-is);
+      page = q .page-is ∙ ap (λ (t : SpreadTable). t .page) e ∙ sym (p .page-is);
+      slices = λ alike. b .handed .slices ∙ ap (table.lentAfter spreads shifts) alike ∙ sym (a .handed .slices);
+    }
+
 -- ---- reordering
 
 module _ (m : Market) (first second : CallSchedule) (r : Reordered first second) (z : gridAnswer (m .settlement) (m .bond) first (m .controls) .refusal .number ≡ 0) where
@@ -209,4 +227,7 @@ host-reordering-rule m first second r g z =
       spreads = λ target a b as-long. let found = spread-reordering-rule (quoting m target) first second r y in spreads-alike a b as-long (found .roots) (found .slices);
       lines = λ bond a b as-long. lines-alike a b as-long (same .values) (same .slices);
       sizes = same-sizes (same-checks m first second r y) (λ room. refl);
+      tables = λ spreads shifts a b as-long.
+          tables-alike a b as-long
+          (λ room. same-table m m first second room refl (λ h s. reordering-rule (withSpread (withShift m h) s) first second r y .values room) spreads shifts);
     }

@@ -9,7 +9,7 @@ use Rattle.floats.specs.declared.Answer.the-variants as answer
 use Rattle.floats.specs.Answers.{one, refusal, tested}
 use Rattle.terms.specs.declared.Check.{Check}
 use Rattle.terms.specs.Numbers.{targetLimit}
-use Rattle.terms.specs.Terms.{CallSchedule, Market, bondWithPuts, withPuts}
+use Rattle.terms.specs.Terms.{CallSchedule, Market, bondWithPuts, withPuts, withSpread}
 use Rattle.terms.specs.Checks.{onCheck}
 use Rattle.terms.specs.CallLists.{Reordered, StrikeAbove}
 use Rattle.terms.specs.Entries.{treeChecks}
@@ -29,8 +29,10 @@ use Rattle.brackets.specs.Brackets.{bracketedRoot}
 use Rattle.sought.specs.Objectives.{firstLower, firstUpper}
 use Rattle.spreads.specs.Spreads.{quoting, atSpread, quotedChecks, onTreeValue, spreadObjective, solveSpread, spreadFromPrice}
 use Rattle.spreads.specs.Spreads as spreads
+use Rattle.spreadtable.specs.Table.{withShift}
+use Rattle.spreadtable.specs.laws.Alike.{same-table}
 use Rattle.promises.specs.Puts.{HostPutListRule, HostPutReorderingRule, CallsWithPuts, Never38}
-use Rattle.promises.specs.laws.HostCallLists.{valued, grids-alike, values-alike, spreads-alike, lines-alike, same-sizes, host-call-list-rule, host-reordering-rule}
+use Rattle.promises.specs.laws.HostCallLists.{valued, grids-alike, values-alike, spreads-alike, lines-alike, same-sizes, tables-alike, host-call-list-rule, host-reordering-rule}
 
 -- ---- put lists
 
@@ -91,6 +93,9 @@ host-put-reordering-rule m calls first second r g z =
       spreads = λ target a b as-long. spreads-alike a b as-long (same-root m target calls first second r y) (same-slices m target calls first second r y);
       lines = λ bond a b as-long. lines-alike a b as-long (same .values) (same .slices);
       sizes = same-sizes (same-terms m calls first second r y) (λ room. unfold treeWidths in refl);
+      tables = λ spreads shifts a b as-long.
+          tables-alike a b as-long
+          (λ room. same-table (withPuts m first) (withPuts m second) calls calls room refl (λ h s. put-reordering-rule (withSpread (withShift m h) s) calls first second r y .values room) spreads shifts);
     }
 
 -- ---- call lists beside any puts
