@@ -327,18 +327,19 @@ uint32_t gutirapeo_sizes(uint32_t settlement, uint32_t day_count,
                          uint64_t *row_needed, uint64_t *node_count);
 
 /* A book of 1 to 32 bonds on one settlement day, sigma, alpha, curve and set of lent slices, all or none: each value, their sum in
- * book order from 0, and the sum of the trees' node counts.
+ * book order from 0, and for each of eight desks the sum of its bonds' node counts.
  *
- * Each bond has a place in day_counts, cashflow_counts, units, call_counts, put_counts, steps_per_year, max_steps and spreads; the
- * number of cashflow_counts is the size of the book. Cashflows, calls and puts of all bonds stand one after the other in the other
+ * Each bond has a place in day_counts, cashflow_counts, units, call_counts, put_counts, steps_per_year, max_steps, spreads and
+ * desks (0 to 7); the number of cashflow_counts is the size of the book. Cashflows, calls and puts of all bonds stand one after the other in the other
  * arrays, so many for each bond as its counts say. Each value is that of gutirapeo_tree_value for the bond alone with the same
  * slices, every bond having the whole of them.
  *
  * All bonds are checked before any is valued. *bond, from 0, names the bond that is refused: the first in book order that the
  * checks refuse, or, where they refuse none, the first refused while it is valued. The refusal and its place are those of the bond
- * alone, the place counting inside the bond's own lists. Beside a refusal the 32 values, the sum and the count are 0; values past
- * the size are 0 too. Lent slices are untouched after 39 and after a refusal of the checks, and else all zero.
+ * alone, the place counting inside the bond's own lists. Beside a refusal the 32 values, the sum and the eight counts are 0;
+ * values past the size are 0 too. Lent slices are untouched after 39, 40 and a refusal of the checks, and else all zero.
  *   39  no bonds, or more than 32 (bond 0, place 0), tried before anything else
+ *   40  a desk that isn't 0 to 7 (place 0), tried on all bonds right after 39, of the lowest such bond
  *   2   arrays that don't add up (place 0): a bond's place is missing, its entries pass the end of an array, or, at the last bond,
  *       something is left over. Tried after 1 and 33; first where the bond's day count or step settings are themselves missing
  *   27  a sum that isn't finite (place 0), tried once every bond is valued, of the first bond that makes it so */
@@ -360,6 +361,7 @@ uint32_t gutirapeo_book_value(uint32_t settlement,
                               const uint32_t *steps_per_year, size_t steps_per_year_length,
                               const uint32_t *max_steps, size_t max_steps_length,
                               const double *spreads, size_t spreads_length,
+                              const uint32_t *desks, size_t desks_length,
                               double alpha,
                               const double *sigma_times, size_t sigma_times_length,
                               const double *sigmas, size_t sigmas_length,
@@ -369,7 +371,8 @@ uint32_t gutirapeo_book_value(uint32_t settlement,
                               double *probabilities, size_t probabilities_length,
                               double *first_row, size_t first_row_length,
                               double *second_row, size_t second_row_length,
-                              uint32_t *place, uint32_t *bond, double values[32], double *sum, uint64_t *node_count);
+                              uint32_t *place, uint32_t *bond, double values[32], double *sum,
+                              uint64_t node_counts[8]);
 
 /* What the bond is worth without its calls and puts.
  * 25: settlement's factor comes out as 0. 26: exp or ln outside its range. 27: a result that isn't finite. */

@@ -26,6 +26,7 @@ pub record Fields : Type 0 where
   pub perYear : List ℕ
   pub maximum : List ℕ
   pub spreads : List Float
+  pub desks : List ℕ
 
 -- The entries of all bonds, one bond's after the other's.
 pub record Lists : Type 0 where
@@ -79,7 +80,8 @@ abbrev pub fieldsAmiss : Bool → ℕ → Fields → Bool
 fieldsAmiss last needed f =
     (amiss last needed (length (f .codes))
     || (amiss last needed (length (f .units)) || (amiss last needed (length (f .calls)) || amiss last needed (length (f .puts)))))
-    || (amiss last needed (length (f .perYear)) || (amiss last needed (length (f .maximum)) || amiss last needed (length (f .spreads))))
+    || (amiss last needed (length (f .perYear))
+    || (amiss last needed (length (f .maximum)) || (amiss last needed (length (f .spreads)) || amiss last needed (length (f .desks)))))
 
 -- What the fields say of a bond; a missing number is 0.
 unfoldable pub holdingAt : Fields → ℕ → Holding
@@ -91,6 +93,7 @@ holdingAt f i =
       yearly = getD (f .perYear) i 0;
       maximum = getD (f .maximum) i 0;
       spread = getD (f .spreads) i plusZero;
+      desk = getD (f .desks) i 0;
       cashflows = partOf (f .cashflows) i;
       calls = partOf (f .calls) i;
       puts = partOf (f .puts) i;

@@ -2,7 +2,8 @@
 use Prim.Native.Nat.{ℕ, zero, suc, _+_}
 use mathlib.Core.Bool.{Bool, cond, _||_}
 use mathlib.Core.List.{List, [], _∷_}
-use lib.ListN.{length}
+use lib.ListN.{length, getD}
+use lib.Dec.{ltb}
 use Rattle.floats.specs.declared.Refusal.{Refusal}
 use Rattle.terms.specs.declared.Check.{Check}
 use Rattle.terms.specs.declared.Check.the-variants as check
@@ -62,11 +63,16 @@ bondCheck s l h =
 
 -- ---- the book
 
--- A book size outside 1 to 32 is 39, tried before anything else and naming the first bond. Then bond by bond.
+-- A desk outside 0 to 7 is 40, with place 0. A missing desk is no desk, and the bond's 2.
+abbrev pub deskCheck : Fields → ℕ → Check
+deskCheck f i = single 40 0 (ltb 7 (getD (f .desks) i 0))
+
+-- A book size outside 1 to 32 is 39, tried before anything else and naming the first bond; 40 is tried on all bonds right after it. Then bond by bond.
 unfoldable pub bookChecks : Book → BookCheck
-unfolding firstRefused bondCheck holdingAt
+unfolding firstRefused onBook bondCheck holdingAt
 bookChecks b =
     cond
     (outside 1 32 (sizeOf (b .fields)))
     (Refused 0 (record { number = 39; place = 0 }))
-    (firstRefused (λ i. bondCheck (b .shared) (b .lists) (holdingAt (b .fields) i)) (sizeOf (b .fields)) 0)
+    (onBook (firstRefused (deskCheck (b .fields)) (sizeOf (b .fields)) 0) Refused
+    (firstRefused (λ i. bondCheck (b .shared) (b .lists) (holdingAt (b .fields) i)) (sizeOf (b .fields)) 0))

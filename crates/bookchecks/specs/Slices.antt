@@ -13,8 +13,8 @@ sharedOf day alpha sigma pillars = record { day = day; model = record { alpha = 
 abbrev pub listsOf : Leg → CallSchedule → CallSchedule → Lists
 listsOf leg calls puts = record { leg = leg; calls = calls; puts = puts }
 
-abbrev pub fieldsIn : {A B C D E F G H : Type 0} → Both (RefT (List ℕ)) A → Both (RefT (List ℕ)) B → Both (RefT (List Float)) C → Both (RefT (List ℕ)) D → Both (RefT (List ℕ)) E → Both (RefT (List ℕ)) F → Both (RefT (List ℕ)) G → Both (RefT (List Float)) H → Fields
-fieldsIn codes cashflows units calls puts yearly maximum spreads =
+abbrev pub fieldsIn : {A B C D E F G H I : Type 0} → Both (RefT (List ℕ)) A → Both (RefT (List ℕ)) B → Both (RefT (List Float)) C → Both (RefT (List ℕ)) D → Both (RefT (List ℕ)) E → Both (RefT (List ℕ)) F → Both (RefT (List ℕ)) G → Both (RefT (List Float)) H → Both (RefT (List ℕ)) I → Fields
+fieldsIn codes cashflows units calls puts yearly maximum spreads desks =
     record {
       codes = now (codes .entry);
       cashflows = now (cashflows .entry);
@@ -24,4 +24,5 @@ fieldsIn codes cashflows units calls puts yearly maximum spreads =
       perYear = now (yearly .entry);
       maximum = now (maximum .entry);
       spreads = now (spreads .entry);
+      desks = now (desks .entry);
     }

@@ -48,19 +48,6 @@ fn four_amiss(last: bool, needed: usize, a: usize, b: usize, c: usize, d: usize)
     amiss(last, needed, d)
 }
 
-// One of three lists doesn't add up.
-fn three_amiss(last: bool, needed: usize, a: usize, b: usize, c: usize) -> bool
-    ensures { λ r. ⌜ r ≡ (amiss last needed a || (amiss last needed b || amiss last needed c)) ⌝ }
-{
-    if amiss(last, needed, a) {
-        return true;
-    }
-    if amiss(last, needed, b) {
-        return true;
-    }
-    amiss(last, needed, c)
-}
-
 // A field of the bond is missing, or one is left over behind the last bond.
 fn fields_amiss(
     last: bool,
@@ -72,8 +59,9 @@ fn fields_amiss(
     yearly: &[u32],
     maximum: &[u32],
     spreads: &[f64],
+    desks: &[u32],
 ) -> bool
-    ensures { λ r. ⌜ r ≡ fieldsAmiss last needed (fieldsIn codes codes units calls puts yearly maximum spreads) ⌝ }
+    ensures { λ r. ⌜ r ≡ fieldsAmiss last needed (fieldsIn codes codes units calls puts yearly maximum spreads desks) ⌝ }
 {
     if four_amiss(
         last,
@@ -85,7 +73,14 @@ fn fields_amiss(
     ) {
         return true;
     }
-    three_amiss(last, needed, yearly.len(), maximum.len(), spreads.len())
+    four_amiss(
+        last,
+        needed,
+        yearly.len(),
+        maximum.len(),
+        spreads.len(),
+        desks.len(),
+    )
 }
 
 // What the fields say of one bond.
@@ -98,10 +93,11 @@ fn holding_at(
     yearly: &[u32],
     maximum: &[u32],
     spreads: &[f64],
+    desks: &[u32],
     i: usize,
 ) -> Holding
     requires { ⌜ i < 32 ⌝ }
-    ensures { λ r. ⌜ r ≡ holdingAt (fieldsIn codes cashflows units calls puts yearly maximum spreads) i ⌝ }
+    ensures { λ r. ⌜ r ≡ holdingAt (fieldsIn codes cashflows units calls puts yearly maximum spreads desks) i ⌝ }
 {
     let last = i + 1 == cashflows.len();
     let missing = unset(codes.len(), yearly.len(), maximum.len(), i);
@@ -115,6 +111,7 @@ fn holding_at(
         yearly,
         maximum,
         spreads,
+        desks,
     );
     let flows = part_of(cashflows, i);
     let called = part_of(calls, i);
@@ -125,6 +122,7 @@ fn holding_at(
         yearly: count_at(yearly, i),
         maximum: count_at(maximum, i),
         spread: float_at(spreads, i),
+        desk: count_at(desks, i),
         cashflows: flows,
         calls: called,
         puts: put,
@@ -144,9 +142,10 @@ pub fn holdings(
     yearly: &[u32],
     maximum: &[u32],
     spreads: &[f64],
+    desks: &[u32],
 ) -> [Holding; 32]
     requires { ⌜ length (now cashflows) ≤ 32 ⌝ }
-    ensures { λ r. ⌜ Held (fieldsIn codes cashflows units calls puts yearly maximum spreads) r ⌝ }
+    ensures { λ r. ⌜ Held (fieldsIn codes cashflows units calls puts yearly maximum spreads desks) r ⌝ }
 {
     let nothing = Part { from: 0, count: 0 };
     let none = Holding {
@@ -155,6 +154,7 @@ pub fn holdings(
         yearly: 0,
         maximum: 0,
         spread: 0.0,
+        desk: 0,
         cashflows: nothing,
         calls: nothing,
         puts: nothing,
@@ -174,6 +174,7 @@ pub fn holdings(
             yearly,
             maximum,
             spreads,
+            desks,
             i,
         );
         table[i] = held;

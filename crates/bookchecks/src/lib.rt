@@ -3,14 +3,17 @@ use floats::Refusal;
 
 pub mod checks;
 pub mod cut;
+pub mod desks;
 pub mod fields;
 pub mod holdings;
 
-// At most 32 bonds.
+// At most 32 bonds, each of a desk 0 to 7.
 pub struct Book;
 
 impl Book {
     pub const MOST: usize = 32;
+
+    pub const LAST_DESK: u32 = 7;
 }
 
 // A bond's entries in a list that holds those of the whole book: where they begin, and how many they are.
@@ -26,6 +29,7 @@ pub struct Holding {
     pub yearly: u32,
     pub maximum: u32,
     pub spread: f64,
+    pub desk: u32,
     pub cashflows: Part,
     pub calls: Part,
     pub puts: Part,

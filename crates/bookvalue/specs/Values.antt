@@ -1,6 +1,7 @@
--- Definitions only. A book in one go: each value, their sum in book order and the node count, or the first refused bond and no values.
+-- Definitions only. A book in one go: each value, their sum in book order and each desk's node count, or the first refused bond and no values.
 use Prim.Native.Nat.{ℕ, zero, suc, _+_, _-_}
-use mathlib.Core.Bool.{Bool}
+use mathlib.Core.Bool.{Bool, cond}
+use lib.Dec.{eqb}
 use mathlib.Core.List.{List, [], _∷_, _++_}
 use lib.ListN.{getD, replicate}
 use lib.Ieee.{Float, binary64, add}
@@ -26,7 +27,7 @@ abbrev pub refusedTree : TreeValue → Check
 refusedTree (Value x n) = check.Passed
 refusedTree (Refused r) = check.Refused r
 
--- ---- values, sum and count
+-- ---- values, sum and counts
 
 -- What a rule says of bonds 0 to n − 1.
 unfoldable pub each : {A : Type 0} → (ℕ → A) → ℕ → List A
@@ -47,37 +48,44 @@ sumTo values (suc n) = add binary64 (sumTo values n) (getD values n plusZero)
 abbrev pub sumCheck : List Float → ℕ → Check
 sumCheck values i = single 27 0 (notFinite (sumTo values (suc i)))
 
--- The sum of the bonds' counts.
-unfoldable pub totalTo : List ℕ → ℕ → ℕ
-totalTo counts zero = 0
-totalTo counts (suc n) = totalTo counts n + getD counts n 0
+-- A desk's count: the sum of the counts of its bonds.
+unfoldable pub deskTo : (ℕ → ℕ) → ℕ → List ℕ → ℕ → ℕ
+deskTo desk d counts zero = 0
+deskTo desk d counts (suc n) = cond (eqb (desk n) d) (deskTo desk d counts n + getD counts n 0) (deskTo desk d counts n)
+
+-- Those of desks 0 to 7.
+abbrev pub deskCounts : (ℕ → ℕ) → List ℕ → ℕ → List ℕ
+deskCounts desk counts n = each (λ d. deskTo desk d counts n) 8
+
+abbrev pub deskOf : Book → ℕ → ℕ
+deskOf b i = getD (b .fields .desks) i 0
 
 -- ---- the answer
 
 -- If any bond is refused, there are no values.
 abbrev pub refusedBook : ℕ → Refusal → BookAnswer
-refusedBook bond r = record { refusal = r; bond = bond; values = replicate 32 plusZero; sum = plusZero; count = 0 }
+refusedBook bond r = record { refusal = r; bond = bond; values = replicate 32 plusZero; sum = plusZero; counts = replicate 8 0 }
 
-abbrev pub acceptedBook : List Float → List ℕ → ℕ → BookAnswer
-acceptedBook values counts n =
-    record { refusal = record { number = 0; place = 0 }; bond = 0; values = values; sum = sumTo values n; count = totalTo counts n }
+abbrev pub acceptedBook : List Float → (ℕ → ℕ) → List ℕ → ℕ → BookAnswer
+acceptedBook values desk counts n =
+    record { refusal = record { number = 0; place = 0 }; bond = 0; values = values; sum = sumTo values n; counts = deskCounts desk counts n }
 
 -- The sum is tried once every bond is valued.
-unfoldable pub summedBook : List Float → List ℕ → ℕ → BookAnswer
-unfolding firstRefused onBook sumTo totalTo
-summedBook values counts n = onBook (firstRefused (sumCheck values) n 0) refusedBook (acceptedBook values counts n)
+unfoldable pub summedBook : List Float → (ℕ → ℕ) → List ℕ → ℕ → BookAnswer
+unfolding firstRefused onBook sumTo each deskTo
+summedBook values desk counts n = onBook (firstRefused (sumCheck values) n 0) refusedBook (acceptedBook values desk counts n)
 
 -- The first bond refused while it is valued, or all values.
-unfoldable pub valuedBook : (ℕ → TreeValue) → ℕ → BookAnswer
+unfoldable pub valuedBook : (ℕ → TreeValue) → (ℕ → ℕ) → ℕ → BookAnswer
 unfolding summedBook each
-valuedBook value n =
+valuedBook value desk n =
     onBook (firstRefused (λ i. refusedTree (value i)) n 0) refusedBook
-    (summedBook (placed plusZero (λ i. valueOf (value i)) n) (placed 0 (λ i. countedBy (value i)) n) n)
+    (summedBook (placed plusZero (λ i. valueOf (value i)) n) desk (placed 0 (λ i. countedBy (value i)) n) n)
 
 -- The checks run over the whole book before any bond is valued.
 unfoldable pub bookBy : (ℕ → TreeValue) → Book → BookAnswer
 unfolding bookChecks valuedBook
-bookBy value b = onBook (bookChecks b) refusedBook (valuedBook value (sizeOf (b .fields)))
+bookBy value b = onBook (bookChecks b) refusedBook (valuedBook value (deskOf b) (sizeOf (b .fields)))
 
 abbrev pub bookValue : Book → Room → BookAnswer
 bookValue b room = bookBy (bondValue b room) b

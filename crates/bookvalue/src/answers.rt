@@ -3,12 +3,16 @@
 use crate::BookAnswer;
 use crate::BookSum;
 use crate::Valued;
+use crate::desks::desk_counts;
 use bookchecks::BookCheck;
+use bookchecks::Holding;
 use floats::Refusal;
 use floats::finite::not_finite;
 ghost use mathlib.Core.Path.{_≡_};
 ghost use Prim.Native.Nat.{_≤_};
-ghost use Rattle.bookvalue.specs.Values.{refusedBook, totalTo, summedBook};
+ghost use lib.ListN.{getD};
+ghost use Rattle.bookchecks.specs.laws.Holdings.{pastEnd};
+ghost use Rattle.bookvalue.specs.Values.{refusedBook, summedBook};
 ghost use Rattle.bookvalue.specs.laws.Answers.{FewNodes, sumOf, answerOf};
 
 // A refused bond, and no values.
@@ -16,12 +20,13 @@ pub fn refused_book(bond: u32, refusal: Refusal) -> BookAnswer
     ensures { λ r. ⌜ r ≡ refusedBook bond refusal ⌝ }
 {
     let values = [0.0; 32];
+    let counts = [0u64; 8];
     BookAnswer {
         refusal,
         bond,
         values,
         sum: 0.0,
-        count: 0,
+        counts,
     }
 }
 
@@ -46,27 +51,13 @@ fn sum_of(values: [f64; 32], size: usize) -> BookSum
     BookSum::Sum(sum)
 }
 
-// The sum of the first counts.
-fn total_of(counts: [u64; 32], size: usize) -> u64
+// All values with their sum and counts, or the sum's refusal.
+fn summed(values: [f64; 32], counts: [u64; 32], held: [Holding; 32], size: usize) -> BookAnswer
     requires { ⌜ (size ≤ 32) × FewNodes counts ⌝ }
-    ensures { λ r. ⌜ r ≡ totalTo counts size ⌝ }
-{
-    let mut total: u64 = 0;
-    let mut i: usize = 0;
-    while i < size {
-        total += counts[i];
-        i += 1;
-    }
-    total
-}
-
-// All values with their sum and count, or the sum's refusal.
-fn summed(values: [f64; 32], counts: [u64; 32], size: usize) -> BookAnswer
-    requires { ⌜ (size ≤ 32) × FewNodes counts ⌝ }
-    ensures { λ r. ⌜ r ≡ summedBook values counts size ⌝ }
+    ensures { λ r. ⌜ r ≡ summedBook values (λ i. getD held i pastEnd .desk) counts size ⌝ }
 {
     let added = sum_of(values, size);
-    let count = total_of(counts, size);
+    let totals = desk_counts(counts, held, size);
     let refusal = Refusal {
         number: 0,
         place: 0,
@@ -77,16 +68,16 @@ fn summed(values: [f64; 32], counts: [u64; 32], size: usize) -> BookAnswer
             bond: 0,
             values,
             sum,
-            count,
+            counts: totals,
         },
         BookSum::Refused(bond, why) => refused_book(bond, why),
     }
 }
 
 // The first refused bond, or all values.
-pub fn answer_of(valued: Valued, size: usize) -> BookAnswer
+pub fn answer_of(valued: Valued, held: [Holding; 32], size: usize) -> BookAnswer
     requires { ⌜ (size ≤ 32) × FewNodes (valued .counts) ⌝ }
-    ensures { λ r. ⌜ r ≡ answerOf valued size ⌝ }
+    ensures { λ r. ⌜ r ≡ answerOf valued (λ i. getD held i pastEnd .desk) size ⌝ }
 {
     let check = valued.check;
     if let BookCheck::Refused(bond, refusal) = check {
@@ -94,5 +85,5 @@ pub fn answer_of(valued: Valued, size: usize) -> BookAnswer
     }
     let values = valued.values;
     let counts = valued.counts;
-    summed(values, counts, size)
+    summed(values, counts, held, size)
 }

@@ -7,6 +7,7 @@ use crate::values::all_values;
 use bookchecks::Book;
 use bookchecks::BookCheck;
 use bookchecks::checks::all_checks;
+use bookchecks::desks::desk_checks;
 use bookchecks::holdings::holdings;
 use floats::Refusal;
 use terms::ranges::out_of;
@@ -18,7 +19,7 @@ ghost use Rattle.bookchecks.specs.Slices.{sharedOf, listsOf, fieldsIn};
 ghost use Rattle.bookvalue.specs.Slices.{bookOf};
 ghost use Rattle.bookvalue.specs.Entry.{BookEntered};
 
-// Each bond's value, their sum in book order and the node count, all or none. The lent slices are untouched after 39 and after a refusal of the checks, else all zero.
+// Each bond's value, their sum in book order and each desk's node count, all or none. The lent slices are untouched after 39, 40 and a refusal of the checks, else all zero.
 pub fn book_value(
     settlement: u32,
     day_counts: &[u32],
@@ -38,6 +39,7 @@ pub fn book_value(
     steps_per_year: &[u32],
     max_steps: &[u32],
     spreads: &[f64],
+    desks: &[u32],
     alpha: f64,
     sigma_times: &[f64],
     sigmas: &[f64],
@@ -51,7 +53,7 @@ pub fn book_value(
     ensures { λ r. ⌜ BookEntered
         (bookOf
         (sharedOf settlement alpha (sigmaIn «sigma_times» sigmas) (pillarsIn «pillar_days» «pillar_factors»))
-        (fieldsIn «day_counts» «cashflow_counts» units «call_counts» «put_counts» «steps_per_year» «max_steps» spreads)
+        (fieldsIn «day_counts» «cashflow_counts» units «call_counts» «put_counts» «steps_per_year» «max_steps» spreads desks)
         (listsOf (legIn «cashflow_days» «cashflow_kinds» «cashflow_amounts») (callsIn «call_starts» «call_ends» «call_strikes») (callsIn «put_starts» «put_ends» «put_strikes»)))
         r
         (lentIn nodes probabilities «first_row» «second_row»)
@@ -76,7 +78,12 @@ pub fn book_value(
         steps_per_year,
         max_steps,
         spreads,
+        desks,
     );
+    let of_desks = desk_checks(held, size);
+    if let BookCheck::Refused(bond, refusal) = of_desks {
+        return refused_book(bond, refusal);
+    }
     let check = all_checks(
         held,
         size,
@@ -126,5 +133,5 @@ pub fn book_value(
     zero_floats(probabilities);
     zero_floats(first_row);
     zero_floats(second_row);
-    answer_of(valued, size)
+    answer_of(valued, held, size)
 }

@@ -1,8 +1,9 @@
-// A book in one go: each bond's value, their sum and the node count, all or none.
+// A book in one go: each bond's value, their sum and each desk's node count, all or none.
 use bookchecks::BookCheck;
 use floats::Refusal;
 
 pub mod answers;
+pub mod desks;
 pub mod entry;
 pub mod values;
 
@@ -19,11 +20,11 @@ pub enum BookSum {
     Refused(u32, Refusal),
 }
 
-// The answer: each value, their sum in book order and the node count, beside refusal 0 and bond 0; or the refused bond with its refusal, and no values.
+// The answer: each value, their sum in book order and each desk's node count, beside refusal 0 and bond 0; or the refused bond with its refusal, and no values.
 pub struct BookAnswer {
     pub refusal: Refusal,
     pub bond: u32,
     pub values: [f64; 32],
     pub sum: f64,
-    pub count: u64,
+    pub counts: [u64; 8],
 }

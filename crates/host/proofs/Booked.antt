@@ -8,5 +8,5 @@ use Rattle.bookvalue.specs.declared.BookAnswer.{BookAnswer}
 use Rattle.bookvalue.specs.Entry.{BookEntered}
 use Rattle.host.specs.Books.{HandedAnswer, HandedBook}
 
-pub book-as : {b : Book} {a : BookAnswer} {before after : Lent} {result place bond count : ℕ} {values : List Float} {sum : Float} → BookEntered b a before after → HandedAnswer a result place bond values sum count → HandedBook b before after result place bond values sum count
+pub book-as : {b : Book} {a : BookAnswer} {before after : Lent} {result place bond : ℕ} {values : List Float} {sum : Float} {counts : List ℕ} → BookEntered b a before after → HandedAnswer a result place bond values sum counts → HandedBook b before after result place bond values sum counts
 book-as e h = record { handed = rw (← e .value) h; slices = e .slices }

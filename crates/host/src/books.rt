@@ -1,4 +1,4 @@
-// A book for a C caller: all 32 values, and the lent slices left as the entry leaves them.
+// A book for a C caller: all 32 values and eight counts, and the lent slices left as the entry leaves them.
 
 use bookvalue::BookAnswer;
 use bookvalue::entry::book_value;
@@ -14,21 +14,22 @@ fn hand_book(
     bond: &mut u32,
     values: &mut [f64; 32],
     sum: &mut f64,
-    count: &mut u64,
+    counts: &mut [u64; 8],
 ) -> u32
-    ensures { λ r. ⌜ HandedAnswer answer r (now (place .exit)) (now (bond .exit)) (now (values .exit)) (now (sum .exit)) (now (count .exit)) ⌝ }
+    ensures { λ r. ⌜ HandedAnswer answer r (now (place .exit)) (now (bond .exit)) (now (values .exit)) (now (sum .exit)) (now (counts .exit)) ⌝ }
 {
     let refusal = answer.refusal;
     let each = answer.values;
+    let desks = answer.counts;
     *place = refusal.place;
     *bond = answer.bond;
     *values = each;
     *sum = answer.sum;
-    *count = answer.count;
+    *counts = desks;
     refusal.number
 }
 
-// Each bond's value, their sum in book order and the node count, all or none.
+// Each bond's value, their sum in book order and each desk's node count, all or none.
 #[no_mangle]
 pub extern "C" fn gutirapeo_book_value(
     settlement: u32,
@@ -49,6 +50,7 @@ pub extern "C" fn gutirapeo_book_value(
     steps_per_year: &[u32],
     max_steps: &[u32],
     spreads: &[f64],
+    desks: &[u32],
     alpha: f64,
     sigma_times: &[f64],
     sigmas: &[f64],
@@ -62,16 +64,16 @@ pub extern "C" fn gutirapeo_book_value(
     bond: &mut u32,
     values: &mut [f64; 32],
     sum: &mut f64,
-    node_count: &mut u64,
+    node_counts: &mut [u64; 8],
 ) -> u32
     ensures { λ r. ⌜ HandedBook
         (bookOf
         (sharedOf settlement alpha (sigmaIn «sigma_times» sigmas) (pillarsIn «pillar_days» «pillar_factors»))
-        (fieldsIn «day_counts» «cashflow_counts» units «call_counts» «put_counts» «steps_per_year» «max_steps» spreads)
+        (fieldsIn «day_counts» «cashflow_counts» units «call_counts» «put_counts» «steps_per_year» «max_steps» spreads desks)
         (listsOf (legIn «cashflow_days» «cashflow_kinds» «cashflow_amounts») (callsIn «call_starts» «call_ends» «call_strikes») (callsIn «put_starts» «put_ends» «put_strikes»)))
         (lentIn nodes probabilities «first_row» «second_row»)
         (lentOut nodes probabilities «first_row» «second_row»)
-        r (now (place .exit)) (now (bond .exit)) (now (values .exit)) (now (sum .exit)) (now («node_count» .exit)) ⌝ }
+        r (now (place .exit)) (now (bond .exit)) (now (values .exit)) (now (sum .exit)) (now («node_counts» .exit)) ⌝ }
 {
     let answer = book_value(
         settlement,
@@ -92,6 +94,7 @@ pub extern "C" fn gutirapeo_book_value(
         steps_per_year,
         max_steps,
         spreads,
+        desks,
         alpha,
         sigma_times,
         sigmas,
@@ -102,5 +105,5 @@ pub extern "C" fn gutirapeo_book_value(
         first_row,
         second_row,
     );
-    hand_book(answer, place, bond, values, sum, node_count)
+    hand_book(answer, place, bond, values, sum, node_counts)
 }

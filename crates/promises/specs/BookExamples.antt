@@ -37,9 +37,9 @@ bookOf fields leg calls puts =
       lists = record { leg = leg; calls = calls; puts = puts };
     }
 
--- Two bonds with a cashflow each, one step a year; so many calls and puts.
-abbrev two : List Float → List ℕ → List ℕ → Fields
-two units calls puts =
+-- Two bonds with a cashflow each, one step a year; so many calls and puts, and these desks.
+abbrev twoOf : List ℕ → List Float → List ℕ → List ℕ → Fields
+twoOf desks units calls puts =
     record {
       codes = 0 ∷ 0 ∷ [];
       cashflows = 1 ∷ 1 ∷ [];
@@ -49,7 +49,12 @@ two units calls puts =
       perYear = 1 ∷ 1 ∷ [];
       maximum = 512 ∷ 512 ∷ [];
       spreads = float 0 ∷ float 0 ∷ [];
+      desks = desks;
     }
+
+-- Of desks 5 and 2.
+abbrev two : List Float → List ℕ → List ℕ → Fields
+two = twoOf (5 ∷ 2 ∷ [])
 
 -- 100 and 50, a year on.
 abbrev leg : Leg
@@ -75,17 +80,17 @@ room = record { nodes = 4; probabilities = 6; first = 1; second = 1 }
 abbrev refused : ℕ → ℕ → ℕ → BookAnswer
 refused number place bond = refusedBook bond (record { number = number; place = place })
 
--- Each value, their sum, and two nodes for each.
-both-valued : bookValue (bookOf (two hundreds (0 ∷ 0 ∷ []) (0 ∷ 0 ∷ [])) leg noEntries noEntries) room ≡ record { refusal = record { number = 0; place = 0 }; bond = 0; values = float 100 ∷ float 50 ∷ replicate 30 plusZero; sum = float 150; count = 4 }
+-- Each value, their sum, and two nodes for each desk that has a bond.
+both-valued : bookValue (bookOf (two hundreds (0 ∷ 0 ∷ []) (0 ∷ 0 ∷ [])) leg noEntries noEntries) room ≡ record { refusal = record { number = 0; place = 0 }; bond = 0; values = float 100 ∷ float 50 ∷ replicate 30 plusZero; sum = float 150; counts = 0 ∷ 0 ∷ 2 ∷ 0 ∷ 0 ∷ 2 ∷ 0 ∷ 0 ∷ [] }
 unfolding bookBy treeValue paidInto rawStep curveOver expAt expM1At lnAt sqrtAt onOutcome onCheck lowest onAnswer rounded thirties ieee.ofBits ieee.add ieee.sub ieee.mul ieee.div ieee.neg ieee.lt ieee.le ieee.eq ieee.ofInt ieee.toSigned
 both-valued = refl
 
-no-bonds : bookValue (bookOf (record { codes = []; cashflows = []; units = []; calls = []; puts = []; perYear = []; maximum = []; spreads = [] }) leg noEntries noEntries) room ≡ refused 39 0 0
+no-bonds : bookValue (bookOf (record { codes = []; cashflows = []; units = []; calls = []; puts = []; perYear = []; maximum = []; spreads = []; desks = [] }) leg noEntries noEntries) room ≡ refused 39 0 0
 unfolding bookBy treeValue paidInto rawStep curveOver expAt expM1At lnAt sqrtAt onOutcome onCheck lowest onAnswer rounded thirties ieee.ofBits ieee.add ieee.sub ieee.mul ieee.div ieee.neg ieee.lt ieee.le ieee.eq ieee.ofInt ieee.toSigned
 no-bonds = refl
 
 -- Tried before anything else: its fields are missing too.
-too-many : bookValue (bookOf (record { codes = []; cashflows = replicate 33 1; units = []; calls = []; puts = []; perYear = []; maximum = []; spreads = [] }) leg noEntries noEntries) room ≡ refused 39 0 0
+too-many : bookValue (bookOf (record { codes = []; cashflows = replicate 33 1; units = []; calls = []; puts = []; perYear = []; maximum = []; spreads = []; desks = [] }) leg noEntries noEntries) room ≡ refused 39 0 0
 unfolding bookBy treeValue paidInto rawStep curveOver expAt expM1At lnAt sqrtAt onOutcome onCheck lowest onAnswer rounded thirties ieee.ofBits ieee.add ieee.sub ieee.mul ieee.div ieee.neg ieee.lt ieee.le ieee.eq ieee.ofInt ieee.toSigned
 too-many = refl
 
@@ -110,12 +115,12 @@ unfolding bookBy treeValue paidInto rawStep curveOver expAt expM1At lnAt sqrtAt 
 past-the-end = refl
 
 -- 1 comes before a cut that doesn't add up.
-settings-before-fields : bookValue (bookOf (record { codes = 0 ∷ 0 ∷ []; cashflows = 1 ∷ 1 ∷ []; units = []; calls = []; puts = []; perYear = 0 ∷ 1 ∷ []; maximum = 512 ∷ 512 ∷ []; spreads = [] }) leg noEntries noEntries) room ≡ refused 1 0 0
+settings-before-fields : bookValue (bookOf (record { codes = 0 ∷ 0 ∷ []; cashflows = 1 ∷ 1 ∷ []; units = []; calls = []; puts = []; perYear = 0 ∷ 1 ∷ []; maximum = 512 ∷ 512 ∷ []; spreads = []; desks = [] }) leg noEntries noEntries) room ≡ refused 1 0 0
 unfolding bookBy treeValue paidInto rawStep curveOver expAt expM1At lnAt sqrtAt onOutcome onCheck lowest onAnswer rounded thirties ieee.ofBits ieee.add ieee.sub ieee.mul ieee.div ieee.neg ieee.lt ieee.le ieee.eq ieee.ofInt ieee.toSigned
 settings-before-fields = refl
 
 -- A missing code comes before its 1.
-code-missing : bookValue (bookOf (record { codes = []; cashflows = 1 ∷ 1 ∷ []; units = hundreds; calls = 0 ∷ 0 ∷ []; puts = 0 ∷ 0 ∷ []; perYear = 0 ∷ 1 ∷ []; maximum = 512 ∷ 512 ∷ []; spreads = [] }) leg noEntries noEntries) room ≡ refused 2 0 0
+code-missing : bookValue (bookOf (record { codes = []; cashflows = 1 ∷ 1 ∷ []; units = hundreds; calls = 0 ∷ 0 ∷ []; puts = 0 ∷ 0 ∷ []; perYear = 0 ∷ 1 ∷ []; maximum = 512 ∷ 512 ∷ []; spreads = []; desks = [] }) leg noEntries noEntries) room ≡ refused 2 0 0
 unfolding bookBy treeValue paidInto rawStep curveOver expAt expM1At lnAt sqrtAt onOutcome onCheck lowest onAnswer rounded thirties ieee.ofBits ieee.add ieee.sub ieee.mul ieee.div ieee.neg ieee.lt ieee.le ieee.eq ieee.ofInt ieee.toSigned
 code-missing = refl
 
@@ -137,3 +142,22 @@ no-room = refl
 sum-not-finite : bookValue (bookOf (two (ofBits binary64 0x01a56e1fc2f8f359 ∷ ofBits binary64 0x01a56e1fc2f8f359 ∷ []) (0 ∷ 0 ∷ []) (1 ∷ 1 ∷ [])) (record { days = 465 ∷ 465 ∷ []; kinds = 1 ∷ 1 ∷ []; amounts = float 100 ∷ float 100 ∷ [] }) noEntries (record { starts = 100 ∷ 100 ∷ []; ends = 100 ∷ 100 ∷ []; strikes = float 1000000 ∷ float 1000000 ∷ [] })) room ≡ refused 27 0 1
 unfolding bookBy treeValue paidInto rawStep curveOver expAt expM1At lnAt sqrtAt onOutcome onCheck lowest onAnswer rounded thirties ieee.ofBits ieee.add ieee.sub ieee.mul ieee.div ieee.neg ieee.lt ieee.le ieee.eq ieee.ofInt ieee.toSigned
 sum-not-finite = refl
+
+one-desk : bookValue (bookOf (twoOf (7 ∷ 7 ∷ []) hundreds (0 ∷ 0 ∷ []) (0 ∷ 0 ∷ [])) leg noEntries noEntries) room ≡ record { refusal = record { number = 0; place = 0 }; bond = 0; values = float 100 ∷ float 50 ∷ replicate 30 plusZero; sum = float 150; counts = 0 ∷ 0 ∷ 0 ∷ 0 ∷ 0 ∷ 0 ∷ 0 ∷ 4 ∷ [] }
+unfolding bookBy treeValue paidInto rawStep curveOver expAt expM1At lnAt sqrtAt onOutcome onCheck lowest onAnswer rounded thirties ieee.ofBits ieee.add ieee.sub ieee.mul ieee.div ieee.neg ieee.lt ieee.le ieee.eq ieee.ofInt ieee.toSigned
+one-desk = refl
+
+-- 40 is tried on all bonds before the first bond's 4.
+no-desk : bookValue (bookOf (twoOf (0 ∷ 8 ∷ []) (float 0 ∷ float 100 ∷ []) (0 ∷ 0 ∷ []) (0 ∷ 0 ∷ [])) leg noEntries noEntries) room ≡ refused 40 0 1
+unfolding bookBy treeValue paidInto rawStep curveOver expAt expM1At lnAt sqrtAt onOutcome onCheck lowest onAnswer rounded thirties ieee.ofBits ieee.add ieee.sub ieee.mul ieee.div ieee.neg ieee.lt ieee.le ieee.eq ieee.ofInt ieee.toSigned
+no-desk = refl
+
+-- A missing desk is the bond's 2.
+desk-missing : bookValue (bookOf (twoOf (0 ∷ []) hundreds (0 ∷ 0 ∷ []) (0 ∷ 0 ∷ [])) leg noEntries noEntries) room ≡ refused 2 0 1
+unfolding bookBy treeValue paidInto rawStep curveOver expAt expM1At lnAt sqrtAt onOutcome onCheck lowest onAnswer rounded thirties ieee.ofBits ieee.add ieee.sub ieee.mul ieee.div ieee.neg ieee.lt ieee.le ieee.eq ieee.ofInt ieee.toSigned
+desk-missing = refl
+
+-- One left over is the last bond's 2, whatever it is.
+desk-left-over : bookValue (bookOf (twoOf (0 ∷ 1 ∷ 9 ∷ []) hundreds (0 ∷ 0 ∷ []) (0 ∷ 0 ∷ [])) leg noEntries noEntries) room ≡ refused 2 0 1
+unfolding bookBy treeValue paidInto rawStep curveOver expAt expM1At lnAt sqrtAt onOutcome onCheck lowest onAnswer rounded thirties ieee.ofBits ieee.add ieee.sub ieee.mul ieee.div ieee.neg ieee.lt ieee.le ieee.eq ieee.ofInt ieee.toSigned
+desk-left-over = refl

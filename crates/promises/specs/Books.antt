@@ -2,7 +2,7 @@
 use Prim.Native.Nat.{ℕ, suc, _<_, _≤_}
 use mathlib.Core.Path.{_≡_}
 use mathlib.Core.Bool.{false}
-use mathlib.Core.Logic.{_↔_, _⊎_}
+use mathlib.Core.Logic.{_⊎_}
 use mathlib.Core.List.{List}
 use lib.Dec.{T}
 use lib.ListN.{getD, replicate}
@@ -23,23 +23,10 @@ use Rattle.bookchecks.specs.declared.BookCheck.the-variants as book
 use Rattle.bookchecks.specs.Book.{Book, sizeOf, holding, marketAt, callsAt}
 use Rattle.bookchecks.specs.Checks.{legLengths, entryLengths, cutAmiss, bondCheck, firstRefused, bookChecks}
 use Rattle.bookvalue.specs.declared.BookAnswer.{BookAnswer}
-use Rattle.bookvalue.specs.Values.{placed, sumCheck, totalTo, refusedBook, acceptedBook, bookBy}
+use Rattle.bookvalue.specs.Values.{placed, sumCheck, deskOf, refusedBook, acceptedBook, bookBy}
 use Rattle.bookvalue.specs.Entry.{bookLent}
-use Rattle.host.specs.Books.{HandedBook}
-use Rattle.promises.specs.HostCallLists.{TreeCall, SizesCall}
-use Rattle.promises.specs.Sizing.{AsLong, lengthsIn}
-
--- gutirapeo_book_value
-pub record BookCall (b : Book) : Type 0 where
-  pub lent : Lent
-  pub left : Lent
-  pub number : ℕ
-  pub place : ℕ
-  pub bond : ℕ
-  pub values : List Float
-  pub sum : Float
-  pub count : ℕ
-  pub handed : HandedBook b lent left number place bond values sum count
+use Rattle.promises.specs.HostCallLists.{TreeCall, BookCall}
+use Rattle.promises.specs.OneCount.{totalTo}
 
 abbrev pub size : Book → ℕ
 size b = sizeOf (b .fields)
@@ -55,11 +42,11 @@ pub record AddsUp (b : Book) (i : ℕ) : Type 0 where
 abbrev pub CheckedAlone : Type 0
 CheckedAlone = (b : Book) (i : ℕ) → AddsUp b i → bondCheck (b .shared) (b .lists) (holding b i) ≡ treeChecks (marketAt b i) (callsAt b i)
 
--- Beside a refusal there are no values, no sum and no count.
+-- Beside a refusal there are no values, no sum and no counts.
 pub record NoValues {b : Book} (c : BookCall b) : Type 0 where
   pub values : c .values ≡ replicate 32 plusZero
   pub sum : c .sum ≡ plusZero
-  pub count : c .count ≡ 0
+  pub counts : c .counts ≡ replicate 8 0
 
 -- A value is that of the bond alone, with slices as long; with any others the bond alone has it too, or finds no room.
 pub record Alone {b : Book} (c : BookCall b) (i : ℕ) : Type 0 where
@@ -69,8 +56,8 @@ pub record Alone {b : Book} (c : BookCall b) (i : ℕ) : Type 0 where
 pub record AllOrNone {b : Book} (c : BookCall b) : Type 0 where
   pub refused : (c .number ≡ 0 → ⊥) → NoValues c
   pub accepted : c .number ≡ 0 → (i : ℕ) → i < size b → Alone c i
-  -- The node count is the sum of the counts of the bonds alone, in whatever slices.
-  pub counts : c .number ≡ 0 → (alone : (i : ℕ) → TreeCall (marketAt b i) (callsAt b i)) → ((i : ℕ) → i < size b → alone i .number ≡ 0) → c .count ≡ totalTo (placed 0 (λ i. alone i .nodes) (size b)) (size b)
+  -- The eight counts together are the one count: the sum of the counts of the bonds alone, in whatever slices.
+  pub counts : c .number ≡ 0 → (alone : (i : ℕ) → TreeCall (marketAt b i) (callsAt b i)) → ((i : ℕ) → i < size b → alone i .number ≡ 0) → totalTo (c .counts) 8 ≡ totalTo (placed 0 (λ i. alone i .nodes) (size b)) (size b)
 
 abbrev pub BookRule : Type 0
 BookRule = (b : Book) (c : BookCall b) → AllOrNone c
@@ -98,6 +85,7 @@ pub record Accepted (curves : ℕ → Float → ℕ → Answer) (b : Book) (room
 pub record CallsMade (first second : Book) : Type 0 where
   pub same-size : size second ≡ size first
   pub same-terms : (i : ℕ) → i < size first → marketAt second i ≡ marketAt first i
+  pub same-desks : (i : ℕ) → i < size first → deskOf second i ≡ deskOf first i
   pub made : (i : ℕ) → i < size first → MadeFrom (callsAt first i) (callsAt second i)
   pub adds-up : (i : ℕ) → i < size first → AddsUp second i
 
@@ -109,7 +97,7 @@ pub record LowestAbove (b : Book) (bond : ℕ) : Type 0 where
 
 -- Accepted with each value no lower, or refused with 27, a bond's or the sum's.
 pub data NoLowerBook (values : ℕ → Float) (n : ℕ) : BookAnswer → Type 0 where
-  accepted : (ys : List Float) (counts : List ℕ) → ((i : ℕ) → i < n → T (le (values i) (getD ys i plusZero))) → NoLowerBook values n (acceptedBook ys counts n)
+  accepted : (ys : List Float) (desk : ℕ → ℕ) (counts : List ℕ) → ((i : ℕ) → i < n → T (le (values i) (getD ys i plusZero))) → NoLowerBook values n (acceptedBook ys desk counts n)
   refused-27 : {bond : ℕ} {q : Refusal} → q .number ≡ 27 → NoLowerBook values n (refusedBook bond q)
 
 -- Refused with 4, naming that bond, where there is one; else no lower.
@@ -117,9 +105,10 @@ pub record ThinnedBook (values : ℕ → Float) (second : Book) (answer : BookAn
   pub with-4 : (bond : ℕ) → LowestAbove second bond → (answer .refusal .number ≡ 4) × (answer .bond ≡ bond)
   pub otherwise : ((bond : ℕ) → LowestAbove second bond → ⊥) → NoLowerBook values (size second) answer
 
--- The same of what two calls hand back.
+-- The same of what two calls hand back: 4 naming the lowest bond with a strike above 1,000,000, exactly then. Otherwise accepted with each value no lower, or 27.
 pub record ThinnedCall {first second : Book} (a : BookCall first) (c : BookCall second) : Type 0 where
-  pub with-4 : (c .number ≡ 4) ↔ LowestAbove second (c .bond)
+  pub with-4 : (bond : ℕ) → LowestAbove second bond → (c .number ≡ 4) × (c .bond ≡ bond)
+  pub only-then : c .number ≡ 4 → LowestAbove second (c .bond)
   pub otherwise : ((bond : ℕ) → LowestAbove second bond → ⊥) → ((c .number ≡ 0) × ((i : ℕ) → i < size second → T (le (getD (a .values) i plusZero) (getD (c .values) i plusZero)))) ⊎ (c .number ≡ 27)
 
 abbrev pub BookCallListRule : Type 0
@@ -181,7 +170,7 @@ pub record SameBooks {first second : Book} (a : BookCall first) (c : BookCall se
   pub bond : c .bond ≡ a .bond
   pub values : c .values ≡ a .values
   pub sum : c .sum ≡ a .sum
-  pub count : c .count ≡ a .count
+  pub counts : c .counts ≡ a .counts
   pub slices : c .lent ≡ a .lent → c .left ≡ a .left
 
 abbrev pub BookReorderingRule : Type 0
@@ -211,14 +200,3 @@ pub record BooksOverCurves (curves : ℕ → Float → ℕ → Answer) : Type 0 
 
 abbrev pub AnyCurveBooks : Type 0
 AnyCurveBooks = (curves : ℕ → Float → ℕ → Answer) → BooksOverCurves curves
-
--- ---- sizing
-
--- With slices at least as long as sizing says for each of its bonds, a book is never refused with 21.
-abbrev pub BookSizingRule : Type 0
-BookSizingRule =
-    (b : Book) (c : BookCall b) (sizes : (i : ℕ) → SizesCall (marketAt b i) (callsAt b i))
-    → ((i : ℕ) → i < size b → sizes i .number ≡ 0)
-    → ((i : ℕ) → i < size b → AsLong (lengthsIn (sizes i)) (roomOf (c .lent)))
-    → c .number ≡ 21
-    → ⊥

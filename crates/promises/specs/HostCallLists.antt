@@ -13,7 +13,9 @@ use Rattle.bondevents.specs.Grid.{gridAnswer}
 use Rattle.treebasedbondpricer.specs.Tree.{Lent, roomOf}
 use Rattle.spreads.specs.Spreads.{quoting}
 use Rattle.host.specs.Handed.{HandedGrid, HandedTree, HandedSpread, HandedSizes}
+use Rattle.bookchecks.specs.Book.{Book}
 use Rattle.host.specs.Sheets.{HandedSheet}
+use Rattle.host.specs.Books.{HandedBook}
 use Rattle.host.specs.Tables.{HandedTable}
 
 -- ---- one call of each function: what is lent, what is left there, and what is handed back
@@ -81,6 +83,18 @@ pub record TableCall (m : Market) (spreads shifts : List Float) (calls : CallSch
   pub size : ℕ
   pub page : List ℕ
   pub handed : HandedTable m calls spreads shifts lent left number place size page
+
+-- gutirapeo_book_value
+pub record BookCall (b : Book) : Type 0 where
+  pub lent : Lent
+  pub left : Lent
+  pub number : ℕ
+  pub place : ℕ
+  pub bond : ℕ
+  pub values : List Float
+  pub sum : Float
+  pub counts : List ℕ
+  pub handed : HandedBook b lent left number place bond values sum counts
 
 -- ---- the call-list rule
 

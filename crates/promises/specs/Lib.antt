@@ -15,6 +15,8 @@ pub mod ClosingSheet
 pub mod Sizing
 pub mod SpreadTable
 pub mod FitNodes
+pub mod OneCount
 pub mod Books
+pub mod Desks
 pub mod BookExamples
 pub mod laws

@@ -1,4 +1,4 @@
--- Definitions only. How large must the slices be: what sizing promises a C caller of the tree value, of a closing line and of spread from price, and which numbers it ends in.
+-- Definitions only. How large must the slices be: what sizing promises a C caller of the tree value, of a closing line, of spread from price and of a book, and which numbers it ends in.
 use Prim.Native.Nat.{ℕ, _≤_, _<_}
 use mathlib.Core.Path.{_≡_}
 use mathlib.Core.List.{List, [], _∷_}
@@ -15,9 +15,10 @@ use Rattle.hullwhite.specs.Variance.{transitionVariances, variancesFrom}
 use Rattle.lattice.specs.Layers.{Room}
 use Rattle.lattice.specs.Lattice.{Lattice, lattice}
 use Rattle.treebasedbondpricer.specs.Tree.{Lent, roomOf}
+use Rattle.bookchecks.specs.Book.{Book, sizeOf, marketAt, callsAt}
 use Rattle.sizing.specs.declared.Lengths.{Lengths}
 use Rattle.promises.specs.RefusalNumbers.{Among}
-use Rattle.promises.specs.HostCallLists.{TreeCall, SpreadCall, SheetCall, SizesCall}
+use Rattle.promises.specs.HostCallLists.{TreeCall, SpreadCall, SheetCall, SizesCall, BookCall}
 
 -- ---- lengths
 
@@ -88,6 +89,15 @@ pub record Sized (m : Market) (calls : CallSchedule) (l : Lengths) : Type 0 wher
 -- Whatever sizing accepts, in whatever node slice.
 abbrev pub SizingRule : Type 0
 SizingRule = (m : Market) (calls : CallSchedule) (s : SizesCall m calls) → s .number ≡ 0 → Sized m calls (lengthsIn s)
+
+-- With slices at least as long as is given for each of its bonds, a book is never refused with 21.
+abbrev pub BookSizingRule : Type 0
+BookSizingRule =
+    (b : Book) (c : BookCall b) (sizes : (i : ℕ) → SizesCall (marketAt b i) (callsAt b i))
+    → ((i : ℕ) → i < sizeOf (b .fields) → sizes i .number ≡ 0)
+    → ((i : ℕ) → i < sizeOf (b .fields) → AsLong (lengthsIn (sizes i)) (roomOf (c .lent)))
+    → c .number ≡ 21
+    → ⊥
 
 -- ---- its refusals
 

@@ -33,4 +33,6 @@ pub mod SortedSets
 pub mod FitNodes
 pub mod BookAnswers
 pub mod BookRules
+pub mod DeskCounts
 pub mod Books
+pub mod Desks

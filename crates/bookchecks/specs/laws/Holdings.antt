@@ -8,9 +8,11 @@ use mathlib.Core.List.{List}
 use lib.ListN.{length, getD, set, replicate, length-set, length-replicate}
 use lib.Seq.{getD-set-same, getD-set-other}
 use lib.Ieee.{nan}
+use lib.Dec.{ltb}
+use Rattle.terms.specs.Checks.{single}
 use Rattle.bookchecks.specs.declared.Holding.{Holding}
 use Rattle.bookchecks.specs.Book.{Shared, Fields, Lists, sizeOf, holdingAt}
-use Rattle.bookchecks.specs.Checks.{firstRefused, bondCheck}
+use Rattle.bookchecks.specs.Checks.{firstRefused, bondCheck, deskCheck}
 use Rattle.bookchecks.specs.laws.Naming.{same-first}
 
 -- The places before i hold what the rule f says.
@@ -41,6 +43,7 @@ pastEnd =
       yearly = 0;
       maximum = 0;
       spread = nan;
+      desk = 0;
       cashflows = record { from = 0; count = 0 };
       calls = record { from = 0; count = 0 };
       puts = record { from = 0; count = 0 };
@@ -59,3 +62,11 @@ held f i table h s = record { at = λ k l. s .at k (omega arith) }
 -- The checks by the table are those of the book.
 pub same-checks : (s : Shared) (l : Lists) (f : Fields) (table : List Holding) → Held f table → firstRefused (λ i. bondCheck s l (getD table i pastEnd)) (sizeOf f) 0 ≡ firstRefused (λ i. bondCheck s l (holdingAt f i)) (sizeOf f) 0
 same-checks s l f table h = same-first _ _ (sizeOf f) 0 (λ k m n. ap (bondCheck s l) (h .at k (omega arith)))
+
+-- So are the desks, and the check of them.
+pub desk-at : (f : Fields) (table : List Holding) → Held f table → (i : ℕ) → i < sizeOf f → getD table i pastEnd .desk ≡ getD (f .desks) i 0
+unfolding holdingAt
+desk-at f table h i l = ap (λ (z : Holding). z .desk) (h .at i l)
+
+pub same-desks : (f : Fields) (table : List Holding) → Held f table → firstRefused (λ i. single 40 0 (ltb 7 (getD table i pastEnd .desk))) (sizeOf f) 0 ≡ firstRefused (deskCheck f) (sizeOf f) 0
+same-desks f table h = same-first _ _ (sizeOf f) 0 (λ k m n. ap (λ (d : ℕ). single 40 0 (ltb 7 d)) (desk-at f table h k (omega arith)))

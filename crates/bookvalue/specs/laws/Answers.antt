@@ -21,8 +21,8 @@ use Rattle.bookvalue.specs.declared.Valued.{Valued}
 use Rattle.bookvalue.specs.declared.BookSum.{BookSum}
 use Rattle.bookvalue.specs.declared.BookSum.the-variants as sum
 use Rattle.bookvalue.specs.declared.BookAnswer.{BookAnswer}
-use Rattle.bookvalue.specs.Values.{refusedTree, each, placed, sumTo, sumCheck, totalTo, refusedBook, acceptedBook, summedBook, valuedBook}
-use Rattle.bookvalue.specs.laws.Placed.{none-there, placed-all}
+use Rattle.bookvalue.specs.Values.{refusedTree, each, placed, sumTo, sumCheck, deskTo, deskCounts, refusedBook, acceptedBook, summedBook, valuedBook}
+use Rattle.bookvalue.specs.laws.Placed.{none-there, placed-all, each-alike}
 use Rattle.bookvalue.specs.laws.Nodes.{Counted, few, none, counted}
 
 abbrev pub treeRefusal : TreeValue → Refusal
@@ -50,45 +50,56 @@ unfoldable pub sumOf : List Float → ℕ → BookSum
 unfolding firstRefused onBook sumTo
 sumOf values n = onBook (firstRefused (sumCheck values) n 0) sum.Refused (sum.Sum (sumTo values n))
 
-unfoldable pub answerOf : Valued → ℕ → BookAnswer
+unfoldable pub answerOf : Valued → (ℕ → ℕ) → ℕ → BookAnswer
 unfolding onBook summedBook
-answerOf v n = onBook (v .check) refusedBook (summedBook (v .values) (v .counts) n)
+answerOf v desk n = onBook (v .check) refusedBook (summedBook (v .values) desk (v .counts) n)
 
 -- ---- the answer
 
-pub answer-is : (value : ℕ → TreeValue) (n : ℕ) → answerOf (valuedBy value n) n ≡ valuedBook value n
+pub answer-is : (value : ℕ → TreeValue) (desk : ℕ → ℕ) (n : ℕ) → answerOf (valuedBy value n) desk n ≡ valuedBook value desk n
 unfolding answerOf valuedBy valuedBook onBook
-answer-is value n = go (firstRefused (λ i. refusedTree (value i)) n 0)
+answer-is value desk n = go (firstRefused (λ i. refusedTree (value i)) n 0)
   where
-    go : (k : BookCheck) → answerOf (onBook k noValues (allValues value n)) n ≡ onBook k refusedBook (summedBook (allValues value n .values) (allValues value n .counts) n)
+    go : (k : BookCheck) → answerOf (onBook k noValues (allValues value n)) desk n ≡ onBook k refusedBook (summedBook (allValues value n .values) desk (allValues value n .counts) n)
     go Passed = refl
     go (Refused bond q) = refl
 
-module _ (values : List Float) (counts : List ℕ) (n : ℕ) {added : BookSum} (e : added ≡ sumOf values n) where
-  pub summed-sum : {x : Float} {total : ℕ} → added ≡ sum.Sum x → total ≡ totalTo counts n → record { refusal = record { number = 0; place = 0 }; bond = 0; values = values; sum = x; count = total } ≡ summedBook values counts n
+module _ (values : List Float) (desk : ℕ → ℕ) (counts : List ℕ) (n : ℕ) {added : BookSum} (e : added ≡ sumOf values n) where
+  pub summed-sum : {x : Float} {totals : List ℕ} → added ≡ sum.Sum x → totals ≡ deskCounts desk counts n → record { refusal = record { number = 0; place = 0 }; bond = 0; values = values; sum = x; counts = totals } ≡ summedBook values desk counts n
   unfolding summedBook sumOf onBook
-  summed-sum {x} {total} t c = go (firstRefused (sumCheck values) n 0) (sym t ∙ e)
+  summed-sum {x} {totals} t c = go (firstRefused (sumCheck values) n 0) (sym t ∙ e)
     where
-      go : (k : BookCheck) → sum.Sum x ≡ onBook k sum.Refused (sum.Sum (sumTo values n)) → record { refusal = record { number = 0; place = 0 }; bond = 0; values = values; sum = x; count = total } ≡ onBook k refusedBook (acceptedBook values counts n)
+      go : (k : BookCheck) → sum.Sum x ≡ onBook k sum.Refused (sum.Sum (sumTo values n)) → record { refusal = record { number = 0; place = 0 }; bond = 0; values = values; sum = x; counts = totals } ≡ onBook k refusedBook (acceptedBook values desk counts n)
       go Passed p = let q : x ≡ sumTo values n = cc in rw (q, c)
       go (Refused bond q) p = absurd (let z : _≡_ {A = ℕ} 0 1 = cc in omega arith)
 
-  pub summed-refused : {bond : ℕ} {q : Refusal} → added ≡ sum.Refused bond q → refusedBook bond q ≡ summedBook values counts n
+  pub summed-refused : {bond : ℕ} {q : Refusal} → added ≡ sum.Refused bond q → refusedBook bond q ≡ summedBook values desk counts n
   unfolding summedBook sumOf onBook
   summed-refused {bond} {q} t = go (firstRefused (sumCheck values) n 0) (sym t ∙ e)
     where
-      go : (k : BookCheck) → sum.Refused bond q ≡ onBook k sum.Refused (sum.Sum (sumTo values n)) → refusedBook bond q ≡ onBook k refusedBook (acceptedBook values counts n)
+      go : (k : BookCheck) → sum.Refused bond q ≡ onBook k sum.Refused (sum.Sum (sumTo values n)) → refusedBook bond q ≡ onBook k refusedBook (acceptedBook values desk counts n)
       go Passed p = absurd (let z : _≡_ {A = ℕ} 0 1 = cc in omega arith)
       go (Refused b r) p = let i : bond ≡ b = cc in let j : q ≡ r = cc in rw (i, j)
 
-module _ (v : Valued) (n : ℕ) where
-  pub answer-refused : {bond : ℕ} {q : Refusal} → v .check ≡ Refused bond q → refusedBook bond q ≡ answerOf v n
+module _ (v : Valued) (desk : ℕ → ℕ) (n : ℕ) where
+  pub answer-refused : {bond : ℕ} {q : Refusal} → v .check ≡ Refused bond q → refusedBook bond q ≡ answerOf v desk n
   unfolding answerOf onBook
-  answer-refused e = sym (ap (λ (k : BookCheck). onBook k refusedBook (summedBook (v .values) (v .counts) n)) e)
+  answer-refused e = sym (ap (λ (k : BookCheck). onBook k refusedBook (summedBook (v .values) desk (v .counts) n)) e)
 
-  pub answer-summed : v .check ≡ Passed → summedBook (v .values) (v .counts) n ≡ answerOf v n
+  pub answer-summed : v .check ≡ Passed → summedBook (v .values) desk (v .counts) n ≡ answerOf v desk n
   unfolding answerOf onBook
-  answer-summed e = sym (ap (λ (k : BookCheck). onBook k refusedBook (summedBook (v .values) (v .counts) n)) e)
+  answer-summed e = sym (ap (λ (k : BookCheck). onBook k refusedBook (summedBook (v .values) desk (v .counts) n)) e)
+
+-- ---- bonds of the same desks
+
+pub desk-alike : (f g : ℕ → ℕ) (d : ℕ) (counts : List ℕ) (n : ℕ) → ((i : ℕ) → i < n → f i ≡ g i) → deskTo f d counts n ≡ deskTo g d counts n
+unfolding deskTo
+desk-alike f g d counts zero h = refl
+desk-alike f g d counts (suc n) h = rw (h n (omega arith), desk-alike f g d counts n (λ i l. h i (omega arith)))
+
+pub answers-alike : (v : Valued) (f g : ℕ → ℕ) (n : ℕ) → ((i : ℕ) → i < n → f i ≡ g i) → answerOf v f n ≡ answerOf v g n
+unfolding answerOf summedBook
+answers-alike v f g n h = rw (each-alike (λ d. deskTo f d (v .counts) n) (λ d. deskTo g d (v .counts) n) 8 (λ d l. desk-alike f g d (v .counts) n h))
 
 -- ---- the counts of 32 bonds fit 64 bits
 

@@ -26,12 +26,12 @@ use Rattle.treebasedbondpricer.specs.Tree.{latticeValueOver, treeValueOver, tre
 use Rattle.bookchecks.specs.declared.Holding.{Holding}
 use Rattle.bookchecks.specs.declared.BookCheck.{BookCheck}
 use Rattle.bookchecks.specs.declared.BookCheck.the-variants as book
-use Rattle.bookchecks.specs.Book.{Shared, Lists, Book, sizeOf, holdingAt, holding, marketOf, callsOf, marketAt, callsAt}
-use Rattle.bookchecks.specs.Checks.{legLengths, entryLengths, cutAmiss, cutChecks, bondCheck, firstRefused, onBook, bookChecks}
+use Rattle.bookchecks.specs.Book.{Shared, Fields, Lists, Book, sizeOf, holdingAt, holding, marketOf, callsOf, marketAt, callsAt}
+use Rattle.bookchecks.specs.Checks.{legLengths, entryLengths, cutAmiss, cutChecks, bondCheck, firstRefused, onBook, deskCheck, bookChecks}
 use Rattle.bookchecks.specs.laws.Naming.{FirstOf, first-refused}
 use Rattle.bookvalue.specs.declared.BookAnswer.{BookAnswer}
-use Rattle.bookvalue.specs.Values.{refusedTree, placed, sumCheck, refusedBook, acceptedBook, summedBook, valuedBook, bookBy}
-use Rattle.bookvalue.specs.laws.Entered.{by-size, by-bonds}
+use Rattle.bookvalue.specs.Values.{refusedTree, placed, sumCheck, deskOf, refusedBook, acceptedBook, summedBook, valuedBook, bookBy}
+use Rattle.bookvalue.specs.laws.Entered.{by-size, by-desks, by-bonds}
 use Rattle.promises.specs.Books.{AddsUp, CheckedAlone, size}
 use Rattle.promises.specs.RefusalNumbers.{Among, treeRefusals}
 use Rattle.promises.specs.laws.TreeNumbers.{tree-numbers}
@@ -49,21 +49,21 @@ module _ (value : ℕ → TreeValue) (b : Book) where
     by-checks : {bond : ℕ} {q : Refusal} → bookChecks b ≡ book.Refused bond q → Cause (refusedBook bond q)
     by-value : {bond : ℕ} {q : Refusal} → bookChecks b ≡ book.Passed → firstRefused (λ i. refusedTree (value i)) (size b) 0 ≡ book.Refused bond q → Cause (refusedBook bond q)
     by-sum : {bond : ℕ} {q : Refusal} → bookChecks b ≡ book.Passed → firstRefused (λ i. refusedTree (value i)) (size b) 0 ≡ book.Passed → firstRefused (sumCheck valuesOf) (size b) 0 ≡ book.Refused bond q → Cause (refusedBook bond q)
-    all-passed : bookChecks b ≡ book.Passed → firstRefused (λ i. refusedTree (value i)) (size b) 0 ≡ book.Passed → firstRefused (sumCheck valuesOf) (size b) 0 ≡ book.Passed → Cause (acceptedBook valuesOf countsOf (size b))
+    all-passed : bookChecks b ≡ book.Passed → firstRefused (λ i. refusedTree (value i)) (size b) 0 ≡ book.Passed → firstRefused (sumCheck valuesOf) (size b) 0 ≡ book.Passed → Cause (acceptedBook valuesOf (deskOf b) countsOf (size b))
 
   pub cause : Cause (bookBy value b)
   unfolding bookBy valuedBook summedBook onBook
   cause = go (bookChecks b) refl (firstRefused (λ i. refusedTree (value i)) (size b) 0) refl (firstRefused (sumCheck valuesOf) (size b) 0) refl
     where
       go : (x : BookCheck) → bookChecks b ≡ x → (y : BookCheck) → firstRefused (λ i. refusedTree (value i)) (size b) 0 ≡ y → (z : BookCheck) → firstRefused (sumCheck valuesOf) (size b) 0 ≡ z
-          → Cause (onBook x refusedBook (onBook y refusedBook (onBook z refusedBook (acceptedBook valuesOf countsOf (size b)))))
+          → Cause (onBook x refusedBook (onBook y refusedBook (onBook z refusedBook (acceptedBook valuesOf (deskOf b) countsOf (size b)))))
       go (book.Refused bond q) e y f z g = by-checks e
       go book.Passed e (book.Refused bond q) f z g = by-value e f
       go book.Passed e book.Passed f (book.Refused bond q) g = by-sum e f g
       go book.Passed e book.Passed f book.Passed g = all-passed e f g
 
   -- From all three, the answer.
-  pub answer-of-all : bookChecks b ≡ book.Passed → firstRefused (λ i. refusedTree (value i)) (size b) 0 ≡ book.Passed → firstRefused (sumCheck valuesOf) (size b) 0 ≡ book.Passed → bookBy value b ≡ acceptedBook valuesOf countsOf (size b)
+  pub answer-of-all : bookChecks b ≡ book.Passed → firstRefused (λ i. refusedTree (value i)) (size b) 0 ≡ book.Passed → firstRefused (sumCheck valuesOf) (size b) 0 ≡ book.Passed → bookBy value b ≡ acceptedBook valuesOf (deskOf b) countsOf (size b)
   unfolding bookBy valuedBook summedBook onBook
   answer-of-all e f g = rw (e, f, g)
 
@@ -161,21 +161,37 @@ check-not-0 (of-settings e) z = omega arith
 check-not-0 (of-day-count e) z = omega arith
 check-not-0 {m} {calls} (of-tree e) z = tree-not-0 m calls room-of-none (tree-check-refused m calls room-of-none e) z
 
--- What the checks of a book refuse: the size, or a bond.
+-- What the checks of a book refuse: the size, a desk, or a bond.
 pub data Checked (b : Book) (bond : ℕ) (q : Refusal) : Type 0 where
   of-size : q ≡ record { number = 39; place = 0 } → Checked b bond q
+  of-desk : q ≡ record { number = 40; place = 0 } → Checked b bond q
   of-bond : FirstOf (λ i. bondCheck (b .shared) (b .lists) (holding b i)) (size b) bond q → Checked b bond q
+
+desk-40 : (f : Fields) (i : ℕ) {q : Refusal} → deskCheck f i ≡ check.Refused q → q ≡ record { number = 40; place = 0 }
+desk-40 f i {q} e = go (ltb 7 (getD (f .desks) i 0)) e
+  where
+    go : (w : Bool) → single 40 0 w ≡ check.Refused q → q ≡ record { number = 40; place = 0 }
+    go true e = let p : record { number = 40; place = 0 } ≡ q = cc in sym p
+    go false e = absurd (let z : _≡_ {A = ℕ} 0 1 = cc in omega arith)
 
 pub checks-refused : (b : Book) {bond : ℕ} {q : Refusal} → bookChecks b ≡ book.Refused bond q → Checked b bond q
 checks-refused b {bond} {q} e = go (outside 1 32 (size b)) refl
   where
+    go-desks : outside 1 32 (size b) ≡ false → (d : BookCheck) → firstRefused (deskCheck (b .fields)) (size b) 0 ≡ d → Checked b bond q
+    go-desks f book.Passed d = of-bond (first-refused _ (size b) (sym (by-bonds b f d) ∙ e))
+    go-desks f (book.Refused k r) d =
+        let p : book.Refused k r ≡ book.Refused bond q = sym (by-desks b f d) ∙ e in
+        let s : r ≡ q = cc in
+        of-desk (sym s ∙ desk-40 (b .fields) k (first-refused _ (size b) d .refused))
+
     go : (o : Bool) → outside 1 32 (size b) ≡ o → Checked b bond q
     go true f = of-size (let p : book.Refused 0 (record { number = 39; place = 0 }) ≡ book.Refused bond q = sym (by-size b f) ∙ e in let r : record { number = 39; place = 0 } ≡ q = cc in sym r)
-    go false f = of-bond (first-refused _ (size b) (sym (by-bonds b f) ∙ e))
+    go false f = go-desks f (firstRefused (deskCheck (b .fields)) (size b) 0) refl
 
 pub checks-not-0 : (b : Book) {bond : ℕ} {q : Refusal} → bookChecks b ≡ book.Refused bond q → q .number ≡ 0 → ⊥
 checks-not-0 b {bond} {q} e z = go (checks-refused b e)
   where
     go : Checked b bond q → ⊥
     go (of-size f) = let n : q .number ≡ 39 = ap (λ (r : Refusal). r .number) f in omega arith
+    go (of-desk f) = let n : q .number ≡ 40 = ap (λ (r : Refusal). r .number) f in omega arith
     go (of-bond f) = check-not-0 (check-number (b .shared) (b .lists) (holding b bond) (f .refused)) z

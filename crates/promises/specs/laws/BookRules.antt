@@ -6,7 +6,7 @@ use mathlib.Core.Path.{_≡_, refl, sym, ap, subst, _∙_}
 use mathlib.Core.Bool.{Bool, true, false}
 use mathlib.Core.Logic.{_⊎_, inl, inr}
 use mathlib.Core.List.{List}
-use lib.Dec.{T}
+use lib.Dec.{T, ltb}
 use lib.ListN.{getD}
 use lib.Ieee.{Float, le}
 use Rattle.floats.specs.declared.Refusal.{Refusal}
@@ -36,15 +36,15 @@ use Rattle.bookchecks.specs.declared.Lengths.{Lengths}
 use Rattle.bookchecks.specs.declared.BookCheck.{BookCheck}
 use Rattle.bookchecks.specs.declared.BookCheck.the-variants as book
 use Rattle.bookchecks.specs.Book.{Fields, Book, sizeOf, holdingAt, holding, marketAt, callsAt}
-use Rattle.bookchecks.specs.Checks.{legLengths, entryLengths, cutChecks, bondCheck, firstRefused, onBook, bookChecks}
+use Rattle.bookchecks.specs.Checks.{legLengths, entryLengths, cutChecks, bondCheck, firstRefused, onBook, deskCheck, bookChecks}
 use Rattle.bookchecks.specs.laws.Naming.{all-pass, pass-all, first-is, same-first, FirstOf, first-refused}
 use Rattle.bookvalue.specs.declared.BookAnswer.{BookAnswer}
 use Rattle.bookvalue.specs.declared.Valued.{Valued}
-use Rattle.bookvalue.specs.Values.{refusedTree, placed, sumTo, sumCheck, refusedBook, acceptedBook, valuedBook, bookBy}
+use Rattle.bookvalue.specs.Values.{refusedTree, placed, sumTo, sumCheck, deskOf, refusedBook, acceptedBook, valuedBook, bookBy}
 use Rattle.bookvalue.specs.Entry.{bookLent}
 use Rattle.bookvalue.specs.laws.Placed.{placed-at}
 use Rattle.bookvalue.specs.laws.Answers.{answerOf, answer-is}
-use Rattle.bookvalue.specs.laws.Entered.{tree-passed, by-size, by-bonds, valued-alike}
+use Rattle.bookvalue.specs.laws.Entered.{tree-passed, by-size, by-desks, by-bonds, valued-alike}
 use Rattle.promises.specs.Books as page
 use Rattle.promises.specs.Books.{size, AddsUp, overCurves, bookOver, Accepted, CallsMade, LowestAbove, NoLowerBook, ThinnedBook, putsAt, PutsMade, Moved, kept, calls-moved, puts-moved, BondsMoved, AnyCurveBooks}
 use Rattle.promises.specs.laws.BookAnswers.{Cause, by-checks, by-value, by-sum, all-passed, cause, answer-of-checks, checked-alone}
@@ -58,8 +58,15 @@ size-in b e = go (outside 1 32 (size b)) refl
     go true f = absurd (let p = sym (by-size b f) ∙ e in let z : _≡_ {A = ℕ} 0 1 = cc in omega arith)
     go false f = refl
 
+pub desks-in : (b : Book) → bookChecks b ≡ book.Passed → firstRefused (deskCheck (b .fields)) (size b) 0 ≡ book.Passed
+desks-in b e = go (firstRefused (deskCheck (b .fields)) (size b) 0) refl
+  where
+    go : (d : BookCheck) → firstRefused (deskCheck (b .fields)) (size b) 0 ≡ d → d ≡ book.Passed
+    go book.Passed d = refl
+    go (book.Refused bond q) d = absurd (let p = sym (by-desks b (size-in b e) d) ∙ e in let z : _≡_ {A = ℕ} 0 1 = cc in omega arith)
+
 pub bonds-pass : (b : Book) → bookChecks b ≡ book.Passed → (i : ℕ) → i < size b → bondCheck (b .shared) (b .lists) (holding b i) ≡ check.Passed
-bonds-pass b e = all-pass _ (size b) (sym (by-bonds b (size-in b e)) ∙ e)
+bonds-pass b e = all-pass _ (size b) (sym (by-bonds b (size-in b e) (desks-in b e)) ∙ e)
 
 pub trees-pass : (b : Book) → bookChecks b ≡ book.Passed → (i : ℕ) → i < size b → treeChecks (marketAt b i) (callsAt b i) ≡ check.Passed
 trees-pass b e i h = tree-passed (b .shared) (b .lists) (holding b i) (bonds-pass b e i h)
@@ -82,7 +89,10 @@ lower-27 {q = q} (rule.refused-27 {place = k}) e = let p : record { number = 27;
 -- Bonds that are valued alike.
 pub book-alike : (f g : ℕ → TreeValue) (b : Book) → ((i : ℕ) → i < size b → f i ≡ g i) → bookBy f b ≡ bookBy g b
 unfolding bookBy
-book-alike f g b h = let n = size b in ap (onBook (bookChecks b) refusedBook) (sym (answer-is f n) ∙ ap (λ (v : Valued). answerOf v n) (valued-alike f g n h) ∙ answer-is g n)
+book-alike f g b h =
+    let n = size b in
+    let d = deskOf b in
+    ap (onBook (bookChecks b) refusedBook) (sym (answer-is f d n) ∙ ap (λ (v : Valued). answerOf v d n) (valued-alike f g n h) ∙ answer-is g d n)
 
 -- ---- call lists
 
@@ -131,6 +141,13 @@ module _ (first second : Book) (made : CallsMade first second) where
     in-size : outside 1 32 (size second) ≡ false
     in-size = ap (outside 1 32) (made .same-size) ∙ size-in first (a .checked)
 
+    desks-pass : firstRefused (deskCheck (second .fields)) (size second) 0 ≡ book.Passed
+    desks-pass =
+        pass-all _ (size second) 0
+        (λ k l m.
+        let e = made .same-size in
+        ap (λ (d : ℕ). single 40 0 (ltb 7 d)) (made .same-desks k (omega arith)) ∙ all-pass _ (size first) (desks-in first (a .checked)) k (omega arith))
+
     within-of : (i : ℕ) → i < size first → (StrikeAbove (callsAt second i) → ⊥) → AllWithin (callsAt second i)
     within-of i h none =
         elim (strikes-decided (callsAt first i) (callsAt second i) (made .made i h)) [
@@ -145,13 +162,13 @@ module _ (first second : Book) (made : CallsMade first second) where
         let s = low .above in
         let (r, f, n) = tree-made-refused (callsAt first bond) (callsAt second bond) (made .made bond h) (marketAt first bond) (passes bond h) (record { index = s .entry; below = s .of-list; holds = s .above }) in
         let checks : bookChecks second ≡ book.Refused bond r
-        = by-bonds second in-size ∙ first-is _ (size second) 0 bond r (omega arith) (let l = low .of-book in omega arith) (second-check bond h ∙ f) (λ k m l. within-passes k (omega arith) (within-of k (omega arith) (low .lowest k l))) in
+        = by-bonds second in-size desks-pass ∙ first-is _ (size second) 0 bond r (omega arith) (let l = low .of-book in omega arith) (second-check bond h ∙ f) (λ k m l. within-passes k (omega arith) (within-of k (omega arith) (low .lowest k l))) in
         let answer = answer-of-checks (overCurves curves second room) second checks in
         (ap (λ (z : BookAnswer). z .refusal .number) answer ∙ n, ap (λ (z : BookAnswer). z .bond) answer)
 
     module _ (within : (i : ℕ) → i < size first → AllWithin (callsAt second i)) where
       all-checked : bookChecks second ≡ book.Passed
-      all-checked = by-bonds second in-size ∙ pass-all _ (size second) 0 (λ k l m. let e = made .same-size in within-passes k (omega arith) (within k (omega arith)))
+      all-checked = by-bonds second in-size desks-pass ∙ pass-all _ (size second) 0 (λ k l m. let e = made .same-size in within-passes k (omega arith) (within k (omega arith)))
 
       no-lower : (i : ℕ) → i < size first → NoLowerOr27 (a .values i) (overCurves curves second room i)
       no-lower i h =
@@ -169,7 +186,7 @@ module _ (first second : Book) (made : CallsMade first second) where
           page.refused-27 (lower-27 (no-lower _ (omega arith)) (g .refused))
       book-no-lower (by-sum e f g) = page.refused-27 (sum-27 _ _ (first-refused _ (size second) g .refused))
       book-no-lower (all-passed e f g) =
-          page.accepted _ _
+          page.accepted _ _ _
           (λ i h.
           let k = made .same-size in
           subst (λ (y : Float). T (le (a .values i) y)) (sym (placed-at (λ i. valueOf (overCurves curves second room i)) plusZero (size second) i h))
@@ -231,24 +248,31 @@ module _ (first second : Book) (moved : BondsMoved first second) where
       (cuts-alike (ap (λ (f : Fields). holdingAt f i) (moved .same-fields)) (moved .same-leg) (moved .same-calls) (moved .same-puts))
       ∙ ap (onCheck (firstOf (cutChecks (holding first i) (legLengths (first .lists .leg)) (entryLengths (first .lists .calls)) (entryLengths (first .lists .puts)))) check.Refused) (moved-checks (moved .moved i h))
 
+  same-desk-checks : firstRefused (deskCheck (second .fields)) (size second) 0 ≡ firstRefused (deskCheck (first .fields)) (size first) 0
+  same-desk-checks = ap (λ (f : Fields). firstRefused (deskCheck f) (sizeOf f) 0) (moved .same-fields)
+
   pub same-checks : bookChecks second ≡ bookChecks first
   same-checks = go (outside 1 32 (size first)) refl
     where
-      go : (o : Bool) → outside 1 32 (size first) ≡ o → bookChecks second ≡ bookChecks first
-      go true e = by-size second (ap (outside 1 32) same-size ∙ e) ∙ sym (by-size first e)
-      go false e =
-          by-bonds second (ap (outside 1 32) same-size ∙ e)
+      go-desks : outside 1 32 (size first) ≡ false → (d : BookCheck) → firstRefused (deskCheck (first .fields)) (size first) 0 ≡ d → bookChecks second ≡ bookChecks first
+      go-desks e (book.Refused bond q) d = by-desks second (ap (outside 1 32) same-size ∙ e) (same-desk-checks ∙ d) ∙ sym (by-desks first e d)
+      go-desks e book.Passed d =
+          by-bonds second (ap (outside 1 32) same-size ∙ e) (same-desk-checks ∙ d)
           ∙ ap (λ (n : ℕ). firstRefused (λ i. bondCheck (second .shared) (second .lists) (holding second i)) n 0) same-size
           ∙ same-first _ _ (size first) 0 (λ k l m. same-bond k (omega arith))
-          ∙ sym (by-bonds first e)
+          ∙ sym (by-bonds first e d)
+
+      go : (o : Bool) → outside 1 32 (size first) ≡ o → bookChecks second ≡ bookChecks first
+      go true e = by-size second (ap (outside 1 32) same-size ∙ e) ∙ sym (by-size first e)
+      go false e = go-desks e (firstRefused (deskCheck (first .fields)) (size first) 0) refl
 
   pub same-book : (curves : ℕ → Float → ℕ → Answer) (room : Room) → bookOver curves second room ≡ bookOver curves first room
   unfolding bookBy
   same-book curves room =
       let f = overCurves curves second room in
       let g = overCurves curves first room in
-      ap (λ (k : BookCheck). onBook k refusedBook (valuedBook f (size second))) same-checks
-      ∙ ap (λ (k : ℕ). onBook (bookChecks first) refusedBook (valuedBook f k)) same-size
+      ap (λ (k : BookCheck). onBook k refusedBook (valuedBook f (deskOf second) (size second))) same-checks
+      ∙ ap (λ (z : Fields). onBook (bookChecks first) refusedBook (valuedBook f (λ i. getD (z .desks) i 0) (sizeOf z))) (moved .same-fields)
       ∙ book-alike f g first (λ i h. moved-values (moved .moved i h) (curves i) room)
 
   pub same-left : (lent : Lent) → bookLent second lent ≡ bookLent first lent

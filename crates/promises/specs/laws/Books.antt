@@ -2,7 +2,7 @@
 use Prim.Native.Nat.{ℕ, zero, suc, _+_, _-_, _<_, _≤_}
 use native.Mathlib.Omega.{arith}
 use mathlib.Core.Path.{_≡_, refl, sym, ap, subst, _∙_}
-use mathlib.Core.Logic.{_↔_, _⊎_, inl, inr}
+use mathlib.Core.Logic.{_⊎_, inl, inr}
 use mathlib.Core.List.{List, _++_}
 use lib.Dec.{T}
 use lib.ListN.{getD, replicate}
@@ -22,17 +22,19 @@ use Rattle.bookchecks.specs.Book.{Book, sizeOf, holding, marketAt, callsAt}
 use Rattle.bookchecks.specs.Checks.{firstRefused, bookChecks}
 use Rattle.bookchecks.specs.laws.Naming.{all-pass, first-refused}
 use Rattle.bookvalue.specs.declared.BookAnswer.{BookAnswer}
-use Rattle.bookvalue.specs.Values.{bondValue, refusedTree, placed, sumCheck, totalTo, refusedBook, acceptedBook, bookBy, bookValue}
+use Rattle.bookvalue.specs.Values.{bondValue, refusedTree, placed, sumCheck, deskOf, refusedBook, acceptedBook, bookBy, bookValue}
 use Rattle.bookvalue.specs.Entry.{bookLent}
 use Rattle.bookvalue.specs.laws.Placed.{placed-at, each-alike}
-use Rattle.promises.specs.HostCallLists.{TreeCall, SizesCall}
+use Rattle.promises.specs.HostCallLists.{TreeCall, SizesCall, BookCall}
 use Rattle.promises.specs.Rooms.{SameOr21, same, first-21, second-21}
 use Rattle.promises.specs.laws.Rooms.{any-room, same-in-any-room}
-use Rattle.promises.specs.Sizing.{AsLong, lengthsIn}
+use Rattle.promises.specs.OneCount.{totalTo}
+use Rattle.promises.specs.laws.DeskCounts.{together, desk-in}
+use Rattle.promises.specs.Sizing.{AsLong, lengthsIn, BookSizingRule}
 use Rattle.promises.specs.laws.Sizing.{sizing-rule}
 use Rattle.promises.specs.Books as page
-use Rattle.promises.specs.Books.{BookCall, size, NoValues, Alone, AllOrNone, BookRule, overCurves, bookOver, Accepted, CallsMade, LowestAbove, NoLowerBook, ThinnedBook, ThinnedCall, BookCallListRule, putsAt, PutsMade, BookPutListRule, BondsMoved, SameBooks, BookReorderingRule, BookSizingRule}
-use Rattle.promises.specs.laws.BookAnswers.{Cause, by-checks, by-value, by-sum, all-passed, cause, valuesOf, countsOf, CheckNumber, of-cut, of-settings, of-day-count, of-tree, check-number, Checked, of-size, of-bond, checks-refused, checks-not-0, tree-not-0, refused-by-check}
+use Rattle.promises.specs.Books.{size, NoValues, Alone, AllOrNone, BookRule, overCurves, bookOver, Accepted, CallsMade, LowestAbove, NoLowerBook, ThinnedBook, ThinnedCall, BookCallListRule, putsAt, PutsMade, BookPutListRule, BondsMoved, SameBooks, BookReorderingRule}
+use Rattle.promises.specs.laws.BookAnswers.{Cause, by-checks, by-value, by-sum, all-passed, cause, valuesOf, countsOf, CheckNumber, of-cut, of-settings, of-day-count, of-tree, check-number, Checked, of-size, of-desk, of-bond, checks-refused, checks-not-0, tree-not-0, refused-by-check}
 use Rattle.promises.specs.laws.BookRules.{sum-27, none-above, decided, thinned, book-alike, moved-curves, same-book, same-left}
 
 -- ---- accepted
@@ -54,7 +56,7 @@ pub record Valued (b : Book) (room : Room) (answer : BookAnswer) : Type 0 where
   pub checked : bookChecks b ≡ book.Passed
   pub values : (i : ℕ) → i < size b → bondValue b room i ≡ Value (valueOf (bondValue b room i)) (countedBy (bondValue b room i))
   pub summed : firstRefused (sumCheck (valuesOf (bondValue b room) b)) (size b) 0 ≡ book.Passed
-  pub answer-is : answer ≡ acceptedBook (valuesOf (bondValue b room) b) (countsOf (bondValue b room) b) (size b)
+  pub answer-is : answer ≡ acceptedBook (valuesOf (bondValue b room) b) (deskOf b) (countsOf (bondValue b room) b) (size b)
 
 pub valued : (b : Book) (room : Room) {answer : BookAnswer} → Cause (bondValue b room) b answer → answer .refusal .number ≡ 0 → Valued b room answer
 valued b room (by-checks e) z = absurd (checks-not-0 b e z)
@@ -83,7 +85,7 @@ module _ {b : Book} (c : BookCall b) where
 
 -- ---- all or none
 
-none-of : (b : Book) (room : Room) {answer : BookAnswer} → Cause (bondValue b room) b answer → (answer .refusal .number ≡ 0 → ⊥) → (answer .values ≡ replicate 32 plusZero) × (answer .sum ≡ plusZero) × (answer .count ≡ 0)
+none-of : (b : Book) (room : Room) {answer : BookAnswer} → Cause (bondValue b room) b answer → (answer .refusal .number ≡ 0 → ⊥) → (answer .values ≡ replicate 32 plusZero) × (answer .sum ≡ plusZero) × (answer .counts ≡ replicate 8 0)
 none-of b room (by-checks e) n = (refl, refl, refl)
 none-of b room (by-value e f) n = (refl, refl, refl)
 none-of b room (by-sum e f g) n = (refl, refl, refl)
@@ -108,15 +110,16 @@ book-rule b c =
     record {
       refused = λ n.
           let (v, s, k) = none-of b room (cause (bondValue b room) b) (λ y. n (p .number-is ∙ y)) in
-          record { values = p .values-are ∙ v; sum = p .sum-is ∙ s; count = p .count-is ∙ k };
+          record { values = p .values-are ∙ v; sum = p .sum-is ∙ s; counts = p .counts-are ∙ k };
       accepted = λ z i h.
           record {
             same-slices = λ t as-long. same-alone c z i h t (ap (treeValue (marketAt b i) (callsAt b i)) as-long);
             any-slices = λ t. any-alone c z i h t (any-room (marketAt b i) (callsAt b i) (roomOf (t .lent)) room) refl refl;
           };
       counts = λ z alone zeros.
-          p .count-is
-          ∙ ap (λ (r : BookAnswer). r .count) (valued-call c z .answer-is)
+          let v = valued-call c z in
+          ap (λ (l : List ℕ). totalTo l 8) (p .counts-are ∙ ap (λ (r : BookAnswer). r .counts) (v .answer-is))
+          ∙ together (deskOf b) (countsOf (bondValue b room) b) (size b) (λ i h. desk-in b (v .checked) i h)
           ∙ ap (λ (l : List ℕ). totalTo (l ++ replicate (32 - size b) 0) (size b)) (each-alike (λ i. countedBy (bondValue b room i)) (λ i. alone i .nodes) (size b) (λ i h. counted-alone b c z i h (alone i) (zeros i h)));
     }
   where
@@ -135,7 +138,7 @@ unfolding treeValue
 over-own b room = refl
 
 number-of : {values : ℕ → Float} {n : ℕ} {answer : BookAnswer} → NoLowerBook values n answer → answer .refusal .number ≡ 4 → ⊥
-number-of (page.accepted ys counts l) e = omega arith
+number-of (page.accepted ys desk counts l) e = omega arith
 number-of (page.refused-27 t) e = omega arith
 
 module _ (first second : Book) (made : CallsMade first second) (a : BookCall first) (c : BookCall second) (as-long : roomOf (c .lent) ≡ roomOf (a .lent)) (z : a .number ≡ 0) where
@@ -159,7 +162,7 @@ module _ (first second : Book) (made : CallsMade first second) (a : BookCall fir
   as-handed : {r : BookAnswer} → NoLowerBook (accepted-call a z .values) (size second) r → over ≡ r
       → ((c .number ≡ 0) × ((i : ℕ) → i < size second → T (le (getD (a .values) i plusZero) (getD (c .values) i plusZero)))) ⊎ (c .number ≡ 27)
   unfolding accepted-call
-  as-handed (page.accepted ys counts l) e =
+  as-handed (page.accepted ys desk counts l) e =
       inl (
         number-is ∙ ap (λ (r : BookAnswer). r .refusal .number) e,
         λ i h.
@@ -170,17 +173,18 @@ module _ (first second : Book) (made : CallsMade first second) (a : BookCall fir
       )
   as-handed (page.refused-27 t) e = inr (number-is ∙ ap (λ (r : BookAnswer). r .refusal .number) e ∙ t)
 
+  bond-is : c .bond ≡ over .bond
+  bond-is = c .handed .handed .bond-is ∙ ap (λ (r : BookAnswer). r .bond) same-answer
+
   thinned-call : ThinnedCall a c
   thinned-call =
       record {
-        with-4 = (
-          (λ e.
-              elim (decided first second made (size first) (omega arith)) [
-                | inl low ↦ subst (LowestAbove second) (sym (c .handed .handed .bond-is ∙ ap (λ (r : BookAnswer). r .bond) same-answer ∙ thin .with-4 (low .0) (low .1) .1)) (low .1)
-                | inr within ↦ absurd (number-of (thin .otherwise (none-above first second made within)) (sym number-is ∙ e))
-              ]),
-          (λ low. number-is ∙ thin .with-4 (c .bond) low .0),
-        );
+        with-4 = λ bond low. let t = thin .with-4 bond low in (number-is ∙ t .0, bond-is ∙ t .1);
+        only-then = λ e.
+            elim (decided first second made (size first) (omega arith)) [
+              | inl low ↦ subst (LowestAbove second) (sym (bond-is ∙ thin .with-4 (low .0) (low .1) .1)) (low .1)
+              | inr within ↦ absurd (number-of (thin .otherwise (none-above first second made within)) (sym number-is ∙ e))
+            ];
         otherwise = λ none. as-handed (thin .otherwise none) refl;
       }
 
@@ -220,7 +224,7 @@ book-reordering-rule first second moved a c as-long =
       bond = q .bond-is ∙ ap (λ (r : BookAnswer). r .bond) e ∙ sym (p .bond-is);
       values = q .values-are ∙ ap (λ (r : BookAnswer). r .values) e ∙ sym (p .values-are);
       sum = q .sum-is ∙ ap (λ (r : BookAnswer). r .sum) e ∙ sym (p .sum-is);
-      count = q .count-is ∙ ap (λ (r : BookAnswer). r .count) e ∙ sym (p .count-is);
+      counts = q .counts-are ∙ ap (λ (r : BookAnswer). r .counts) e ∙ sym (p .counts-are);
       slices = λ alike. c .handed .slices ∙ same-left first second moved (c .lent) ∙ ap (bookLent first) alike ∙ sym (a .handed .slices);
     }
 
@@ -256,6 +260,7 @@ module _ (b : Book) (c : BookCall b) (sizes : (i : ℕ) → SizesCall (marketAt 
 
   checks-never : {bond : ℕ} {q : Refusal} → Checked b bond q → q .number ≡ 21 → ⊥
   checks-never {bond} {q} (of-size e) n = let k : q .number ≡ 39 = ap (λ (r : Refusal). r .number) e in omega arith
+  checks-never {bond} {q} (of-desk e) n = let k : q .number ≡ 40 = ap (λ (r : Refusal). r .number) e in omega arith
   checks-never {bond} (of-bond f) n = check-never bond (f .of-book) (check-number (b .shared) (b .lists) (holding b bond) (f .refused)) n
 
   answer-never : {answer : BookAnswer} → Cause (bondValue b (roomOf (c .lent))) b answer → answer .refusal .number ≡ 21 → ⊥

@@ -9,11 +9,11 @@ four-amiss-requires c κs = search tests
 returns : tie.Need-returns
 returns c = search tests
 
-three-amiss-requires : tie.Need-three-amiss-requires
-three-amiss-requires c κs = search tests
+four-amiss-requires-2 : tie.Need-four-amiss-requires-2
+four-amiss-requires-2 c κs = search tests
 
 returns-2 : tie.Need-returns-2
 returns-2 c = search tests
 
 pub fields-amiss-spec : {M : Type 1} → statement M
-fields-amiss-spec = tie.close (tie.spec four-amiss-requires returns three-amiss-requires returns-2)
+fields-amiss-spec = tie.close (tie.spec four-amiss-requires returns four-amiss-requires-2 returns-2)

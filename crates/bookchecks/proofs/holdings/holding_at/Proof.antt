@@ -40,10 +40,13 @@ count-at-requires-3 c κs = search needs
 float-at-requires-2 : tie.Need-float-at-requires-2
 float-at-requires-2 c κs = search needs
 
+count-at-requires-4 : tie.Need-count-at-requires-4
+count-at-requires-4 c κs = search needs
+
 returns : tie.Need-returns
 unfolding holdingAt
 returns c =
-    rw (c .float-at2 .ensures, c .before .count-at3 .ensures, c .before .before .count-at2 .ensures, c .before .before .before .float-at .ensures, c .before .before .before .before .count-at .ensures, c .before .before .before .before .before .part-of3 .ensures, c .before .before .before .before .before .before .part-of2 .ensures, c .before .before .before .before .before .before .before .part-of .ensures, c .before .before .before .before .before .before .before .before .fields-amiss .ensures, c .before .before .before .before .before .before .before .before .before .unset .ensures)
+    rw (c .count-at4 .ensures, c .before .float-at2 .ensures, c .before .before .count-at3 .ensures, c .before .before .before .count-at2 .ensures, c .before .before .before .before .float-at .ensures, c .before .before .before .before .before .count-at .ensures, c .before .before .before .before .before .before .part-of3 .ensures, c .before .before .before .before .before .before .before .part-of2 .ensures, c .before .before .before .before .before .before .before .before .part-of .ensures, c .before .before .before .before .before .before .before .before .before .fields-amiss .ensures, c .before .before .before .before .before .before .before .before .before .before .unset .ensures)
 
 pub holding-at-spec : {M : Type 1} → statement M
 holding-at-spec =
@@ -61,4 +64,5 @@ holding-at-spec =
     count-at-requires-2
     count-at-requires-3
     float-at-requires-2
+    count-at-requires-4
     returns)

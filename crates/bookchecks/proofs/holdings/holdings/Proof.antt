@@ -9,16 +9,16 @@ use Rattle.bookchecks.proofs.holdings.holdings.Statement.{statement}
 use Rattle.bookchecks.proofs.holdings.holdings.Tie as tie
 
 abbrev Inv-loop : tie.InvT-loop
-Inv-loop codes cashflows units calls puts yearly maximum spreads table₀ i₀ table i =
+Inv-loop codes cashflows units calls puts yearly maximum spreads desks table₀ i₀ table i =
     Filling
-    (holdingAt (record { codes = codes; cashflows = cashflows; units = units; calls = calls; puts = puts; perYear = yearly; maximum = maximum; spreads = spreads }))
+    (holdingAt (record { codes = codes; cashflows = cashflows; units = units; calls = calls; puts = puts; perYear = yearly; maximum = maximum; spreads = spreads; desks = desks }))
     pastEnd
     32
     i
     table
 
 abbrev μ-loop : tie.MeasureT-loop
-μ-loop codes cashflows units calls puts yearly maximum spreads table₀ i₀ table i = length cashflows - i
+μ-loop codes cashflows units calls puts yearly maximum spreads desks table₀ i₀ table i = length cashflows - i
 
 loop-holds : tie.Need-loop-holds Inv-loop μ-loop
 loop-holds c = fill-begin _ _ 32 _
@@ -39,7 +39,7 @@ loop-less : tie.Need-loop-less Inv-loop μ-loop
 loop-less c = search needs
 
 loop-again : tie.Need-loop-again Inv-loop μ-loop
-loop-again c = fill-more _ _ 32 _ _ (c .before .before .loop .inv) (omega (arith, c .before .before .before .before .before .before .before .before .before .before .before .pre)) (c .holding-at .ensures)
+loop-again c = fill-more _ _ 32 _ _ (c .before .before .loop .inv) (omega (arith, c .before .before .before .before .before .before .before .before .before .before .before .before .pre)) (c .holding-at .ensures)
 
 returns : tie.Need-returns Inv-loop μ-loop
 returns c = held _ _ _ (c .loop-test .left) (c .before .loop .inv)

@@ -12,7 +12,7 @@ refused-book-requires : tie.Need-refused-book-requires
 refused-book-requires c κs = search needs
 
 returns : tie.Need-returns
-returns c = c .refused-book .ensures ∙ answer-refused _ _ (c .before .before .check .given .1)
+returns c = c .refused-book .ensures ∙ answer-refused _ _ _ (c .before .before .check .given .1)
 
 enum-told : tie.Need-enum-told
 enum-told c = search needs
@@ -21,7 +21,7 @@ summed-requires : tie.Need-summed-requires
 summed-requires c κs = search needs
 
 returns-2 : tie.Need-returns-2
-returns-2 c = c .summed .ensures ∙ answer-summed _ _ (c .before .before .before .enum-told .given .1)
+returns-2 c = c .summed .ensures ∙ answer-summed _ _ _ (c .before .before .before .enum-told .given .1)
 
 pub answer-of-spec : {M : Type 1} → statement M
 answer-of-spec =

@@ -8,8 +8,8 @@ use Rattle.bookvalue.proofs.answers.summed.Tie as tie
 sum-of-requires : tie.Need-sum-of-requires
 sum-of-requires c κs = search needs
 
-total-of-requires : tie.Need-total-of-requires
-total-of-requires c κs = search needs
+desk-counts-requires : tie.Need-desk-counts-requires
+desk-counts-requires c κs = search needs
 
 enum-known-added : tie.Need-enum-known-added
 enum-known-added c = search needs
@@ -21,17 +21,17 @@ refused-book-requires : tie.Need-refused-book-requires
 refused-book-requires c κs = search needs
 
 returns : tie.Need-returns
-returns c = summed-sum _ _ _ (c .before .before .before .before .sum-of .ensures) (c .before .added .given .1) (c .before .before .before .total-of .ensures)
+returns c = summed-sum _ _ _ _ (c .before .before .before .before .sum-of .ensures) (c .before .added .given .1) (c .before .before .before .desk-counts .ensures)
 
 returns-2 : tie.Need-returns-2
-returns-2 c = c .refused-book .ensures ∙ summed-refused _ _ _ (c .before .before .before .before .before .sum-of .ensures) (c .before .before .added2 .given .1)
+returns-2 c = c .refused-book .ensures ∙ summed-refused _ _ _ _ (c .before .before .before .before .before .sum-of .ensures) (c .before .before .added2 .given .1)
 
 pub summed-spec : {M : Type 1} → statement M
 summed-spec =
     tie.close
     (tie.spec
     sum-of-requires
-    total-of-requires
+    desk-counts-requires
     enum-known-added
     enum-known-added-2
     refused-book-requires
