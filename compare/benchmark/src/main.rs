@@ -1,4 +1,5 @@
 //! Nanoseconds per call of the proved functions beside Rust code of the same rules, in one run.
+mod books;
 mod daycounts;
 mod entries;
 mod notices;
@@ -72,6 +73,9 @@ fn main() {
     if words[1..] == ["--table"] {
         return tables::run();
     }
+    if words[1..] == ["--books"] {
+        return books::run();
+    }
     if let [_, word, entry, bytes] = &words[..] {
         assert_eq!(word, "--stack");
         return trees::on_stack(entry, bytes.parse().expect("--stack takes an entry and a number of bytes"));
@@ -106,5 +110,6 @@ fn main() {
     sheet::run();
     daycounts::run();
     puts::run();
+    books::run();
     entries::run();
 }

@@ -1,6 +1,7 @@
 //! The tree value of an ordinary callable bond beside the published text, at four sizes; the widest tree; the stack.
 use crate::entries::timed;
 use host::Lent;
+use reading::book::Book;
 use reading::ordinary;
 use reading::treebasedbondpricer::{Room, Terms};
 use std::hint::black_box;
@@ -64,6 +65,7 @@ pub fn on_stack(entry: &str, bytes: usize) {
     let called = std::thread::Builder::new().stack_size(bytes).spawn(move || match entry.as_str() {
         "spread" => host::spread_from_price(&terms, 100.0, &mut lent).0.is_ok(),
         "table" => host::spread_table(&terms, &[0.0], &[0.0], &mut lent).0 == 0,
+        "book" => host::book_value(&Book::of(&[terms], &[0]), &mut lent).is_ok(),
         _ => host::tree_value(&terms, &mut lent).is_ok(),
     });
     assert!(called.expect("a thread starts").join().is_ok_and(|accepted| accepted));
@@ -90,6 +92,6 @@ fn stack(entry: &str) -> usize {
 }
 
 pub fn stacks() {
-    let [value, spread, table] = ["tree", "spread", "table"].map(stack);
-    println!("512 steps need a thread with {value} KB of stack for the tree value, {spread} KB for the spread from price, {table} KB for a table");
+    let [value, spread, table, book] = ["tree", "spread", "table", "book"].map(stack);
+    println!("512 steps need a thread with {value} KB of stack for the tree value, {spread} KB for the spread from price, {table} KB for a table, {book} KB for a book");
 }

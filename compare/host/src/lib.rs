@@ -1,11 +1,14 @@
 //! The C interface, declared as in include/gutirapeo.h, behind safe functions.
+mod books;
 mod c;
+mod cbooks;
 mod notices;
 mod sheets;
 mod sizing;
 mod tables;
 mod tree;
 
+pub use books::book_value;
 pub use notices::call_list;
 pub use sheets::closing_line;
 pub use sizing::sizes;

@@ -12,6 +12,7 @@ extern crate std;
 pub mod bondanalytics;
 pub mod bondevents;
 pub mod bondpricer;
+pub mod book;
 pub mod daycount;
 pub mod elementary;
 pub mod exact;

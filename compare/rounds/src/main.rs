@@ -7,7 +7,11 @@
 //! this seed say too little, or a refusal is given no more. With a seed that is fixed neither is chance.
 //!
 //! The quick round takes seconds; the long one has 10^7 cases for each elementary function and 10^6 or more for each entry.
+mod bookexamples;
+mod books;
+mod bookterms;
 mod calllists;
+mod desks;
 mod elementary;
 mod faults;
 mod grid;
@@ -53,7 +57,7 @@ fn main() {
         return;
     }
     let mut found = elementary::round(long, seed, &wanted);
-    let entries: [(&str, fn(bool, u64) -> Found); 11] = [
+    let entries: [(&str, fn(bool, u64) -> Found); 12] = [
         ("grid", grid::round),
         ("tree", tree::round),
         ("monthends", monthends::round),
@@ -65,6 +69,7 @@ fn main() {
         ("sheet", sheet::round),
         ("sizing", sizing::round),
         ("table", table::round),
+        ("books", books::round),
     ];
     for (name, round) in entries {
         if wanted(name) {
