@@ -330,9 +330,9 @@ uint32_t gutirapeo_sizes(uint32_t settlement, uint32_t day_count,
  * book order from 0, and for each of eight desks the sum of its bonds' node counts.
  *
  * Each bond has a place in day_counts, cashflow_counts, units, call_counts, put_counts, steps_per_year, max_steps, spreads and
- * desks (0 to 7); the number of cashflow_counts is the size of the book. Cashflows, calls and puts of all bonds stand one after the other in the other
- * arrays, so many for each bond as its counts say. Each value is that of gutirapeo_tree_value for the bond alone with the same
- * slices, every bond having the whole of them.
+ * desks (0 to 7); the number of cashflow_counts is the size of the book. Cashflows, calls and puts of all bonds stand one after
+ * the other in the other arrays, so many for each bond as its counts say. Each value is that of gutirapeo_tree_value for the bond
+ * alone with the same slices, every bond having the whole of them.
  *
  * All bonds are checked before any is valued. *bond, from 0, names the bond that is refused: the first in book order that the
  * checks refuse, or, where they refuse none, the first refused while it is valued. The refusal and its place are those of the bond

@@ -7,6 +7,7 @@ mod sheets;
 mod sizing;
 mod tables;
 mod tree;
+mod withterms;
 
 pub use books::book_value;
 pub use notices::call_list;

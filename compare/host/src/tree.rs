@@ -1,5 +1,6 @@
 //! The tree value and spread from price entries, and the slices that they are lent.
-use crate::{answer, c, PATTERN};
+use crate::withterms::with_terms;
+use crate::{answer, PATTERN};
 use reading::treebasedbondpricer::{Room, Terms};
 use reading::{Answer, Outcome};
 
@@ -79,40 +80,7 @@ pub fn tree_value(terms: &Terms, lent: &mut Lent) -> Outcome<(f64, u64)> {
     let (nodes, nodes_len) = lend(&mut lent.nodes);
     let [(probabilities, probabilities_len), (first, first_len), (second, second_len)] = lent.floats.each_mut().map(|row| lend(row));
     let number = unsafe {
-        c::gutirapeo_tree_value(
-            terms.settlement,
-            terms.code,
-            terms.leg.days.as_ptr(),
-            terms.leg.days.len(),
-            terms.leg.kinds.as_ptr(),
-            terms.leg.kinds.len(),
-            terms.leg.amounts.as_ptr(),
-            terms.leg.amounts.len(),
-            terms.units,
-            terms.calls.starts.as_ptr(),
-            terms.calls.starts.len(),
-            terms.calls.ends.as_ptr(),
-            terms.calls.ends.len(),
-            terms.calls.strikes.as_ptr(),
-            terms.calls.strikes.len(),
-            terms.puts.starts.as_ptr(),
-            terms.puts.starts.len(),
-            terms.puts.ends.as_ptr(),
-            terms.puts.ends.len(),
-            terms.puts.strikes.as_ptr(),
-            terms.puts.strikes.len(),
-            terms.settings.0,
-            terms.settings.1,
-            terms.alpha,
-            terms.sigma.times.as_ptr(),
-            terms.sigma.times.len(),
-            terms.sigma.sigmas.as_ptr(),
-            terms.sigma.sigmas.len(),
-            terms.spread,
-            terms.pillars.days.as_ptr(),
-            terms.pillars.days.len(),
-            terms.pillars.factors.as_ptr(),
-            terms.pillars.factors.len(),
+        with_terms!(gutirapeo_tree_value, [], terms, [terms.spread], [
             nodes,
             nodes_len,
             probabilities,
@@ -124,7 +92,7 @@ pub fn tree_value(terms: &Terms, lent: &mut Lent) -> Outcome<(f64, u64)> {
             &mut place,
             &mut value,
             &mut node_count,
-        )
+        ])
     };
     if number != 0 {
         assert_eq!(node_count, 0, "refusal {number} left a node count");
@@ -138,40 +106,7 @@ pub fn spread_from_price(terms: &Terms, target: f64, lent: &mut Lent) -> (Answer
     let (nodes, nodes_len) = lend(&mut lent.nodes);
     let [(probabilities, probabilities_len), (first, first_len), (second, second_len)] = lent.floats.each_mut().map(|row| lend(row));
     let number = unsafe {
-        c::gutirapeo_spread_from_price(
-            terms.settlement,
-            terms.code,
-            terms.leg.days.as_ptr(),
-            terms.leg.days.len(),
-            terms.leg.kinds.as_ptr(),
-            terms.leg.kinds.len(),
-            terms.leg.amounts.as_ptr(),
-            terms.leg.amounts.len(),
-            terms.units,
-            terms.calls.starts.as_ptr(),
-            terms.calls.starts.len(),
-            terms.calls.ends.as_ptr(),
-            terms.calls.ends.len(),
-            terms.calls.strikes.as_ptr(),
-            terms.calls.strikes.len(),
-            terms.puts.starts.as_ptr(),
-            terms.puts.starts.len(),
-            terms.puts.ends.as_ptr(),
-            terms.puts.ends.len(),
-            terms.puts.strikes.as_ptr(),
-            terms.puts.strikes.len(),
-            terms.settings.0,
-            terms.settings.1,
-            terms.alpha,
-            terms.sigma.times.as_ptr(),
-            terms.sigma.times.len(),
-            terms.sigma.sigmas.as_ptr(),
-            terms.sigma.sigmas.len(),
-            target,
-            terms.pillars.days.as_ptr(),
-            terms.pillars.days.len(),
-            terms.pillars.factors.as_ptr(),
-            terms.pillars.factors.len(),
+        with_terms!(gutirapeo_spread_from_price, [], terms, [target], [
             nodes,
             nodes_len,
             probabilities,
@@ -183,7 +118,7 @@ pub fn spread_from_price(terms: &Terms, target: f64, lent: &mut Lent) -> (Answer
             &mut place,
             &mut spread,
             &mut tried,
-        )
+        ])
     };
     (answer(number, place, spread), tried)
 }
