@@ -8,6 +8,7 @@
 //!
 //! The quick round takes seconds; the long one has 10^7 cases for each elementary function and 10^6 or more for each entry.
 mod bookexamples;
+mod bookrecords;
 mod books;
 mod bookterms;
 mod calllists;

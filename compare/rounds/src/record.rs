@@ -1,5 +1,5 @@
 //! A record of the stored sample: 223 words of 64 bits at the places below, floats as their bits.
-use reading::terms::Calls;
+use reading::terms::{Calls, Pillars, Sigma};
 use reading::treebasedbondpricer::Terms;
 use reading::Refusal;
 
@@ -37,7 +37,7 @@ pub fn numbers(record: &mut Record, at: usize, values: impl Iterator<Item = u64>
 }
 
 /// A list of calls or puts.
-fn entries(record: &mut Record, at: usize, list: &Calls) {
+pub fn entries(record: &mut Record, at: usize, list: &Calls) {
     record[at] = list.starts.len() as u64;
     numbers(record, at + 1, list.starts.iter().map(|&n| u64::from(n)));
     numbers(record, at + 1 + CALLS, list.ends.iter().map(|&n| u64::from(n)));
@@ -57,14 +57,19 @@ pub fn inputs(kind: u64, t: &Terms) -> Record {
     entries(&mut r, PUT_LIST, &t.puts);
     (r[55], r[56]) = (u64::from(t.settings.0), u64::from(t.settings.1));
     floats(&mut r, 57, &[t.alpha]);
-    r[58] = t.sigma.times.len() as u64;
-    floats(&mut r, 59, &t.sigma.times);
-    floats(&mut r, 63, &t.sigma.sigmas);
     floats(&mut r, 67, &[t.spread]);
-    r[68] = t.pillars.days.len() as u64;
-    numbers(&mut r, 69, t.pillars.days.iter().map(|&n| u64::from(n)));
-    floats(&mut r, 77, &t.pillars.factors);
+    market(&mut r, &t.sigma, &t.pillars);
     r
+}
+
+/// Sigma and the curve.
+pub fn market(record: &mut Record, sigma: &Sigma, pillars: &Pillars) {
+    record[58] = sigma.times.len() as u64;
+    floats(record, 59, &sigma.times);
+    floats(record, 63, &sigma.sigmas);
+    record[68] = pillars.days.len() as u64;
+    numbers(record, 69, pillars.days.iter().map(|&n| u64::from(n)));
+    floats(record, 77, &pillars.factors);
 }
 
 pub fn refused(mut r: Record, refusal: Refusal) -> Record {

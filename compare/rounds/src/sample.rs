@@ -1,7 +1,8 @@
 //! Writes the stored sample that the program `replay` runs without Rust: `rounds --sample FILE`.
 //!
 //! Records are written little-endian. Accepted answers are the published text's where there are no puts; with puts, refusals, lengths of
-//! slices, the call lists of notices, the lines of the closing sheet and the spread by sigma tables are the second reading's.
+//! slices, the call lists of notices, the lines of the closing sheet, the spread by sigma tables and the books are the second reading's.
+use crate::bookrecords::book_records;
 use crate::notices::{damage, good, parallel};
 use crate::random::Random;
 use crate::record::*;
@@ -387,6 +388,7 @@ pub fn write(path: &str, seed: u64, kinds: &[u64]) {
             19 => (0..200).map(|_| sheet_record(&mut random)).collect(),
             20 => sizes_records(&mut random),
             21 => table_records(&mut random),
+            22 => book_records(&mut random),
             _ => (0..60).map(|_| yield_record(&mut random, kind)).collect(),
         };
         bytes.extend(records.iter().flatten().flat_map(|word| word.to_le_bytes()));

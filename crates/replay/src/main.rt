@@ -1,5 +1,6 @@
 // Replays a stored sample against the proved code: reads records from standard input, works each
 // out anew, and writes how many of each kind were replayed and how many differ.
+mod books;
 mod entries;
 mod grids;
 mod lists;
@@ -69,6 +70,12 @@ fn tallied(tally: Tally, record: &[u8; 1784]) -> Tally {
             return tally.table(false);
         }
         return tally.table(trees::same(record));
+    }
+    if kind == 22 {
+        if any_nan(record) {
+            return tally.book(false);
+        }
+        return tally.book(trees::same(record));
     }
     tally.unknown()
 }

@@ -19,6 +19,8 @@ pub struct Tally {
     sizes_differ: u64,
     table: u64,
     table_differ: u64,
+    book: u64,
+    book_differ: u64,
     unknown: u64,
 }
 
@@ -60,6 +62,8 @@ impl Tally {
             sizes_differ: 0,
             table: 0,
             table_differ: 0,
+            book: 0,
+            book_differ: 0,
             unknown: 0,
         }
     }
@@ -112,6 +116,12 @@ impl Tally {
         self
     }
 
+    pub(crate) fn book(mut self, same: bool) -> Self {
+        self.book = one_more(self.book);
+        self.book_differ = one_more_unless(same, self.book_differ);
+        self
+    }
+
     pub(crate) fn unknown(mut self) -> Self {
         self.unknown = one_more(self.unknown);
         self
@@ -126,6 +136,7 @@ impl Tally {
         write_line(b"closing sheet ", self.sheet, self.sheet_differ);
         write_line(b"sizing ", self.sizes, self.sizes_differ);
         write_line(b"spread by sigma table ", self.table, self.table_differ);
+        write_line(b"book ", self.book, self.book_differ);
         io::write_all(1, b"unknown ");
         io::print_decimal(1, self.unknown);
         io::write_all(1, b"\n");

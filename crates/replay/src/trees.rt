@@ -1,6 +1,7 @@
-// The tree value, kind 13, and what is lent to it, to spread from price, kind 14, and to a table, kind 21: at most 8 cashflows, 4 call and 4 put entries, 4 sigma
+// The tree value, kind 13, and what is lent to it, to spread from price, kind 14, to a table, kind 21, and to a book, kind 22: at most 8 cashflows, 4 call and 4 put entries, 4 sigma
 // entries and 8 pillars, and slices of the lengths that a record holds, up to 2,000, 3,000, 100 and 100.
 
+use crate::books;
 use crate::lists::eight_bytes;
 use crate::lists::eight_floats;
 use crate::lists::eight_numbers;
@@ -45,12 +46,15 @@ fn all_floats(xs: &[f64], x: f64) -> bool {
     true
 }
 
-// Whether a refusal leaves the slices untouched: the input's, 1 to 8, 33 to 35, 37 and 44, and a table's 45.
+// Whether a refusal leaves the slices untouched: the input's, 1 to 8, 33 to 35, 37 and 44, a book's 39 and 40, and a table's 45.
 pub(crate) fn of_input(refused: u32) -> bool {
     if refused > 0 && refused < 9 {
         return true;
     }
     if refused > 32 && refused < 36 {
+        return true;
+    }
+    if refused > 38 && refused < 41 {
         return true;
     }
     refused == 37 || refused == 44 || refused == 45
@@ -164,6 +168,9 @@ fn replied(
     }
     if word(record, 0) == 21 {
         return tables::answered(record, nodes, probabilities, first, second);
+    }
+    if word(record, 0) == 22 {
+        return books::answered(record, nodes, probabilities, first, second);
     }
     answered(record, nodes, probabilities, first, second)
 }
