@@ -4,6 +4,7 @@ mod daycounts;
 mod entries;
 mod notices;
 mod puts;
+mod quantlib;
 mod sheet;
 mod sizing;
 mod spreads;
@@ -76,6 +77,10 @@ fn main() {
     if words[1..] == ["--books"] {
         return books::run();
     }
+    if words[1..] == ["--trees"] {
+        trees::run();
+        return quantlib::run();
+    }
     if let [_, word, entry, bytes] = &words[..] {
         assert_eq!(word, "--stack");
         return trees::on_stack(entry, bytes.parse().expect("--stack takes an entry and a number of bytes"));
@@ -112,4 +117,5 @@ fn main() {
     puts::run();
     books::run();
     entries::run();
+    quantlib::run();
 }

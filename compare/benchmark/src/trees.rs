@@ -15,12 +15,27 @@ fn growth(time: f64, before: Option<f64>) -> String {
     before.map_or(String::new(), |before| format!("x {:.1}", time / before))
 }
 
+/// Each bond that is measured: what its steps have in common is what may be kept from one to the next.
+const BONDS: [(&str, fn(u32) -> Terms); 3] = [
+    ("10-year callable", ordinary::bond),
+    ("3,652 days, four sigmas", ordinary::four_sigmas),
+    ("3,653 days, a time step that binary has not", ordinary::odd_days),
+];
+
 pub fn run() {
-    println!("tree value, 10-year callable      Gutirapeo                        text, 01's functions             text, platform's functions");
+    for (name, bond) in BONDS {
+        sizes(name, bond);
+    }
+    wide();
+}
+
+fn sizes(name: &str, bond: fn(u32) -> Terms) {
+    println!("tree value, {name}");
+    println!("                                  Gutirapeo                        text, 01's functions             text, platform's functions");
     println!("steps    nodes        ms   ns/node   growth         ms   ns/node   growth  times as fast         ms  times as fast");
     let mut before: [Option<f64>; 2] = [None; 2];
     for (steps, calls) in SIZES {
-        let terms = ordinary::bond(steps);
+        let terms = bond(steps);
         let mut lent = Lent::new(ordinary::room(steps));
         let (_, nodes) = host::tree_value(&terms, &mut lent).expect("the ordinary bond is accepted");
         let ours = timed(calls, || { let _ = black_box(host::tree_value(black_box(&terms), &mut lent)); });
@@ -44,7 +59,6 @@ pub fn run() {
         );
         before = [Some(ours), Some(theirs)];
     }
-    wide();
 }
 
 /// Alpha far below 0 drives the nodes apart: each layer is wider than the one before, by a factor.

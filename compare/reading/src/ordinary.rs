@@ -35,6 +35,25 @@ pub fn bond(steps: u32) -> Terms {
     }
 }
 
+/// The ordinary bond, its last payments on another day.
+fn until(steps: u32, day: u32) -> Terms {
+    let mut terms = bond(steps);
+    terms.leg.days.iter_mut().rev().take(2).for_each(|last| *last = day);
+    *terms.pillars.days.last_mut().expect("the curve has pillars") = day;
+    terms
+}
+
+/// 3,652 days, and a sigma that changes after one, three and six years.
+pub fn four_sigmas(steps: u32) -> Terms {
+    let sigma = Sigma { times: vec![1.0, 3.0, 6.0, 10.0], sigmas: vec![0.01, 0.012, 0.009, 0.011] };
+    Terms { sigma, ..until(steps, 3_652) }
+}
+
+/// 3,653 days: no number of steps divides them into times that a double holds exactly.
+pub fn odd_days(steps: u32) -> Terms {
+    until(steps, 3_653)
+}
+
 /// Room for any tree in which layer k has at most 2k + 1 nodes.
 pub fn room(steps: u32) -> Room {
     let n = steps as usize;

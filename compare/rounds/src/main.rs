@@ -49,7 +49,11 @@ fn main() {
             _ => names.push(word),
         }
     }
-    let wanted = |name: &str| names.is_empty() || names.iter().any(|n| n == name);
+    let known = std::cell::RefCell::new(Vec::new());
+    let wanted = |name: &str| {
+        known.borrow_mut().push(name.to_owned());
+        names.is_empty() || names.iter().any(|n| n == name)
+    };
     // A refusal of the published text unwinds; its message is of no interest.
     std::panic::set_hook(Box::new(|_| {}));
     if let Some(path) = sample {
@@ -76,6 +80,10 @@ fn main() {
         if wanted(name) {
             found = found + round(long, seed);
         }
+    }
+    if let Some(name) = names.iter().find(|name| !known.borrow().contains(name)) {
+        println!("there is no round {name}; the rounds are {}", known.borrow().join(", "));
+        std::process::exit(3);
     }
     if !published::AVAILABLE {
         println!("the published source is not beside the repository: compared with the reading alone");

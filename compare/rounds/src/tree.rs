@@ -151,12 +151,31 @@ fn examples(readings: &mut Tally, texts: &mut Tally) {
     let _ = compare(readings, texts, &ordinary::bond(512), ordinary::room(512));
 }
 
+/// A continuation that isn't finite is 27 also where the call price below it, or the put price above it, would stand in its place.
+fn hidden(readings: &mut Tally, texts: &mut Tally) {
+    let four_years = |amounts: Vec<f64>, kinds: Vec<u8>| Terms {
+        leg: Leg { days: vec![1460; amounts.len()], kinds, amounts },
+        calls: Calls::default(),
+        settings: (1, 4),
+        pillars: Pillars { days: (0..5).map(|year| 365 * year).collect(), factors: vec![1.0, 7e-294, 9.1e-294, 900.0, 900.0] },
+        ..ordinary::bond(4)
+    };
+    let at_100 = Calls { starts: vec![365], ends: vec![365], strikes: vec![100.0] };
+    let called = Terms { calls: at_100.clone(), ..four_years(vec![1e12, 0.6e12], vec![0, 1]) };
+    let put = Terms { puts: at_100, units: 1.0, ..four_years(vec![-1e12, -0.6e12, 1.0], vec![0, 0, 1]) };
+    for terms in [called, put] {
+        let answer = compare(readings, texts, &terms, AMPLE);
+        readings.case(27, answer.is_err_and(|r| (r.number, r.place) == (27, 1)), || format!("a hidden infinity gives {answer:?}"));
+    }
+}
+
 pub fn round(long: bool, seed: u64) -> Found {
     let cases = if long { 2_000_000 } else { 20_000 };
     let mut random = Random(seed);
     let mut readings = Tally::new("tree value");
     let mut texts = Tally::new("tree, text");
     examples(&mut readings, &mut texts);
+    hidden(&mut readings, &mut texts);
     for _ in 0..cases {
         let mut t = tree_terms(&mut random);
         if random.below(20) == 0 {
