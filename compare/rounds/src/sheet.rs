@@ -67,12 +67,22 @@ fn repaying(amounts: &[f64]) -> Terms {
     }
 }
 
-/// Terms worth a double: one flow, or two where it is above what a flow may be.
+/// A bond worth about as much as a double that no two flows reach: a spread of -1 over many years.
+fn far(x: f64) -> Terms {
+    let day = (365.0 * (x.abs() / 1e12).ln()).clamp(1.0, 200_000.0) as u32;
+    let mut terms = Terms { spread: -1.0, settings: (1, 1), ..repaying(&[1e12_f64.copysign(x)]) };
+    (terms.leg.days[0], terms.pillars.days[1]) = (day, day);
+    terms
+}
+
+/// Terms worth a double: one flow, or two where it is above what a flow may be, or many years where it is above that.
 fn worth(x: f64) -> Terms {
-    if x.abs() <= 1e12 {
+    if x.is_nan() || x.abs() <= 1e12 {
         repaying(&[x])
-    } else {
+    } else if x.abs() <= 2e12 {
         repaying(&[x / 2.0, x / 2.0])
+    } else {
+        far(x)
     }
 }
 
@@ -124,6 +134,9 @@ fn of_values(cases: u32, random: &mut Random) -> Found {
             let shown = String::from_utf8_lossy(&ours.2[6..22]).trim().to_owned();
             let same = sheet::printed(x).as_deref() == Some(shown.as_str()) && rusts(x) == shown;
             doubles.case(0, same, || format!("{x:e} prints {shown}, in Rust {}", rusts(x)));
+        }
+        if x.abs() > 2e12 && ours.0 != 31 {
+            doubles.case(32, ours.0 == 32, || format!("a bond worth about {x:e} gives {}", ours.0));
         }
     }
     doubles.done()
