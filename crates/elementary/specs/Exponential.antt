@@ -1,8 +1,11 @@
 -- Definitions only. exp and exp_m1, operation by operation, each result tested.
-use Prim.Native.Nat.{ℕ, zero, suc, _+_}
-use mathlib.Core.Bool.{Bool, cond, false, _&&_}
+use Prim.Native.Nat.{ℕ, zero, suc, _+_, _<_}
+use mathlib.Core.Path.{_≡_}
+use mathlib.Core.Bool.{Bool, cond, true, false, _&&_}
+use mathlib.Core.List.{List}
+use lib.ListN.{length, getD}
 use lib.IntN.{pos}
-use lib.Ieee.{Float, fin, binary64, ofBits, ofInt, toSigned, add, sub, mul, div, neg, lt}
+use lib.Ieee.{Float, nan, fin, binary64, ofBits, ofInt, toSigned, add, sub, mul, div, neg, lt}
 use Rattle.floats.specs.declared.Answer.{Answer}
 use Rattle.floats.specs.declared.Answer.the-variants.{Value}
 use Rattle.floats.specs.Answers.{refusal, andThen, one, plusZero, tested, whenFinite, whenGiven}
@@ -77,3 +80,7 @@ expAlone x = whenGiven x (expAt x 0)
 
 abbrev pub expM1Alone : Float → Answer
 expM1Alone x = whenGiven x (expM1At x 0)
+
+-- exp of each number of a row, at any place, where the answer is yes; else nothing.
+pub record ExpRow (good : Bool) (xs ys : List Float) : Type 0 where
+  pub values : good ≡ true → (i place : ℕ) → i < length xs → expAt (getD xs i nan) place ≡ Value (getD ys i nan)

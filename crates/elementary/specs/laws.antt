@@ -8,3 +8,6 @@ pub mod Scales
 pub mod Logarithm
 pub mod Values
 pub mod Refusing
+pub mod Tested
+pub mod Small
+pub mod Rows

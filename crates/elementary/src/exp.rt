@@ -13,19 +13,19 @@ ghost use Rattle.elementary.specs.laws.Exponential.{plainSeries, plainEx
 ghost use Rattle.elementary.specs.laws.Steps.{Step, Reducible};
 
 // 1/ln 2: the bits 3FF71547652B82FE.
-const INVERSE_LN2: f64 = 1.4426950408889634;
+pub(crate) const INVERSE_LN2: f64 = 1.4426950408889634;
 
 // ln 2 in two parts, hi and lo: the bits 3FE62E42FEE00000 and 3DEA39EF35793C76.
 pub(crate) const LN2_HIGH: f64 = 0.6931471803691238;
 
 pub(crate) const LN2_LOW: f64 = 1.9082149292705877e-10;
 
-// p from 1, becoming 1 + (r × p)/n for n from 13 down to low + 1.
-pub(crate) fn series(r: f64, low: u32) -> f64
-    ensures { λ p. ⌜ p ≡ plainSeries low (13 - low) r one ⌝ }
+// p from a start, becoming 1 + (r × p)/n for n from high down to low + 1.
+pub(crate) fn terms(r: f64, start: f64, high: u32, low: u32) -> f64
+    ensures { λ p. ⌜ p ≡ plainSeries low (high - low) r start ⌝ }
 {
-    let mut p = 1.0;
-    let mut n: u32 = 13;
+    let mut p = start;
+    let mut n = high;
     while n > low {
         p = 1.0 + (r * p) / (n as f64);
         n -= 1;
@@ -33,8 +33,15 @@ pub(crate) fn series(r: f64, low: u32) -> f64
     p
 }
 
+// p from 1, for n from 13 down to low + 1.
+pub(crate) fn series(r: f64, low: u32) -> f64
+    ensures { λ p. ⌜ p ≡ plainSeries low (13 - low) r one ⌝ }
+{
+    terms(r, 1.0, 13, low)
+}
+
 // 2^k, from the exponent's field of its bits.
-fn power_of_two(k: f64) -> f64
+pub(crate) fn power_of_two(k: f64) -> f64
     requires { ⌜ Step k ⌝ }
     ensures { λ r. ⌜ r ≡ powerOfTwo k ⌝ }
 {

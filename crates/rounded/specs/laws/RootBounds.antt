@@ -109,5 +109,16 @@ sqrtAt-root x place y = go (finite x) (lt x plusZero) (notFinite (rootOf x)) ref
     go true false true k h = absurd (let z : _≡_ {A = ℕ} 0 1 = cc in omega arith)
     go true false false k h = record { of-finite = subst T (sym k) tt; is-root = cc }
 
+-- A value doesn't depend on the place.
+pub sqrtAt-place : (x : Float) (j k : ℕ) (y : Float) → sqrtAt x j ≡ Value y → sqrtAt x k ≡ Value y
+unfolding sqrtAt
+sqrtAt-place x j k y = go (finite x) (lt x plusZero) (notFinite (rootOf x))
+  where
+    go : (b c d : Bool) → cond (not b) (refusal 27 j) (cond c (refusal 26 j) (cond d (refusal 27 j) (Value (rootOf x)))) ≡ Value y → cond (not b) (refusal 27 k) (cond c (refusal 26 k) (cond d (refusal 27 k) (Value (rootOf x)))) ≡ Value y
+    go false c d h = absurd (let z : _≡_ {A = ℕ} 0 1 = cc in omega arith)
+    go true true d h = absurd (let z : _≡_ {A = ℕ} 0 1 = cc in omega arith)
+    go true false true h = absurd (let z : _≡_ {A = ℕ} 0 1 = cc in omega arith)
+    go true false false h = h
+
 pub sqrtAt-bounds : (x : Float) (place : ℕ) (y : Float) → sqrtAt x place ≡ Value y → NotBelow y
 sqrtAt-bounds x place y h = let v = sqrtAt-root x place y h in subst NotBelow (v .is-root) (rootOf-bounds x (v .of-finite))

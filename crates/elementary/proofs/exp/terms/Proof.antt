@@ -1,17 +1,15 @@
--- `exp::series` meets its contract. The invariant: what is left of the series from n on, at p, is the whole series. Assumes nothing.
+-- `exp::terms` meets its contract. The invariant: what is left of the series from n on, at p, is the whole series. Assumes nothing.
 use Prim.Native.Nat.{ℕ, suc, _+_, _-_, _≤_, _<_}
 use mathlib.Core.Path.{_≡_, refl, sym, ap, _∙_}
 use native.Mathlib.Omega.{arith}
 use borrow.Author.Needs.{needs}
 use lib.Ieee.{Float}
-use Rattle.floats.specs.Answers.{one}
 use Rattle.elementary.specs.laws.Exponential.{plainTerm, plainSeries}
-use Rattle.elementary.proofs.exp.series.Statement.{statement}
-use Rattle.elementary.proofs.exp.series.Tie as tie
+use Rattle.elementary.proofs.exp.terms.Statement.{statement}
+use Rattle.elementary.proofs.exp.terms.Tie as tie
 
-record At (r : Float) (low : ℕ) (p : Float) (n : ℕ) : Type 0 where
-  within : n ≤ 13
-  left : plainSeries low (n - low) r p ≡ plainSeries low (13 - low) r one
+record At (r start : Float) (high low : ℕ) (p : Float) (n : ℕ) : Type 0 where
+  left : plainSeries low (n - low) r p ≡ plainSeries low (high - low) r start
 
 turn : (r : Float) (low : ℕ) (p : Float) (n : ℕ) → low < n → plainSeries low (n - low) r p ≡ plainSeries low (n - 1 - low) r (plainTerm n r p)
 unfolding plainSeries
@@ -26,13 +24,13 @@ unfolding plainSeries
 done r low p n h = let e : 0 ≡ n - low = omega arith in ap (λ (k : ℕ). plainSeries low k r p) e
 
 abbrev Inv-loop : tie.InvT-loop
-Inv-loop r low p₀ n₀ p n = At r low p n
+Inv-loop r start high low p₀ n₀ p n = At r start high low p n
 
 abbrev μ-loop : tie.MeasureT-loop
-μ-loop r low p₀ n₀ p n = n
+μ-loop r start high low p₀ n₀ p n = n
 
 loop-holds : tie.Need-loop-holds Inv-loop μ-loop
-loop-holds c = record { within = omega arith; left = refl }
+loop-holds c = record { left = refl }
 
 int-to-float-p : tie.Need-int-to-float-p Inv-loop μ-loop
 int-to-float-p c = search needs
@@ -48,7 +46,7 @@ loop-again c =
     let l = c .before .before .loop in
     let a = c .before .before .before .args in
     let h : a .low < l .n = c .before .loop-test .taken in
-    record { within = omega arith; left = sym (turn (a .r) (a .low) (l .p) (l .n) h) ∙ l .inv .left }
+    record { left = sym (turn (a .r) (a .low) (l .p) (l .n) h) ∙ l .inv .left }
 
 returns : tie.Need-returns Inv-loop μ-loop
 returns c =
@@ -56,7 +54,7 @@ returns c =
     let a = c .before .before .args in
     done (a .r) (a .low) (l .p) (l .n) (c .loop-test .left) ∙ l .inv .left
 
-pub series-spec : {M : Type 1} → statement M
-series-spec =
+pub terms-spec : {M : Type 1} → statement M
+terms-spec =
     tie.close
     (tie.spec Inv-loop μ-loop loop-holds int-to-float-p sub-n loop-less loop-again returns)
