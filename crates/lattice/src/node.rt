@@ -52,9 +52,6 @@ fn shares(middle: i32, d: f64, m: f64, u: f64, place: u32) -> MadeTransition
 {
     let not_finite_here = overflow_refusal(place);
     let part = d + m;
-    if not_finite(part) {
-        return MadeTransition::Refused(not_finite_here);
-    }
     let total = part + u;
     if not_finite(total) {
         return MadeTransition::Refused(not_finite_here);
@@ -109,29 +106,14 @@ fn probabilities(
         place,
     };
     let square = error * error;
-    if not_finite(square) {
-        return MadeTransition::Refused(not_finite_here);
-    }
     let term = square / denominator;
-    if not_finite(term) {
-        return MadeTransition::Refused(not_finite_here);
-    }
     let a = 1.0 / 6.0 + term;
-    if not_finite(a) {
-        return MadeTransition::Refused(not_finite_here);
-    }
     let skew = error / scale;
-    if not_finite(skew) {
-        return MadeTransition::Refused(not_finite_here);
-    }
     let down = a - skew;
     if not_finite(down) {
         return MadeTransition::Refused(not_finite_here);
     }
     let twice = term * 2.0;
-    if not_finite(twice) {
-        return MadeTransition::Refused(not_finite_here);
-    }
     let mid = 2.0 / 3.0 - twice;
     if not_finite(mid) {
         return MadeTransition::Refused(not_finite_here);
@@ -157,18 +139,11 @@ fn centred(m: Middle, new_spacing: f64, denominator: f64, scale: f64, place: u32
     requires { ⌜ Within (m .node) ⌝ }
     ensures { λ r. ⌜ madeOutcome r ≡ centred m «new_spacing» denominator scale place ⌝ }
 {
-    let not_finite_here = overflow_refusal(place);
     let middle = m.middle;
     let expectation = m.expectation;
     let node = m.node;
     let centre = new_spacing * middle;
-    if not_finite(centre) {
-        return MadeTransition::Refused(not_finite_here);
-    }
     let error = expectation - centre;
-    if not_finite(error) {
-        return MadeTransition::Refused(not_finite_here);
-    }
     probabilities(node, error, denominator, scale, place)
 }
 
@@ -200,13 +175,7 @@ pub fn middle_of(spacing: f64, decay: f64, new_spacing: f64, place: u32, node: i
 {
     let not_finite_here = overflow_refusal(place);
     let state = spacing * (node as f64);
-    if not_finite(state) {
-        return MadeMiddle::Refused(not_finite_here);
-    }
     let expectation = state * decay;
-    if not_finite(expectation) {
-        return MadeMiddle::Refused(not_finite_here);
-    }
     let quotient = expectation / new_spacing;
     if not_finite(quotient) {
         return MadeMiddle::Refused(not_finite_here);

@@ -13,9 +13,9 @@ use terms::Check;
 use terms::refusing::refused_by;
 ghost use mathlib.Core.Path.{_≡_};
 ghost use mathlib.Core.Bool.{false};
-ghost use Prim.Native.Nat.{_+_, _^_, _<_, _≤_};
+ghost use Prim.Native.Nat.{_+_, _*_, _^_, _<_, _≤_};
 ghost use lib.Dec.{T};
-ghost use lib.ListN.{length};
+ghost use lib.ListN.{length, drop};
 ghost use lib.Ieee.{le};
 ghost use Rattle.floats.specs.Answers.{plusZero};
 ghost use Rattle.lattice.specs.Lattice.{decayOf, grown, curved, rootLayer};
@@ -24,8 +24,10 @@ ghost use Rattle.lattice.specs.laws.Laid.{frontNodes};
 ghost use Rattle.lattice.specs.laws.Growing.{Front, roomLeft};
 ghost use Rattle.lattice.specs.laws.LaidTree.{LaysTree};
 ghost use Rattle.lattice.specs.laws.Rooted.{fromRoot};
+ghost use Rattle.layers.specs.laws.Known.{Before};
+ghost use Rattle.layers.specs.laws.Behind.{LaysBehind};
 
-// The layers from `step` on, the first of `count` nodes being laid already.
+// The layers from `step` on, the first of `count` nodes being laid already, behind the `before` nodes of the layer that was made with was_spacing and was_variance.
 fn layers(
     decay: f64,
     spacing: f64,
@@ -38,33 +40,41 @@ fn layers(
     probabilities: &mut [f64],
     one: usize,
     two: usize,
+    before: usize,
+    was_spacing: f64,
+    was_variance: f64,
 ) -> Check
-    requires { ⌜ Front count spacing decay (now nodes) (now probabilities) ⌝ }
+    requires { ⌜ Front count spacing decay (drop (before * 2) (now nodes)) (drop (before * 3) (now probabilities)) ⌝ }
     requires { ⌜ (length (now counts) ≡ length (now variances) + 1) × (length (now spacings) ≡ length (now variances)) ⌝ }
     requires { ⌜ (step + length (now variances) < 2 ^ 32) × (count ≤ one) × (count ≤ two) ⌝ }
-    ensures { λ r. ⌜ LaysTree false one two count (numbersIn (frontNodes count (now (nodes .entry)))) (grown (roomLeft (now (nodes .entry)) (now (probabilities .entry)) one two) decay spacing 0 (numbersIn (frontNodes count (now (nodes .entry)))) step (now (variances .entry))) r (now (counts .exit)) (now (spacings .exit)) (now (nodes .exit)) (now (probabilities .exit)) ⌝ }
+    requires { ⌜ Before decay «was_spacing» «was_variance» before (now nodes) (now probabilities) ⌝ }
+    ensures { λ r. ⌜ LaysBehind before one two count (numbersIn (frontNodes count (drop (before * 2) (now (nodes .entry))))) (grown (roomLeft (drop (before * 2) (now (nodes .entry))) (drop (before * 3) (now (probabilities .entry))) one two) decay spacing 0 (numbersIn (frontNodes count (drop (before * 2) (now (nodes .entry))))) step (now (variances .entry))) r (now (counts .exit)) (now (spacings .exit)) (now (nodes .entry)) (now (nodes .exit)) (now (probabilities .entry)) (now (probabilities .exit)) ⌝ }
 {
     counts[0] = count;
     if variances.len() == 0 {
         return Check::Passed;
     }
     spacings[0] = spacing;
+    let variance = variances[0];
     let next = grow(
         spacing,
         decay,
-        variances[0],
+        variance,
         step,
         count,
         nodes,
         probabilities,
         one,
         two,
+        before,
+        was_spacing,
+        was_variance,
     );
     let NextLayer::Laid(new_spacing, new_count) = next else {
         return Check::Refused(next.refusal());
     };
-    let pairs = count * 2;
-    let threes = count * 3;
+    let pairs = before * 2;
+    let threes = before * 3;
     layers(
         decay,
         new_spacing,
@@ -77,6 +87,9 @@ fn layers(
         &mut probabilities[threes..],
         one,
         two,
+        count,
+        spacing,
+        variance,
     )
 }
 
@@ -122,6 +135,9 @@ fn rooted(
             probabilities,
             one,
             two,
+            0,
+            0.0,
+            0.0,
         );
     }
     Check::Refused(Refusal {

@@ -15,7 +15,7 @@ use rounded::sqrt::sqrt_at;
 use terms::Check;
 ghost use mathlib.Core.Path.{_≡_};
 ghost use Prim.Native.Nat.{_+_, _*_, _^_, _<_, _≤_};
-ghost use lib.ListN.{length};
+ghost use lib.ListN.{length, drop};
 ghost use Rattle.lattice.specs.Layers.{fits};
 ghost use Rattle.lattice.specs.Lattice.{spacingOf};
 ghost use Rattle.lattice.specs.laws.Stored.{numbersIn};
@@ -24,10 +24,12 @@ ghost use Rattle.lattice.specs.laws.Counting.{middlesFrom};
 ghost use Rattle.lattice.specs.laws.Making.{stepFrom};
 ghost use Rattle.lattice.specs.laws.Middles.{Upright};
 ghost use Rattle.lattice.specs.laws.Laid.{frontNodes};
-ghost use Rattle.lattice.specs.laws.Growing.{Front, GrownLayer, grownNext, roomLeft};
+ghost use Rattle.lattice.specs.laws.Growing.{Front, grownNext, roomLeft};
 ghost use Rattle.lattice.specs.laws.MadeSteps.{StepMade, DivisorsMade};
 ghost use Rattle.lattice.specs.laws.NextLaid.{roomOf, LaidNext};
 ghost use Rattle.lattice.specs.laws.Grown.{grownFrom};
+ghost use Rattle.layers.specs.laws.Known.{Known, Before, KnownCount, SameWhere};
+ghost use Rattle.layers.specs.laws.Behind.{GrownBehind};
 
 // sqrt(variance × 3).
 pub fn spacing_of(variance: f64, place: u32) -> Answer
@@ -126,7 +128,37 @@ fn lay_next(
     })
 }
 
-// The layer in front by a step that is made.
+// Whether two floats above 0 have the same bits.
+fn same_number(a: f64, b: f64) -> bool
+    ensures { λ r. ⌜ SameWhere r a b ⌝ }
+{
+    if 0.0 < a {
+        if 0.0 < b {
+            return a == b;
+        }
+    }
+    false
+}
+
+// How many of the `before` nodes in front, made with another spacing and variance, have the transitions of this spacing and variance: all or none.
+fn known_count(
+    before: usize,
+    was_spacing: f64,
+    was_variance: f64,
+    spacing: f64,
+    variance: f64,
+) -> usize
+    ensures { λ r. ⌜ KnownCount before «was_spacing» spacing «was_variance» variance r ⌝ }
+{
+    if same_number(spacing, was_spacing) {
+        if same_number(variance, was_variance) {
+            return before;
+        }
+    }
+    0
+}
+
+// The layer behind `before` nodes by a step that is made. The first `known` of those have its transitions.
 fn grow_by(
     spacing: f64,
     decay: f64,
@@ -139,9 +171,12 @@ fn grow_by(
     probabilities: &mut [f64],
     one: usize,
     two: usize,
+    before: usize,
+    known: usize,
 ) -> NextLayer
-    requires { ⌜ (Front count spacing decay (now nodes) (now probabilities)) × (Upright (stepFrom spacing decay «new_spacing» denominator scale step)) × (step + 1 < 2 ^ 32) ⌝ }
-    ensures { λ r. ⌜ GrownLayer (grownFrom (roomLeft (now (nodes .entry)) (now (probabilities .entry)) one two) (stepFrom spacing decay «new_spacing» denominator scale step) (numbersIn (frontNodes count (now (nodes .entry))))) count r (now (nodes .entry)) (now (nodes .exit)) (now (probabilities .entry)) (now (probabilities .exit)) ⌝ }
+    requires { ⌜ (Front count spacing decay (drop (before * 2) (now nodes)) (drop (before * 3) (now probabilities))) × (Upright (stepFrom spacing decay «new_spacing» denominator scale step)) × (step + 1 < 2 ^ 32) ⌝ }
+    requires { ⌜ (known ≤ before) × Known (stepFrom spacing decay «new_spacing» denominator scale step) known (now nodes) (now probabilities) ⌝ }
+    ensures { λ r. ⌜ GrownBehind (grownFrom (roomLeft (drop (before * 2) (now (nodes .entry))) (drop (before * 3) (now (probabilities .entry))) one two) (stepFrom spacing decay «new_spacing» denominator scale step) (numbersIn (frontNodes count (drop (before * 2) (now (nodes .entry)))))) before count r (now (nodes .entry)) (now (nodes .exit)) (now (probabilities .entry)) (now (probabilities .exit)) ⌝ }
 {
     let filled = fill(
         spacing,
@@ -153,22 +188,27 @@ fn grow_by(
         count,
         nodes,
         probabilities,
+        before,
+        known,
     );
     if let Check::Refused(refusal) = filled {
         return NextLayer::Refused(refusal);
     }
+    let pairs = before * 2;
+    let threes = probabilities.len() - before * 3;
     lay_next(
         new_spacing,
         step,
         count,
-        nodes,
-        probabilities.len(),
+        &mut nodes[pairs..],
+        threes,
         one,
         two,
     )
 }
 
-// The layer of `count` nodes in front gets its middles and probabilities, and the next one is laid behind it. `one` and `two` are the rows' lengths.
+// The layer of `count` nodes behind `before` others gets its middles and probabilities, and the next one is laid behind it. The layer before it was made with was_spacing and was_variance.
+// `one` and `two` are the rows' lengths.
 pub fn grow(
     spacing: f64,
     decay: f64,
@@ -179,14 +219,19 @@ pub fn grow(
     probabilities: &mut [f64],
     one: usize,
     two: usize,
+    before: usize,
+    was_spacing: f64,
+    was_variance: f64,
 ) -> NextLayer
-    requires { ⌜ (Front count spacing decay (now nodes) (now probabilities)) × (step + 1 < 2 ^ 32) ⌝ }
-    ensures { λ r. ⌜ GrownLayer (grownNext (roomLeft (now (nodes .entry)) (now (probabilities .entry)) one two) decay spacing (numbersIn (frontNodes count (now (nodes .entry)))) step variance) count r (now (nodes .entry)) (now (nodes .exit)) (now (probabilities .entry)) (now (probabilities .exit)) ⌝ }
+    requires { ⌜ (Front count spacing decay (drop (before * 2) (now nodes)) (drop (before * 3) (now probabilities))) × (step + 1 < 2 ^ 32) ⌝ }
+    requires { ⌜ Before decay «was_spacing» «was_variance» before (now nodes) (now probabilities) ⌝ }
+    ensures { λ r. ⌜ GrownBehind (grownNext (roomLeft (drop (before * 2) (now (nodes .entry))) (drop (before * 3) (now (probabilities .entry))) one two) decay spacing (numbersIn (frontNodes count (drop (before * 2) (now (nodes .entry))))) step variance) before count r (now (nodes .entry)) (now (nodes .exit)) (now (probabilities .entry)) (now (probabilities .exit)) ⌝ }
 {
     let made = step_of(variance, step);
     let MadeStep::Made(new_spacing, denominator, scale) = made else {
         return NextLayer::Refused(made.refusal());
     };
+    let known = known_count(before, was_spacing, was_variance, spacing, variance);
     grow_by(
         spacing,
         decay,
@@ -199,5 +244,7 @@ pub fn grow(
         probabilities,
         one,
         two,
+        before,
+        known,
     )
 }

@@ -1,14 +1,13 @@
--- `middle_of` meets its contract: each operation is tested as the definition has it; the quotient rounds to a whole number. Assumes nothing.
+-- `middle_of` meets its contract: the quotient's test stands for those before it; the quotient rounds to a whole number. Assumes nothing.
 use mathlib.Core.Path.{sym, _∙_}
-use borrow.Author.Needs.{needs}
 use mir.Facts.{toZ-ofZ}
 use Rattle.floats.specs.Answers.{plusZero}
 use Rattle.floats.specs.laws.Whole.{rounded-whole}
 use Rattle.floats.proofs.Laws.{finite-by-call}
-use Rattle.lattice.specs.Transitions.{middleOf}
-use Rattle.lattice.specs.laws.Making.{stepFrom, from-rounded, quotientOf}
+use Rattle.lattice.specs.laws.Making.{stepFrom, quotientOf}
 use Rattle.lattice.proofs.Signed.{back}
-use Rattle.lattice.proofs.Laws.{transitions}
+use Rattle.lattice.proofs.Fused.{quotient-stopped, from-quotient}
+use borrow.Author.Needs.{needs}
 use Rattle.lattice.proofs.node.middle_of.Statement.{statement}
 use Rattle.lattice.proofs.node.middle_of.Tie as tie
 
@@ -22,42 +21,30 @@ not-finite-requires : tie.Need-not-finite-requires
 not-finite-requires c κs = tt
 
 returns : tie.Need-returns
-unfolding middleOf
-returns c = rw (c .before .before .before .overflow-refusal .ensures, ← toZ-ofZ (c .before .before .before .before .fits .node)) (search transitions)
-
-not-finite-requires-2 : tie.Need-not-finite-requires-2
-not-finite-requires-2 c κs = tt
-
-returns-2 : tie.Need-returns-2
-unfolding middleOf
-returns-2 c = rw (c .before .before .before .before .before .overflow-refusal .ensures, ← toZ-ofZ (c .before .before .before .before .before .before .fits .node)) (search transitions)
-
-not-finite-requires-3 : tie.Need-not-finite-requires-3
-not-finite-requires-3 c κs = tt
-
-returns-3 : tie.Need-returns-3
-unfolding middleOf
-returns-3 c = rw (c .before .before .before .before .before .before .before .overflow-refusal .ensures, ← toZ-ofZ (c .before .before .before .before .before .before .before .before .fits .node)) (search transitions)
+returns c =
+    let a = c .before .before .before .before .args in
+    let s = stepFrom (a .spacing) (a .decay) (a .new-spacing) plusZero plusZero (a .place) in
+    rw (c .before .before .before .overflow-refusal .ensures, ← toZ-ofZ (c .before .before .before .before .fits .node)) (quotient-stopped s (back (a .node)) (sym (c .before .not-finite .ensures) ∙ c .if1 .taken))
 
 near-requires : tie.Need-near-requires
 near-requires c κs =
-    finite-by-call
-    (quotientOf (stepFrom (c .before .before .before .before .before .before .before .before .args .spacing) (c .before .before .before .before .before .before .before .before .args .decay) (c .before .before .before .before .before .before .before .before .args .new-spacing) plusZero plusZero (c .before .before .before .before .before .before .before .before .args .place)) (back (c .before .before .before .before .before .before .before .before .args .node)))
-    (c .before .not-finite3 .ensures)
-    (c .if3 .left)
+    let a = c .before .before .before .before .args in
+    let s = stepFrom (a .spacing) (a .decay) (a .new-spacing) plusZero plusZero (a .place) in
+    finite-by-call (quotientOf s (back (a .node))) (c .before .not-finite .ensures) (c .if1 .left)
 
 held-requires : tie.Need-held-requires
 held-requires c κs =
-    let q = quotientOf (stepFrom (c .before .before .before .before .before .before .before .before .before .args .spacing) (c .before .before .before .before .before .before .before .before .before .args .decay) (c .before .before .before .before .before .before .before .before .before .args .new-spacing) plusZero plusZero (c .before .before .before .before .before .before .before .before .before .args .place)) (back (c .before .before .before .before .before .before .before .before .before .args .node)) in
-    rw (c .near .ensures) (rounded-whole q (search needs) (finite-by-call q (c .before .before .not-finite3 .ensures) (c .before .if3 .left)))
+    let a = c .before .before .before .before .before .args in
+    let s = stepFrom (a .spacing) (a .decay) (a .new-spacing) plusZero plusZero (a .place) in
+    let q = quotientOf s (back (a .node)) in
+    rw (c .near .ensures) (rounded-whole q (search needs) (finite-by-call q (c .before .before .not-finite .ensures) (c .before .if1 .left)))
 
-returns-4 : tie.Need-returns-4
-returns-4 c =
-    rw (
-      ← toZ-ofZ (c .before .before .before .before .before .before .before .before .before .before .fits .node),
-      from-rounded (stepFrom (c .before .before .before .before .before .before .before .before .before .before .args .spacing) (c .before .before .before .before .before .before .before .before .before .before .args .decay) (c .before .before .before .before .before .before .before .before .before .before .args .new-spacing) plusZero plusZero (c .before .before .before .before .before .before .before .before .before .before .args .place)) (back (c .before .before .before .before .before .before .before .before .before .before .args .node)) (search needs) (sym (c .before .before .before .before .before .before .before .not-finite .ensures) ∙ c .before .before .before .before .before .before .if1 .left) (sym (c .before .before .before .before .before .not-finite2 .ensures) ∙ c .before .before .before .before .if2 .left) (sym (c .before .before .before .not-finite3 .ensures) ∙ c .before .before .if3 .left),
-    )
-    (rw (c .before .near .ensures) at (c .held .ensures))
+returns-2 : tie.Need-returns-2
+returns-2 c =
+    let a = c .before .before .before .before .before .before .args in
+    let s = stepFrom (a .spacing) (a .decay) (a .new-spacing) plusZero plusZero (a .place) in
+    let e = sym (c .before .before .before .not-finite .ensures) ∙ c .before .before .if1 .left in
+    rw (← toZ-ofZ (c .before .before .before .before .before .before .fits .node), from-quotient s (back (a .node)) (search needs) e) (rw (c .before .near .ensures) at (c .held .ensures))
 
 pub middle-of-spec : {M : Type 1} → statement M
 middle-of-spec =
@@ -67,10 +54,6 @@ middle-of-spec =
     int-to-float-state
     not-finite-requires
     returns
-    not-finite-requires-2
-    returns-2
-    not-finite-requires-3
-    returns-3
     near-requires
     held-requires
-    returns-4)
+    returns-2)

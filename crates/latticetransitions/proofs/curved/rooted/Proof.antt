@@ -6,6 +6,7 @@ use lib.IntN.{pos}
 use Rattle.lattice.specs.laws.Growing.{roomLeft}
 use Rattle.lattice.specs.laws.RoomTest.{fitting}
 use Rattle.lattice.specs.laws.Rooted.{root-length, root-front, root-refused, root-laid, lays-nothing}
+use Rattle.layers.specs.laws.Known.{before-none}
 use borrow.Author.Needs.{needs}
 use Rattle.latticetransitions.proofs.curved.rooted.Statement.{statement}
 use Rattle.latticetransitions.proofs.curved.rooted.Tie as tie
@@ -25,7 +26,7 @@ layers-requires c κs =
       root-front (c .before .before .before .before .before .before .before .before .before .before .args .decay) (c .before .before .before .before .before .before .before .before .before .before .args .spacing) (c .before .before .before .before .before .before .before .before .before .before .args .nodes .now) (c .before .before .before .before .before .before .before .before .before .before .args .probabilities .now) (f .pairs) (f .threes) (c .before .before .before .before .before .before .before .before .before .before .pre .0 .0) (c .before .before .before .before .before .before .before .before .before .before .pre .0 .1),
       (
         c .before .before .before .before .before .before .before .before .before .before .pre .1,
-        (omega (arith, c .before .before .before .before .before .before .before .before .before .before .pre .0 .2), f .first, f .second),
+        ((omega (arith, c .before .before .before .before .before .before .before .before .before .before .pre .0 .2), f .first, f .second), before-none _ _ _ _ _),
       ),
     )
 
@@ -42,7 +43,7 @@ same-length-4 : tie.Need-same-length-4
 same-length-4 c = c .before .before .before .before .before .before .before .layers .kept .1 .1 .1 .1 .1 .1 .1 .1 .0
 
 returns : tie.Need-returns
-returns c = root-laid (c .before .before .before .before .before .before .before .before .before .before .before .before .before .before .before .before .before .before .args .one) (c .before .before .before .before .before .before .before .before .before .before .before .before .before .before .before .before .before .before .args .two) (c .before .before .before .before .before .before .before .before .before .before .before .before .before .before .before .before .before .before .args .decay) (c .before .before .before .before .before .before .before .before .before .before .before .before .before .before .before .before .before .before .args .spacing) (c .before .before .before .before .before .before .before .before .before .before .before .before .before .before .before .before .before .before .args .nodes .now) (c .before .before .before .before .before .before .before .before .before .before .before .before .before .before .before .before .before .before .args .probabilities .now) (c .before .before .before .before .before .before .before .before .before .before .before .before .before .before .before .before .before .before .args .variances .now) (sym (c .before .before .before .before .before .before .before .before .before .before .before .before .before .has-room .ensures) ∙ c .before .before .before .before .before .before .before .before .before .before .before .before .if1 .taken) (c .before .before .before .before .before .before .before .layers .ensures)
+returns c = root-laid (c .before .before .before .before .before .before .before .before .before .before .before .before .before .before .before .before .before .before .args .one) (c .before .before .before .before .before .before .before .before .before .before .before .before .before .before .before .before .before .before .args .two) (c .before .before .before .before .before .before .before .before .before .before .before .before .before .before .before .before .before .before .args .decay) (c .before .before .before .before .before .before .before .before .before .before .before .before .before .before .before .before .before .before .args .spacing) (c .before .before .before .before .before .before .before .before .before .before .before .before .before .before .before .before .before .before .args .nodes .now) (c .before .before .before .before .before .before .before .before .before .before .before .before .before .before .before .before .before .before .args .probabilities .now) (c .before .before .before .before .before .before .before .before .before .before .before .before .before .before .before .before .before .before .args .variances .now) (sym (c .before .before .before .before .before .before .before .before .before .before .before .before .before .has-room .ensures) ∙ c .before .before .before .before .before .before .before .before .before .before .before .before .if1 .taken) (c .before .before .before .before .before .before .before .layers .ensures .lays)
 
 returns-2 : tie.Need-returns-2
 returns-2 c = lays-nothing (root-refused (c .before .before .before .before .before .before .args .one) (c .before .before .before .before .before .before .args .two) (c .before .before .before .before .before .before .args .decay) (c .before .before .before .before .before .before .args .spacing) (c .before .before .before .before .before .before .args .nodes .now) (c .before .before .before .before .before .before .args .probabilities .now) (c .before .before .before .before .before .before .args .variances .now) (sym (c .before .has-room .ensures) ∙ c .if1 .left)) refl

@@ -1,41 +1,45 @@
--- `fill` meets its contract: the invariant is that the first i nodes are filled and the rest gives the whole. Assumes nothing.
+-- `fill` meets its contract: the invariant is that the first i nodes behind are filled, the rest gives the whole, and the nodes in front are as they were. Assumes nothing.
 use Prim.Native.Nat.{_-_}
 use native.Mathlib.Omega.{arith}
 use borrow.Author.Needs.{needs}
-use mathlib.Core.Path.{_∙_}
 use lib.ListN.{length-set}
-use Rattle.lattice.specs.laws.Making.{stepFrom}
-use Rattle.lattice.specs.laws.FillingLayer.{FillingLayer, filling-begun, filling-all, after-long, after-long-too, number-read, filling-stopped, filling-stored, stored-within}
-use lib.IntN.{pos}
 use mir.Syntax.{w32}
 use mir.Facts.{toZ-ofZ}
 use Rattle.lattice.specs.laws.Bounds.{within-numbered}
+use Rattle.lattice.specs.laws.Making.{stepFrom}
 use Rattle.lattice.proofs.Signed.{back-numbered}
+use Rattle.layers.specs.laws.Behind.{FillingBehind, behind-begun, still-known, pairs-there, threes-there, behind-all, behind-stopped, behind-within, behind-stored}
 use Rattle.layers.proofs.layers.fill.Statement.{statement}
 use Rattle.layers.proofs.layers.fill.Tie as tie
 
 abbrev Inv-loop : tie.InvT-loop
-Inv-loop spacing decay new-spacing denominator scale place count nodes₀ probabilities₀ i₀ nodes probabilities i =
-    FillingLayer (stepFrom spacing decay new-spacing denominator scale place) count nodes₀ probabilities₀ nodes probabilities i
+Inv-loop spacing decay new-spacing denominator scale place count nodes₀ probabilities₀ before known j₀ i₀ nodes probabilities j i =
+    FillingBehind (stepFrom spacing decay new-spacing denominator scale place) before count known nodes₀ probabilities₀ nodes probabilities i
 
 abbrev μ-loop : tie.MeasureT-loop
-μ-loop spacing decay new-spacing denominator scale place count nodes₀ probabilities₀ i₀ nodes probabilities i =
+μ-loop spacing decay new-spacing denominator scale place count nodes₀ probabilities₀ before known j₀ i₀ nodes probabilities j i =
     count - i
 
 loop-holds : tie.Need-loop-holds Inv-loop μ-loop
-loop-holds c = filling-begun (stepFrom (c .before .args .spacing) (c .before .args .decay) (c .before .args .new-spacing) (c .before .args .denominator) (c .before .args .scale) (c .before .args .place)) (c .before .args .count) (c .before .args .nodes .now) (c .before .args .probabilities .now) (c .before .pre .0) (c .before .pre .1)
+loop-holds c = let p = c .before .pre in behind-begun (p .0 .0) (p .0 .1) (p .0 .2) (p .1)
+
+add-at : tie.Need-add-at Inv-loop μ-loop
+add-at c = let g = c in let f = g .before .loop .inv in let p = pairs-there f (g .loop-test .taken) in let q = threes-there f (g .loop-test .taken) in let k = f .behind .kept in let l = f .behind .kept-too in search needs
 
 mul-node : tie.Need-mul-node Inv-loop μ-loop
-mul-node c = let r = c .before .loop .inv .room in let q = c .before .loop .inv .room-too in let l = after-long (stepFrom (c .before .before .before .args .spacing) (c .before .before .before .args .decay) (c .before .before .before .args .new-spacing) (c .before .before .before .args .denominator) (c .before .before .before .args .scale) (c .before .before .before .args .place)) (c .before .before .before .args .count) (c .before .before .before .args .nodes .now) (c .before .before .before .args .probabilities .now) (c .before .loop .nodes) (c .before .loop .probabilities) (c .before .loop .i) (c .before .loop .inv) in let k = after-long-too (stepFrom (c .before .before .before .args .spacing) (c .before .before .before .args .decay) (c .before .before .before .args .new-spacing) (c .before .before .before .args .denominator) (c .before .before .before .args .scale) (c .before .before .before .args .place)) (c .before .before .before .args .count) (c .before .before .before .args .nodes .now) (c .before .before .before .args .probabilities .now) (c .before .loop .nodes) (c .before .loop .probabilities) (c .before .loop .i) (c .before .loop .inv) in search needs
+mul-node c = let g = c in let f = g .before .loop .inv in let p = pairs-there f (g .loop-test .taken) in let q = threes-there f (g .loop-test .taken) in let k = f .behind .kept in let l = f .behind .kept-too in search needs
 
 mul-node-2 : tie.Need-mul-node-2 Inv-loop μ-loop
-mul-node-2 c = let r = c .before .loop .inv .room in let q = c .before .loop .inv .room-too in let l = after-long (stepFrom (c .before .before .before .args .spacing) (c .before .before .before .args .decay) (c .before .before .before .args .new-spacing) (c .before .before .before .args .denominator) (c .before .before .before .args .scale) (c .before .before .before .args .place)) (c .before .before .before .args .count) (c .before .before .before .args .nodes .now) (c .before .before .before .args .probabilities .now) (c .before .loop .nodes) (c .before .loop .probabilities) (c .before .loop .i) (c .before .loop .inv) in let k = after-long-too (stepFrom (c .before .before .before .args .spacing) (c .before .before .before .args .decay) (c .before .before .before .args .new-spacing) (c .before .before .before .args .denominator) (c .before .before .before .args .scale) (c .before .before .before .args .place)) (c .before .before .before .args .count) (c .before .before .before .args .nodes .now) (c .before .before .before .args .probabilities .now) (c .before .loop .nodes) (c .before .loop .probabilities) (c .before .loop .i) (c .before .loop .inv) in search needs
+mul-node-2 c = let g = c in let f = g .before .loop .inv in let p = pairs-there f (g .loop-test .taken) in let q = threes-there f (g .loop-test .taken) in let k = f .behind .kept in let l = f .behind .kept-too in search needs
 
 slice-copy-out-node : tie.Need-slice-copy-out-node Inv-loop μ-loop
-slice-copy-out-node c = let r = c .before .loop .inv .room in let q = c .before .loop .inv .room-too in let l = after-long (stepFrom (c .before .before .before .args .spacing) (c .before .before .before .args .decay) (c .before .before .before .args .new-spacing) (c .before .before .before .args .denominator) (c .before .before .before .args .scale) (c .before .before .before .args .place)) (c .before .before .before .args .count) (c .before .before .before .args .nodes .now) (c .before .before .before .args .probabilities .now) (c .before .loop .nodes) (c .before .loop .probabilities) (c .before .loop .i) (c .before .loop .inv) in let k = after-long-too (stepFrom (c .before .before .before .args .spacing) (c .before .before .before .args .decay) (c .before .before .before .args .new-spacing) (c .before .before .before .args .denominator) (c .before .before .before .args .scale) (c .before .before .before .args .place)) (c .before .before .before .args .count) (c .before .before .before .args .nodes .now) (c .before .before .before .args .probabilities .now) (c .before .loop .nodes) (c .before .loop .probabilities) (c .before .loop .i) (c .before .loop .inv) in search needs
+slice-copy-out-node c = let g = c in let f = g .before .loop .inv in let p = pairs-there f (g .loop-test .taken) in let q = threes-there f (g .loop-test .taken) in let k = f .behind .kept in let l = f .behind .kept-too in search needs
 
-transition-of-requires : tie.Need-transition-of-requires Inv-loop μ-loop
-transition-of-requires c κs = tt
+not-below-requires : tie.Need-not-below-requires Inv-loop μ-loop
+not-below-requires c κs = still-known (c .before .before .before .loop .inv) .pairs
+
+known-or-made-requires : tie.Need-known-or-made-requires Inv-loop μ-loop
+known-or-made-requires c κs = still-known (c .before .before .before .before .before .before .loop .inv)
 
 enum-known-made : tie.Need-enum-known-made Inv-loop μ-loop
 enum-known-made c = c .match .keys1
@@ -47,76 +51,86 @@ unmade-requires : tie.Need-unmade-requires Inv-loop μ-loop
 unmade-requires c κs = tt
 
 same-length : tie.Need-same-length Inv-loop μ-loop
-same-length c = after-long (stepFrom (c .before .before .before .before .before .before .before .before .args .spacing) (c .before .before .before .before .before .before .before .before .args .decay) (c .before .before .before .before .before .before .before .before .args .new-spacing) (c .before .before .before .before .before .before .before .before .args .denominator) (c .before .before .before .before .before .before .before .before .args .scale) (c .before .before .before .before .before .before .before .before .args .place)) (c .before .before .before .before .before .before .before .before .args .count) (c .before .before .before .before .before .before .before .before .args .nodes .now) (c .before .before .before .before .before .before .before .before .args .probabilities .now) (c .before .before .before .before .before .before .loop .nodes) (c .before .before .before .before .before .before .loop .probabilities) (c .before .before .before .before .before .before .loop .i) (c .before .before .before .before .before .before .loop .inv)
+same-length c = c .before .before .before .before .before .before .before .before .before .before .loop .inv .behind .kept
 
 same-length-2 : tie.Need-same-length-2 Inv-loop μ-loop
-same-length-2 c = after-long-too (stepFrom (c .before .before .before .before .before .before .before .before .args .spacing) (c .before .before .before .before .before .before .before .before .args .decay) (c .before .before .before .before .before .before .before .before .args .new-spacing) (c .before .before .before .before .before .before .before .before .args .denominator) (c .before .before .before .before .before .before .before .before .args .scale) (c .before .before .before .before .before .before .before .before .args .place)) (c .before .before .before .before .before .before .before .before .args .count) (c .before .before .before .before .before .before .before .before .args .nodes .now) (c .before .before .before .before .before .before .before .before .args .probabilities .now) (c .before .before .before .before .before .before .loop .nodes) (c .before .before .before .before .before .before .loop .probabilities) (c .before .before .before .before .before .before .loop .i) (c .before .before .before .before .before .before .loop .inv)
+same-length-2 c = c .before .before .before .before .before .before .before .before .before .before .loop .inv .behind .kept-too
 
 returns : tie.Need-returns Inv-loop μ-loop
-returns c = filling-stopped (stepFrom (c .before .before .before .before .before .before .before .before .args .spacing) (c .before .before .before .before .before .before .before .before .args .decay) (c .before .before .before .before .before .before .before .before .args .new-spacing) (c .before .before .before .before .before .before .before .before .args .denominator) (c .before .before .before .before .before .before .before .before .args .scale) (c .before .before .before .before .before .before .before .before .args .place)) (c .before .before .before .before .before .before .before .before .args .count) (c .before .before .before .before .before .before .before .before .args .nodes .now) (c .before .before .before .before .before .before .before .before .args .probabilities .now) (c .before .before .before .before .before .before .loop .nodes) (c .before .before .before .before .before .before .loop .probabilities) (c .before .before .before .before .before .before .loop .i) (c .before .before .before .before .before .before .loop .inv) (c .before .before .before .transition-of .result) (c .before .before .before .before .before .loop-test .taken) (toZ-ofZ {w = w32} (record { sfits = c .before .before .before .before .node .given }) ∙ number-read (stepFrom (c .before .before .before .before .before .before .before .before .args .spacing) (c .before .before .before .before .before .before .before .before .args .decay) (c .before .before .before .before .before .before .before .before .args .new-spacing) (c .before .before .before .before .before .before .before .before .args .denominator) (c .before .before .before .before .before .before .before .before .args .scale) (c .before .before .before .before .before .before .before .before .args .place)) (c .before .before .before .before .before .before .before .before .args .count) (c .before .before .before .before .before .before .before .before .args .nodes .now) (c .before .before .before .before .before .before .before .before .args .probabilities .now) (c .before .before .before .before .before .before .loop .nodes) (c .before .before .before .before .before .before .loop .probabilities) (c .before .before .before .before .before .before .loop .i) (c .before .before .before .before .before .before .loop .inv) (pos 0) (c .before .before .before .before .before .loop-test .taken)) (c .before .before .before .transition-of .ensures) (c .before .enum-told .given .1) (c .unmade .ensures)
+returns c =
+    let g = c .before .before .before .before .before .before .before .before .before in
+    let m = c .before .before .before .known-or-made in
+    let read = toZ-ofZ {w = w32} (record { sfits = c .before .before .before .before .before .before .before .before .node .given }) in
+    behind-stopped (g .before .loop .inv) (m .result) (g .loop-test .taken) read (m .ensures) (c .before .enum-told .given .1) (c .unmade .ensures)
 
 mul-middle : tie.Need-mul-middle Inv-loop μ-loop
-mul-middle c = let r = c .before .before .before .before .before .before .before .loop .inv .room in let q = c .before .before .before .before .before .before .before .loop .inv .room-too in let l = after-long (stepFrom (c .before .before .before .before .before .before .before .before .before .args .spacing) (c .before .before .before .before .before .before .before .before .before .args .decay) (c .before .before .before .before .before .before .before .before .before .args .new-spacing) (c .before .before .before .before .before .before .before .before .before .args .denominator) (c .before .before .before .before .before .before .before .before .before .args .scale) (c .before .before .before .before .before .before .before .before .before .args .place)) (c .before .before .before .before .before .before .before .before .before .args .count) (c .before .before .before .before .before .before .before .before .before .args .nodes .now) (c .before .before .before .before .before .before .before .before .before .args .probabilities .now) (c .before .before .before .before .before .before .before .loop .nodes) (c .before .before .before .before .before .before .before .loop .probabilities) (c .before .before .before .before .before .before .before .loop .i) (c .before .before .before .before .before .before .before .loop .inv) in let k = after-long-too (stepFrom (c .before .before .before .before .before .before .before .before .before .args .spacing) (c .before .before .before .before .before .before .before .before .before .args .decay) (c .before .before .before .before .before .before .before .before .before .args .new-spacing) (c .before .before .before .before .before .before .before .before .before .args .denominator) (c .before .before .before .before .before .before .before .before .before .args .scale) (c .before .before .before .before .before .before .before .before .before .args .place)) (c .before .before .before .before .before .before .before .before .before .args .count) (c .before .before .before .before .before .before .before .before .before .args .nodes .now) (c .before .before .before .before .before .before .before .before .before .args .probabilities .now) (c .before .before .before .before .before .before .before .loop .nodes) (c .before .before .before .before .before .before .before .loop .probabilities) (c .before .before .before .before .before .before .before .loop .i) (c .before .before .before .before .before .before .before .loop .inv) in search needs
+mul-middle c = let g = c .before .before .before .before .before .before .before .before .before .before in let f = g .before .loop .inv in let p = pairs-there f (g .loop-test .taken) in let q = threes-there f (g .loop-test .taken) in let k = f .behind .kept in let l = f .behind .kept-too in search needs
 
 add-middle : tie.Need-add-middle Inv-loop μ-loop
-add-middle c = let r = c .before .before .before .before .before .before .before .loop .inv .room in let q = c .before .before .before .before .before .before .before .loop .inv .room-too in let l = after-long (stepFrom (c .before .before .before .before .before .before .before .before .before .args .spacing) (c .before .before .before .before .before .before .before .before .before .args .decay) (c .before .before .before .before .before .before .before .before .before .args .new-spacing) (c .before .before .before .before .before .before .before .before .before .args .denominator) (c .before .before .before .before .before .before .before .before .before .args .scale) (c .before .before .before .before .before .before .before .before .before .args .place)) (c .before .before .before .before .before .before .before .before .before .args .count) (c .before .before .before .before .before .before .before .before .before .args .nodes .now) (c .before .before .before .before .before .before .before .before .before .args .probabilities .now) (c .before .before .before .before .before .before .before .loop .nodes) (c .before .before .before .before .before .before .before .loop .probabilities) (c .before .before .before .before .before .before .before .loop .i) (c .before .before .before .before .before .before .before .loop .inv) in let k = after-long-too (stepFrom (c .before .before .before .before .before .before .before .before .before .args .spacing) (c .before .before .before .before .before .before .before .before .before .args .decay) (c .before .before .before .before .before .before .before .before .before .args .new-spacing) (c .before .before .before .before .before .before .before .before .before .args .denominator) (c .before .before .before .before .before .before .before .before .before .args .scale) (c .before .before .before .before .before .before .before .before .before .args .place)) (c .before .before .before .before .before .before .before .before .before .args .count) (c .before .before .before .before .before .before .before .before .before .args .nodes .now) (c .before .before .before .before .before .before .before .before .before .args .probabilities .now) (c .before .before .before .before .before .before .before .loop .nodes) (c .before .before .before .before .before .before .before .loop .probabilities) (c .before .before .before .before .before .before .before .loop .i) (c .before .before .before .before .before .before .before .loop .inv) in search needs
+add-middle c = let g = c .before .before .before .before .before .before .before .before .before .before in let f = g .before .loop .inv in let p = pairs-there f (g .loop-test .taken) in let q = threes-there f (g .loop-test .taken) in let k = f .behind .kept in let l = f .behind .kept-too in search needs
 
 mul-middle-2 : tie.Need-mul-middle-2 Inv-loop μ-loop
-mul-middle-2 c = let r = c .before .before .before .before .before .before .before .loop .inv .room in let q = c .before .before .before .before .before .before .before .loop .inv .room-too in let l = after-long (stepFrom (c .before .before .before .before .before .before .before .before .before .args .spacing) (c .before .before .before .before .before .before .before .before .before .args .decay) (c .before .before .before .before .before .before .before .before .before .args .new-spacing) (c .before .before .before .before .before .before .before .before .before .args .denominator) (c .before .before .before .before .before .before .before .before .before .args .scale) (c .before .before .before .before .before .before .before .before .before .args .place)) (c .before .before .before .before .before .before .before .before .before .args .count) (c .before .before .before .before .before .before .before .before .before .args .nodes .now) (c .before .before .before .before .before .before .before .before .before .args .probabilities .now) (c .before .before .before .before .before .before .before .loop .nodes) (c .before .before .before .before .before .before .before .loop .probabilities) (c .before .before .before .before .before .before .before .loop .i) (c .before .before .before .before .before .before .before .loop .inv) in let k = after-long-too (stepFrom (c .before .before .before .before .before .before .before .before .before .args .spacing) (c .before .before .before .before .before .before .before .before .before .args .decay) (c .before .before .before .before .before .before .before .before .before .args .new-spacing) (c .before .before .before .before .before .before .before .before .before .args .denominator) (c .before .before .before .before .before .before .before .before .before .args .scale) (c .before .before .before .before .before .before .before .before .before .args .place)) (c .before .before .before .before .before .before .before .before .before .args .count) (c .before .before .before .before .before .before .before .before .before .args .nodes .now) (c .before .before .before .before .before .before .before .before .before .args .probabilities .now) (c .before .before .before .before .before .before .before .loop .nodes) (c .before .before .before .before .before .before .before .loop .probabilities) (c .before .before .before .before .before .before .before .loop .i) (c .before .before .before .before .before .before .before .loop .inv) in search needs
+mul-middle-2 c = let g = c .before .before .before .before .before .before .before .before .before .before in let f = g .before .loop .inv in let p = pairs-there f (g .loop-test .taken) in let q = threes-there f (g .loop-test .taken) in let k = f .behind .kept in let l = f .behind .kept-too in search needs
 
 slice-set-from-middle : tie.Need-slice-set-from-middle Inv-loop μ-loop
-slice-set-from-middle c = let r = c .before .before .before .before .before .before .before .loop .inv .room in let q = c .before .before .before .before .before .before .before .loop .inv .room-too in let l = after-long (stepFrom (c .before .before .before .before .before .before .before .before .before .args .spacing) (c .before .before .before .before .before .before .before .before .before .args .decay) (c .before .before .before .before .before .before .before .before .before .args .new-spacing) (c .before .before .before .before .before .before .before .before .before .args .denominator) (c .before .before .before .before .before .before .before .before .before .args .scale) (c .before .before .before .before .before .before .before .before .before .args .place)) (c .before .before .before .before .before .before .before .before .before .args .count) (c .before .before .before .before .before .before .before .before .before .args .nodes .now) (c .before .before .before .before .before .before .before .before .before .args .probabilities .now) (c .before .before .before .before .before .before .before .loop .nodes) (c .before .before .before .before .before .before .before .loop .probabilities) (c .before .before .before .before .before .before .before .loop .i) (c .before .before .before .before .before .before .before .loop .inv) in let k = after-long-too (stepFrom (c .before .before .before .before .before .before .before .before .before .args .spacing) (c .before .before .before .before .before .before .before .before .before .args .decay) (c .before .before .before .before .before .before .before .before .before .args .new-spacing) (c .before .before .before .before .before .before .before .before .before .args .denominator) (c .before .before .before .before .before .before .before .before .before .args .scale) (c .before .before .before .before .before .before .before .before .before .args .place)) (c .before .before .before .before .before .before .before .before .before .args .count) (c .before .before .before .before .before .before .before .before .before .args .nodes .now) (c .before .before .before .before .before .before .before .before .before .args .probabilities .now) (c .before .before .before .before .before .before .before .loop .nodes) (c .before .before .before .before .before .before .before .loop .probabilities) (c .before .before .before .before .before .before .before .loop .i) (c .before .before .before .before .before .before .before .loop .inv) in omega arith
+slice-set-from-middle c = let g = c .before .before .before .before .before .before .before .before .before .before in let f = g .before .loop .inv in let p = pairs-there f (g .loop-test .taken) in let q = threes-there f (g .loop-test .taken) in let k = f .behind .kept in let l = f .behind .kept-too in search needs
 
 mul-probabilities : tie.Need-mul-probabilities Inv-loop μ-loop
-mul-probabilities c = let r = c .before .before .before .before .before .before .before .loop .inv .room in let q = c .before .before .before .before .before .before .before .loop .inv .room-too in let l = after-long (stepFrom (c .before .before .before .before .before .before .before .before .before .args .spacing) (c .before .before .before .before .before .before .before .before .before .args .decay) (c .before .before .before .before .before .before .before .before .before .args .new-spacing) (c .before .before .before .before .before .before .before .before .before .args .denominator) (c .before .before .before .before .before .before .before .before .before .args .scale) (c .before .before .before .before .before .before .before .before .before .args .place)) (c .before .before .before .before .before .before .before .before .before .args .count) (c .before .before .before .before .before .before .before .before .before .args .nodes .now) (c .before .before .before .before .before .before .before .before .before .args .probabilities .now) (c .before .before .before .before .before .before .before .loop .nodes) (c .before .before .before .before .before .before .before .loop .probabilities) (c .before .before .before .before .before .before .before .loop .i) (c .before .before .before .before .before .before .before .loop .inv) in let k = after-long-too (stepFrom (c .before .before .before .before .before .before .before .before .before .args .spacing) (c .before .before .before .before .before .before .before .before .before .args .decay) (c .before .before .before .before .before .before .before .before .before .args .new-spacing) (c .before .before .before .before .before .before .before .before .before .args .denominator) (c .before .before .before .before .before .before .before .before .before .args .scale) (c .before .before .before .before .before .before .before .before .before .args .place)) (c .before .before .before .before .before .before .before .before .before .args .count) (c .before .before .before .before .before .before .before .before .before .args .nodes .now) (c .before .before .before .before .before .before .before .before .before .args .probabilities .now) (c .before .before .before .before .before .before .before .loop .nodes) (c .before .before .before .before .before .before .before .loop .probabilities) (c .before .before .before .before .before .before .before .loop .i) (c .before .before .before .before .before .before .before .loop .inv) in search needs
+mul-probabilities c = let g = c .before .before .before .before .before .before .before .before .before .before in let f = g .before .loop .inv in let p = pairs-there f (g .loop-test .taken) in let q = threes-there f (g .loop-test .taken) in let k = f .behind .kept in let l = f .behind .kept-too in search needs
 
 mul-probabilities-2 : tie.Need-mul-probabilities-2 Inv-loop μ-loop
-mul-probabilities-2 c = let r = c .before .before .before .before .before .before .before .loop .inv .room in let q = c .before .before .before .before .before .before .before .loop .inv .room-too in let l = after-long (stepFrom (c .before .before .before .before .before .before .before .before .before .args .spacing) (c .before .before .before .before .before .before .before .before .before .args .decay) (c .before .before .before .before .before .before .before .before .before .args .new-spacing) (c .before .before .before .before .before .before .before .before .before .args .denominator) (c .before .before .before .before .before .before .before .before .before .args .scale) (c .before .before .before .before .before .before .before .before .before .args .place)) (c .before .before .before .before .before .before .before .before .before .args .count) (c .before .before .before .before .before .before .before .before .before .args .nodes .now) (c .before .before .before .before .before .before .before .before .before .args .probabilities .now) (c .before .before .before .before .before .before .before .loop .nodes) (c .before .before .before .before .before .before .before .loop .probabilities) (c .before .before .before .before .before .before .before .loop .i) (c .before .before .before .before .before .before .before .loop .inv) in let k = after-long-too (stepFrom (c .before .before .before .before .before .before .before .before .before .args .spacing) (c .before .before .before .before .before .before .before .before .before .args .decay) (c .before .before .before .before .before .before .before .before .before .args .new-spacing) (c .before .before .before .before .before .before .before .before .before .args .denominator) (c .before .before .before .before .before .before .before .before .before .args .scale) (c .before .before .before .before .before .before .before .before .before .args .place)) (c .before .before .before .before .before .before .before .before .before .args .count) (c .before .before .before .before .before .before .before .before .before .args .nodes .now) (c .before .before .before .before .before .before .before .before .before .args .probabilities .now) (c .before .before .before .before .before .before .before .loop .nodes) (c .before .before .before .before .before .before .before .loop .probabilities) (c .before .before .before .before .before .before .before .loop .i) (c .before .before .before .before .before .before .before .loop .inv) in search needs
+mul-probabilities-2 c = let g = c .before .before .before .before .before .before .before .before .before .before in let f = g .before .loop .inv in let p = pairs-there f (g .loop-test .taken) in let q = threes-there f (g .loop-test .taken) in let k = f .behind .kept in let l = f .behind .kept-too in omega (arith, q, l, g .before .before .before .good)
 
 slice-write-probabilities : tie.Need-slice-write-probabilities Inv-loop μ-loop
-slice-write-probabilities c = let r = c .before .before .before .before .before .before .before .loop .inv .room in let q = c .before .before .before .before .before .before .before .loop .inv .room-too in let l = after-long (stepFrom (c .before .before .before .before .before .before .before .before .before .args .spacing) (c .before .before .before .before .before .before .before .before .before .args .decay) (c .before .before .before .before .before .before .before .before .before .args .new-spacing) (c .before .before .before .before .before .before .before .before .before .args .denominator) (c .before .before .before .before .before .before .before .before .before .args .scale) (c .before .before .before .before .before .before .before .before .before .args .place)) (c .before .before .before .before .before .before .before .before .before .args .count) (c .before .before .before .before .before .before .before .before .before .args .nodes .now) (c .before .before .before .before .before .before .before .before .before .args .probabilities .now) (c .before .before .before .before .before .before .before .loop .nodes) (c .before .before .before .before .before .before .before .loop .probabilities) (c .before .before .before .before .before .before .before .loop .i) (c .before .before .before .before .before .before .before .loop .inv) in let k = after-long-too (stepFrom (c .before .before .before .before .before .before .before .before .before .args .spacing) (c .before .before .before .before .before .before .before .before .before .args .decay) (c .before .before .before .before .before .before .before .before .before .args .new-spacing) (c .before .before .before .before .before .before .before .before .before .args .denominator) (c .before .before .before .before .before .before .before .before .before .args .scale) (c .before .before .before .before .before .before .before .before .before .args .place)) (c .before .before .before .before .before .before .before .before .before .args .count) (c .before .before .before .before .before .before .before .before .before .args .nodes .now) (c .before .before .before .before .before .before .before .before .before .args .probabilities .now) (c .before .before .before .before .before .before .before .loop .nodes) (c .before .before .before .before .before .before .before .loop .probabilities) (c .before .before .before .before .before .before .before .loop .i) (c .before .before .before .before .before .before .before .loop .inv) in search needs
+slice-write-probabilities c = let g = c .before .before .before .before .before .before .before .before .before .before in let f = g .before .loop .inv in let p = pairs-there f (g .loop-test .taken) in let q = threes-there f (g .loop-test .taken) in let k = f .behind .kept in let l = f .behind .kept-too in search needs
 
 mul-probabilities-3 : tie.Need-mul-probabilities-3 Inv-loop μ-loop
-mul-probabilities-3 c = let r = c .before .before .before .before .before .before .before .loop .inv .room in let q = c .before .before .before .before .before .before .before .loop .inv .room-too in let l = after-long (stepFrom (c .before .before .before .before .before .before .before .before .before .args .spacing) (c .before .before .before .before .before .before .before .before .before .args .decay) (c .before .before .before .before .before .before .before .before .before .args .new-spacing) (c .before .before .before .before .before .before .before .before .before .args .denominator) (c .before .before .before .before .before .before .before .before .before .args .scale) (c .before .before .before .before .before .before .before .before .before .args .place)) (c .before .before .before .before .before .before .before .before .before .args .count) (c .before .before .before .before .before .before .before .before .before .args .nodes .now) (c .before .before .before .before .before .before .before .before .before .args .probabilities .now) (c .before .before .before .before .before .before .before .loop .nodes) (c .before .before .before .before .before .before .before .loop .probabilities) (c .before .before .before .before .before .before .before .loop .i) (c .before .before .before .before .before .before .before .loop .inv) in let k = after-long-too (stepFrom (c .before .before .before .before .before .before .before .before .before .args .spacing) (c .before .before .before .before .before .before .before .before .before .args .decay) (c .before .before .before .before .before .before .before .before .before .args .new-spacing) (c .before .before .before .before .before .before .before .before .before .args .denominator) (c .before .before .before .before .before .before .before .before .before .args .scale) (c .before .before .before .before .before .before .before .before .before .args .place)) (c .before .before .before .before .before .before .before .before .before .args .count) (c .before .before .before .before .before .before .before .before .before .args .nodes .now) (c .before .before .before .before .before .before .before .before .before .args .probabilities .now) (c .before .before .before .before .before .before .before .loop .nodes) (c .before .before .before .before .before .before .before .loop .probabilities) (c .before .before .before .before .before .before .before .loop .i) (c .before .before .before .before .before .before .before .loop .inv) in search needs
+mul-probabilities-3 c = let g = c .before .before .before .before .before .before .before .before .before .before in let f = g .before .loop .inv in let p = pairs-there f (g .loop-test .taken) in let q = threes-there f (g .loop-test .taken) in let k = f .behind .kept in let l = f .behind .kept-too in search needs
 
 add-probabilities : tie.Need-add-probabilities Inv-loop μ-loop
-add-probabilities c = let r = c .before .before .before .before .before .before .before .loop .inv .room in let q = c .before .before .before .before .before .before .before .loop .inv .room-too in let l = after-long (stepFrom (c .before .before .before .before .before .before .before .before .before .args .spacing) (c .before .before .before .before .before .before .before .before .before .args .decay) (c .before .before .before .before .before .before .before .before .before .args .new-spacing) (c .before .before .before .before .before .before .before .before .before .args .denominator) (c .before .before .before .before .before .before .before .before .before .args .scale) (c .before .before .before .before .before .before .before .before .before .args .place)) (c .before .before .before .before .before .before .before .before .before .args .count) (c .before .before .before .before .before .before .before .before .before .args .nodes .now) (c .before .before .before .before .before .before .before .before .before .args .probabilities .now) (c .before .before .before .before .before .before .before .loop .nodes) (c .before .before .before .before .before .before .before .loop .probabilities) (c .before .before .before .before .before .before .before .loop .i) (c .before .before .before .before .before .before .before .loop .inv) in let k = after-long-too (stepFrom (c .before .before .before .before .before .before .before .before .before .args .spacing) (c .before .before .before .before .before .before .before .before .before .args .decay) (c .before .before .before .before .before .before .before .before .before .args .new-spacing) (c .before .before .before .before .before .before .before .before .before .args .denominator) (c .before .before .before .before .before .before .before .before .before .args .scale) (c .before .before .before .before .before .before .before .before .before .args .place)) (c .before .before .before .before .before .before .before .before .before .args .count) (c .before .before .before .before .before .before .before .before .before .args .nodes .now) (c .before .before .before .before .before .before .before .before .before .args .probabilities .now) (c .before .before .before .before .before .before .before .loop .nodes) (c .before .before .before .before .before .before .before .loop .probabilities) (c .before .before .before .before .before .before .before .loop .i) (c .before .before .before .before .before .before .before .loop .inv) in search needs
+add-probabilities c = let g = c .before .before .before .before .before .before .before .before .before .before in let f = g .before .loop .inv in let p = pairs-there f (g .loop-test .taken) in let q = threes-there f (g .loop-test .taken) in let k = f .behind .kept in let l = f .behind .kept-too in search needs
 
 mul-probabilities-4 : tie.Need-mul-probabilities-4 Inv-loop μ-loop
-mul-probabilities-4 c = let r = c .before .before .before .before .before .before .before .loop .inv .room in let q = c .before .before .before .before .before .before .before .loop .inv .room-too in let l = after-long (stepFrom (c .before .before .before .before .before .before .before .before .before .args .spacing) (c .before .before .before .before .before .before .before .before .before .args .decay) (c .before .before .before .before .before .before .before .before .before .args .new-spacing) (c .before .before .before .before .before .before .before .before .before .args .denominator) (c .before .before .before .before .before .before .before .before .before .args .scale) (c .before .before .before .before .before .before .before .before .before .args .place)) (c .before .before .before .before .before .before .before .before .before .args .count) (c .before .before .before .before .before .before .before .before .before .args .nodes .now) (c .before .before .before .before .before .before .before .before .before .args .probabilities .now) (c .before .before .before .before .before .before .before .loop .nodes) (c .before .before .before .before .before .before .before .loop .probabilities) (c .before .before .before .before .before .before .before .loop .i) (c .before .before .before .before .before .before .before .loop .inv) in let k = after-long-too (stepFrom (c .before .before .before .before .before .before .before .before .before .args .spacing) (c .before .before .before .before .before .before .before .before .before .args .decay) (c .before .before .before .before .before .before .before .before .before .args .new-spacing) (c .before .before .before .before .before .before .before .before .before .args .denominator) (c .before .before .before .before .before .before .before .before .before .args .scale) (c .before .before .before .before .before .before .before .before .before .args .place)) (c .before .before .before .before .before .before .before .before .before .args .count) (c .before .before .before .before .before .before .before .before .before .args .nodes .now) (c .before .before .before .before .before .before .before .before .before .args .probabilities .now) (c .before .before .before .before .before .before .before .loop .nodes) (c .before .before .before .before .before .before .before .loop .probabilities) (c .before .before .before .before .before .before .before .loop .i) (c .before .before .before .before .before .before .before .loop .inv) in search needs
+mul-probabilities-4 c = let g = c .before .before .before .before .before .before .before .before .before .before in let f = g .before .loop .inv in let p = pairs-there f (g .loop-test .taken) in let q = threes-there f (g .loop-test .taken) in let k = f .behind .kept in let l = f .behind .kept-too in omega (arith, q, l, g .before .before .before .good)
 
 slice-write-probabilities-2 : tie.Need-slice-write-probabilities-2 Inv-loop μ-loop
-slice-write-probabilities-2 c = let r = c .before .before .before .before .before .before .before .loop .inv .room in let q = c .before .before .before .before .before .before .before .loop .inv .room-too in let l = after-long (stepFrom (c .before .before .before .before .before .before .before .before .before .args .spacing) (c .before .before .before .before .before .before .before .before .before .args .decay) (c .before .before .before .before .before .before .before .before .before .args .new-spacing) (c .before .before .before .before .before .before .before .before .before .args .denominator) (c .before .before .before .before .before .before .before .before .before .args .scale) (c .before .before .before .before .before .before .before .before .before .args .place)) (c .before .before .before .before .before .before .before .before .before .args .count) (c .before .before .before .before .before .before .before .before .before .args .nodes .now) (c .before .before .before .before .before .before .before .before .before .args .probabilities .now) (c .before .before .before .before .before .before .before .loop .nodes) (c .before .before .before .before .before .before .before .loop .probabilities) (c .before .before .before .before .before .before .before .loop .i) (c .before .before .before .before .before .before .before .loop .inv) in let k = after-long-too (stepFrom (c .before .before .before .before .before .before .before .before .before .args .spacing) (c .before .before .before .before .before .before .before .before .before .args .decay) (c .before .before .before .before .before .before .before .before .before .args .new-spacing) (c .before .before .before .before .before .before .before .before .before .args .denominator) (c .before .before .before .before .before .before .before .before .before .args .scale) (c .before .before .before .before .before .before .before .before .before .args .place)) (c .before .before .before .before .before .before .before .before .before .args .count) (c .before .before .before .before .before .before .before .before .before .args .nodes .now) (c .before .before .before .before .before .before .before .before .before .args .probabilities .now) (c .before .before .before .before .before .before .before .loop .nodes) (c .before .before .before .before .before .before .before .loop .probabilities) (c .before .before .before .before .before .before .before .loop .i) (c .before .before .before .before .before .before .before .loop .inv) in simp (length-set) (omega arith)
+slice-write-probabilities-2 c = let g = c .before .before .before .before .before .before .before .before .before .before in let f = g .before .loop .inv in let p = pairs-there f (g .loop-test .taken) in let q = threes-there f (g .loop-test .taken) in let k = f .behind .kept in let l = f .behind .kept-too in simp (length-set) (omega arith)
 
 mul-probabilities-5 : tie.Need-mul-probabilities-5 Inv-loop μ-loop
-mul-probabilities-5 c = let r = c .before .before .before .before .before .before .before .loop .inv .room in let q = c .before .before .before .before .before .before .before .loop .inv .room-too in let l = after-long (stepFrom (c .before .before .before .before .before .before .before .before .before .args .spacing) (c .before .before .before .before .before .before .before .before .before .args .decay) (c .before .before .before .before .before .before .before .before .before .args .new-spacing) (c .before .before .before .before .before .before .before .before .before .args .denominator) (c .before .before .before .before .before .before .before .before .before .args .scale) (c .before .before .before .before .before .before .before .before .before .args .place)) (c .before .before .before .before .before .before .before .before .before .args .count) (c .before .before .before .before .before .before .before .before .before .args .nodes .now) (c .before .before .before .before .before .before .before .before .before .args .probabilities .now) (c .before .before .before .before .before .before .before .loop .nodes) (c .before .before .before .before .before .before .before .loop .probabilities) (c .before .before .before .before .before .before .before .loop .i) (c .before .before .before .before .before .before .before .loop .inv) in let k = after-long-too (stepFrom (c .before .before .before .before .before .before .before .before .before .args .spacing) (c .before .before .before .before .before .before .before .before .before .args .decay) (c .before .before .before .before .before .before .before .before .before .args .new-spacing) (c .before .before .before .before .before .before .before .before .before .args .denominator) (c .before .before .before .before .before .before .before .before .before .args .scale) (c .before .before .before .before .before .before .before .before .before .args .place)) (c .before .before .before .before .before .before .before .before .before .args .count) (c .before .before .before .before .before .before .before .before .before .args .nodes .now) (c .before .before .before .before .before .before .before .before .before .args .probabilities .now) (c .before .before .before .before .before .before .before .loop .nodes) (c .before .before .before .before .before .before .before .loop .probabilities) (c .before .before .before .before .before .before .before .loop .i) (c .before .before .before .before .before .before .before .loop .inv) in search needs
+mul-probabilities-5 c = let g = c .before .before .before .before .before .before .before .before .before .before in let f = g .before .loop .inv in let p = pairs-there f (g .loop-test .taken) in let q = threes-there f (g .loop-test .taken) in let k = f .behind .kept in let l = f .behind .kept-too in search needs
 
 add-probabilities-2 : tie.Need-add-probabilities-2 Inv-loop μ-loop
-add-probabilities-2 c = let r = c .before .before .before .before .before .before .before .loop .inv .room in let q = c .before .before .before .before .before .before .before .loop .inv .room-too in let l = after-long (stepFrom (c .before .before .before .before .before .before .before .before .before .args .spacing) (c .before .before .before .before .before .before .before .before .before .args .decay) (c .before .before .before .before .before .before .before .before .before .args .new-spacing) (c .before .before .before .before .before .before .before .before .before .args .denominator) (c .before .before .before .before .before .before .before .before .before .args .scale) (c .before .before .before .before .before .before .before .before .before .args .place)) (c .before .before .before .before .before .before .before .before .before .args .count) (c .before .before .before .before .before .before .before .before .before .args .nodes .now) (c .before .before .before .before .before .before .before .before .before .args .probabilities .now) (c .before .before .before .before .before .before .before .loop .nodes) (c .before .before .before .before .before .before .before .loop .probabilities) (c .before .before .before .before .before .before .before .loop .i) (c .before .before .before .before .before .before .before .loop .inv) in let k = after-long-too (stepFrom (c .before .before .before .before .before .before .before .before .before .args .spacing) (c .before .before .before .before .before .before .before .before .before .args .decay) (c .before .before .before .before .before .before .before .before .before .args .new-spacing) (c .before .before .before .before .before .before .before .before .before .args .denominator) (c .before .before .before .before .before .before .before .before .before .args .scale) (c .before .before .before .before .before .before .before .before .before .args .place)) (c .before .before .before .before .before .before .before .before .before .args .count) (c .before .before .before .before .before .before .before .before .before .args .nodes .now) (c .before .before .before .before .before .before .before .before .before .args .probabilities .now) (c .before .before .before .before .before .before .before .loop .nodes) (c .before .before .before .before .before .before .before .loop .probabilities) (c .before .before .before .before .before .before .before .loop .i) (c .before .before .before .before .before .before .before .loop .inv) in search needs
+add-probabilities-2 c = let g = c .before .before .before .before .before .before .before .before .before .before in let f = g .before .loop .inv in let p = pairs-there f (g .loop-test .taken) in let q = threes-there f (g .loop-test .taken) in let k = f .behind .kept in let l = f .behind .kept-too in search needs
 
 mul-probabilities-6 : tie.Need-mul-probabilities-6 Inv-loop μ-loop
-mul-probabilities-6 c = let r = c .before .before .before .before .before .before .before .loop .inv .room in let q = c .before .before .before .before .before .before .before .loop .inv .room-too in let l = after-long (stepFrom (c .before .before .before .before .before .before .before .before .before .args .spacing) (c .before .before .before .before .before .before .before .before .before .args .decay) (c .before .before .before .before .before .before .before .before .before .args .new-spacing) (c .before .before .before .before .before .before .before .before .before .args .denominator) (c .before .before .before .before .before .before .before .before .before .args .scale) (c .before .before .before .before .before .before .before .before .before .args .place)) (c .before .before .before .before .before .before .before .before .before .args .count) (c .before .before .before .before .before .before .before .before .before .args .nodes .now) (c .before .before .before .before .before .before .before .before .before .args .probabilities .now) (c .before .before .before .before .before .before .before .loop .nodes) (c .before .before .before .before .before .before .before .loop .probabilities) (c .before .before .before .before .before .before .before .loop .i) (c .before .before .before .before .before .before .before .loop .inv) in let k = after-long-too (stepFrom (c .before .before .before .before .before .before .before .before .before .args .spacing) (c .before .before .before .before .before .before .before .before .before .args .decay) (c .before .before .before .before .before .before .before .before .before .args .new-spacing) (c .before .before .before .before .before .before .before .before .before .args .denominator) (c .before .before .before .before .before .before .before .before .before .args .scale) (c .before .before .before .before .before .before .before .before .before .args .place)) (c .before .before .before .before .before .before .before .before .before .args .count) (c .before .before .before .before .before .before .before .before .before .args .nodes .now) (c .before .before .before .before .before .before .before .before .before .args .probabilities .now) (c .before .before .before .before .before .before .before .loop .nodes) (c .before .before .before .before .before .before .before .loop .probabilities) (c .before .before .before .before .before .before .before .loop .i) (c .before .before .before .before .before .before .before .loop .inv) in search needs
+mul-probabilities-6 c = let g = c .before .before .before .before .before .before .before .before .before .before in let f = g .before .loop .inv in let p = pairs-there f (g .loop-test .taken) in let q = threes-there f (g .loop-test .taken) in let k = f .behind .kept in let l = f .behind .kept-too in omega (arith, q, l, g .before .before .before .good)
 
 slice-write-probabilities-3 : tie.Need-slice-write-probabilities-3 Inv-loop μ-loop
-slice-write-probabilities-3 c = let r = c .before .before .before .before .before .before .before .loop .inv .room in let q = c .before .before .before .before .before .before .before .loop .inv .room-too in let l = after-long (stepFrom (c .before .before .before .before .before .before .before .before .before .args .spacing) (c .before .before .before .before .before .before .before .before .before .args .decay) (c .before .before .before .before .before .before .before .before .before .args .new-spacing) (c .before .before .before .before .before .before .before .before .before .args .denominator) (c .before .before .before .before .before .before .before .before .before .args .scale) (c .before .before .before .before .before .before .before .before .before .args .place)) (c .before .before .before .before .before .before .before .before .before .args .count) (c .before .before .before .before .before .before .before .before .before .args .nodes .now) (c .before .before .before .before .before .before .before .before .before .args .probabilities .now) (c .before .before .before .before .before .before .before .loop .nodes) (c .before .before .before .before .before .before .before .loop .probabilities) (c .before .before .before .before .before .before .before .loop .i) (c .before .before .before .before .before .before .before .loop .inv) in let k = after-long-too (stepFrom (c .before .before .before .before .before .before .before .before .before .args .spacing) (c .before .before .before .before .before .before .before .before .before .args .decay) (c .before .before .before .before .before .before .before .before .before .args .new-spacing) (c .before .before .before .before .before .before .before .before .before .args .denominator) (c .before .before .before .before .before .before .before .before .before .args .scale) (c .before .before .before .before .before .before .before .before .before .args .place)) (c .before .before .before .before .before .before .before .before .before .args .count) (c .before .before .before .before .before .before .before .before .before .args .nodes .now) (c .before .before .before .before .before .before .before .before .before .args .probabilities .now) (c .before .before .before .before .before .before .before .loop .nodes) (c .before .before .before .before .before .before .before .loop .probabilities) (c .before .before .before .before .before .before .before .loop .i) (c .before .before .before .before .before .before .before .loop .inv) in simp (length-set) (omega arith)
+slice-write-probabilities-3 c = let g = c .before .before .before .before .before .before .before .before .before .before in let f = g .before .loop .inv in let p = pairs-there f (g .loop-test .taken) in let q = threes-there f (g .loop-test .taken) in let k = f .behind .kept in let l = f .behind .kept-too in simp (length-set) (omega arith)
 
 add-i : tie.Need-add-i Inv-loop μ-loop
-add-i c = search needs
+add-i c = let g = c .before .before .before .before .before .before .before .before .before .before in let f = g .before .loop .inv in let p = pairs-there f (g .loop-test .taken) in let q = threes-there f (g .loop-test .taken) in let k = f .behind .kept in let l = f .behind .kept-too in search needs
 
 loop-less : tie.Need-loop-less Inv-loop μ-loop
-loop-less c = search needs
+loop-less c = let g = c .before .before .before .before .before .before .before .before .before .before in let f = g .before .loop .inv in let p = pairs-there f (g .loop-test .taken) in let q = threes-there f (g .loop-test .taken) in let k = f .behind .kept in let l = f .behind .kept-too in search needs
 
 loop-again : tie.Need-loop-again Inv-loop μ-loop
-loop-again c = filling-stored (stepFrom (c .before .before .before .before .before .before .before .before .before .args .spacing) (c .before .before .before .before .before .before .before .before .before .args .decay) (c .before .before .before .before .before .before .before .before .before .args .new-spacing) (c .before .before .before .before .before .before .before .before .before .args .denominator) (c .before .before .before .before .before .before .before .before .before .args .scale) (c .before .before .before .before .before .before .before .before .before .args .place)) (c .before .before .before .before .before .before .before .before .before .args .count) (c .before .before .before .before .before .before .before .before .before .args .nodes .now) (c .before .before .before .before .before .before .before .before .before .args .probabilities .now) (c .before .before .before .before .before .before .before .loop .nodes) (c .before .before .before .before .before .before .before .loop .probabilities) (c .before .before .before .before .before .before .before .loop .i) (c .before .before .before .before .before .before .before .loop .inv) (c .before .before .before .before .transition-of .result) (c .before .before .before .before .before .before .loop-test .taken) (toZ-ofZ {w = w32} (record { sfits = c .before .before .before .before .before .node .given }) ∙ number-read (stepFrom (c .before .before .before .before .before .before .before .before .before .args .spacing) (c .before .before .before .before .before .before .before .before .before .args .decay) (c .before .before .before .before .before .before .before .before .before .args .new-spacing) (c .before .before .before .before .before .before .before .before .before .args .denominator) (c .before .before .before .before .before .before .before .before .before .args .scale) (c .before .before .before .before .before .before .before .before .before .args .place)) (c .before .before .before .before .before .before .before .before .before .args .count) (c .before .before .before .before .before .before .before .before .before .args .nodes .now) (c .before .before .before .before .before .before .before .before .before .args .probabilities .now) (c .before .before .before .before .before .before .before .loop .nodes) (c .before .before .before .before .before .before .before .loop .probabilities) (c .before .before .before .before .before .before .before .loop .i) (c .before .before .before .before .before .before .before .loop .inv) (pos 0) (c .before .before .before .before .before .before .loop-test .taken)) (c .before .before .before .before .transition-of .ensures) (c .before .before .made .given .1) (back-numbered (within-numbered (stored-within (stepFrom (c .before .before .before .before .before .before .before .before .before .args .spacing) (c .before .before .before .before .before .before .before .before .before .args .decay) (c .before .before .before .before .before .before .before .before .before .args .new-spacing) (c .before .before .before .before .before .before .before .before .before .args .denominator) (c .before .before .before .before .before .before .before .before .before .args .scale) (c .before .before .before .before .before .before .before .before .before .args .place)) (c .before .before .before .before .before .before .before .before .before .args .count) (c .before .before .before .before .before .before .before .before .before .args .nodes .now) (c .before .before .before .before .before .before .before .before .before .args .probabilities .now) (c .before .before .before .before .before .before .before .loop .nodes) (c .before .before .before .before .before .before .before .loop .probabilities) (c .before .before .before .before .before .before .before .loop .i) (c .before .before .before .before .before .before .before .loop .inv) (c .before .before .before .before .transition-of .result) (c .before .before .before .before .before .before .loop-test .taken) (toZ-ofZ {w = w32} (record { sfits = c .before .before .before .before .before .node .given }) ∙ number-read (stepFrom (c .before .before .before .before .before .before .before .before .before .args .spacing) (c .before .before .before .before .before .before .before .before .before .args .decay) (c .before .before .before .before .before .before .before .before .before .args .new-spacing) (c .before .before .before .before .before .before .before .before .before .args .denominator) (c .before .before .before .before .before .before .before .before .before .args .scale) (c .before .before .before .before .before .before .before .before .before .args .place)) (c .before .before .before .before .before .before .before .before .before .args .count) (c .before .before .before .before .before .before .before .before .before .args .nodes .now) (c .before .before .before .before .before .before .before .before .before .args .probabilities .now) (c .before .before .before .before .before .before .before .loop .nodes) (c .before .before .before .before .before .before .before .loop .probabilities) (c .before .before .before .before .before .before .before .loop .i) (c .before .before .before .before .before .before .before .loop .inv) (pos 0) (c .before .before .before .before .before .before .loop-test .taken)) (c .before .before .before .before .transition-of .ensures) (c .before .before .made .given .1))))
+loop-again c =
+    let g = c .before .before .before .before .before .before .before .before .before .before in
+    let m = c .before .before .before .before .known-or-made in
+    let e = c .before .before .made .given .1 in
+    let read = toZ-ofZ {w = w32} (record { sfits = c .before .before .before .before .before .before .before .before .before .node .given }) in
+    let within = behind-within (g .before .loop .inv) (m .result) (g .loop-test .taken) read (m .ensures) e in
+    behind-stored (g .before .loop .inv) (m .result) (g .loop-test .taken) read (m .ensures) e (back-numbered (within-numbered within))
 
 same-length-3 : tie.Need-same-length-3 Inv-loop μ-loop
-same-length-3 c = after-long (stepFrom (c .before .before .before .args .spacing) (c .before .before .before .args .decay) (c .before .before .before .args .new-spacing) (c .before .before .before .args .denominator) (c .before .before .before .args .scale) (c .before .before .before .args .place)) (c .before .before .before .args .count) (c .before .before .before .args .nodes .now) (c .before .before .before .args .probabilities .now) (c .before .loop .nodes) (c .before .loop .probabilities) (c .before .loop .i) (c .before .loop .inv)
+same-length-3 c = c .before .loop .inv .behind .kept
 
 same-length-4 : tie.Need-same-length-4 Inv-loop μ-loop
-same-length-4 c = after-long-too (stepFrom (c .before .before .before .args .spacing) (c .before .before .before .args .decay) (c .before .before .before .args .new-spacing) (c .before .before .before .args .denominator) (c .before .before .before .args .scale) (c .before .before .before .args .place)) (c .before .before .before .args .count) (c .before .before .before .args .nodes .now) (c .before .before .before .args .probabilities .now) (c .before .loop .nodes) (c .before .loop .probabilities) (c .before .loop .i) (c .before .loop .inv)
+same-length-4 c = c .before .loop .inv .behind .kept-too
 
 returns-2 : tie.Need-returns-2 Inv-loop μ-loop
-returns-2 c = filling-all (stepFrom (c .before .before .before .args .spacing) (c .before .before .before .args .decay) (c .before .before .before .args .new-spacing) (c .before .before .before .args .denominator) (c .before .before .before .args .scale) (c .before .before .before .args .place)) (c .before .before .before .args .count) (c .before .before .before .args .nodes .now) (c .before .before .before .args .probabilities .now) (c .before .loop .nodes) (c .before .loop .probabilities) (c .before .loop .i) (c .before .loop .inv) (c .loop-test .left)
+returns-2 c = behind-all (c .before .loop .inv) (c .loop-test .left)
 
 pub fill-spec : {M : Type 1} → statement M
 fill-spec =
@@ -125,10 +139,12 @@ fill-spec =
     Inv-loop
     μ-loop
     loop-holds
+    add-at
     mul-node
     mul-node-2
     slice-copy-out-node
-    transition-of-requires
+    not-below-requires
+    known-or-made-requires
     enum-known-made
     enum-told
     unmade-requires
