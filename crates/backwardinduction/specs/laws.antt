@@ -2,6 +2,7 @@
 pub mod Rising
 pub mod WalkRising
 pub mod WalkSteps
+pub mod Discounts
 pub mod WalkPlaces
 pub mod WalkMore
 pub mod WalkBack

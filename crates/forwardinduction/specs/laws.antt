@@ -1,5 +1,6 @@
 -- The laws of the fit that others may cite.
 pub mod FitSteps
+pub mod Exps
 pub mod Advances
 pub mod Placing
 pub mod FitPlaces

@@ -1,5 +1,7 @@
 // Fitting the tree to the curve, one layer: the weighted sum of state prices, the shift, and the state prices of the next layer.
 
+use crate::exps::discounts;
+use crate::exps::weights;
 use elementary::exp::exp_at;
 use elementary::ln::ln_at;
 use floats::Answer;
@@ -12,40 +14,51 @@ use lattice::refusals::row_overflow;
 use terms::Check;
 use terms::refusing::refused_by;
 ghost use mathlib.Core.Path.{_≡_};
+ghost use mathlib.Core.Bool.{true};
 ghost use Prim.Native.Nat.{_*_, _+_, _^_, _<_, _≤_};
 ghost use lib.ListN.{length};
-ghost use Rattle.floats.specs.Answers.{plusZero};
+ghost use Rattle.floats.specs.declared.Answer.the-variants.{Value};
+ghost use Rattle.floats.specs.Answers.{plusZero, tested};
+ghost use Rattle.elementary.specs.Exponential.{expAt};
 ghost use Rattle.forwardinduction.specs.Fit.{weighted};
 ghost use Rattle.lattice.specs.laws.Stored.{numbersIn, rowOf};
 ghost use Rattle.lattice.specs.laws.Positions.{spotAt, past, startOf, Layered};
 ghost use Rattle.lattice.specs.laws.Rows.{outcomeOf};
+ghost use Rattle.forwardinduction.specs.laws.Exps.{rateArgument, weightArgument};
 ghost use Rattle.forwardinduction.specs.laws.FitSteps.{weighOne, shiftFrom, discountedOf, addAt, shareAt, addThree, onwardAt};
 
-// One more price in the sum: price × exp(spacing × (−node × time_step)), added.
-fn weigh(total: f64, node: f64, price: f64, spacing: f64, dt: f64, place: u32) -> Answer
-    ensures { λ r. ⌜ r ≡ weighOne spacing dt place node price total ⌝ }
+// The result of an operation, tested.
+fn finite_answer(x: f64, place: u32) -> Answer
+    ensures { λ r. ⌜ r ≡ tested x place ⌝ }
 {
-    let x = -node * dt;
     if not_finite(x) {
         return overflow(place);
     }
-    let y = spacing * x;
-    if not_finite(y) {
-        return overflow(place);
+    Answer::Value(x)
+}
+
+// One more price in the sum: price × exp(spacing × (−node × time_step)), added. Where `known` says so, e is the exp.
+fn weigh(
+    known: bool,
+    e: f64,
+    total: f64,
+    node: f64,
+    price: f64,
+    spacing: f64,
+    dt: f64,
+    place: u32,
+) -> Answer
+    requires { ⌜ (known ≡ true → expAt (weightArgument spacing dt node) place ≡ Value e) ⌝ }
+    ensures { λ r. ⌜ r ≡ weighOne spacing dt place node price total ⌝ }
+{
+    if known {
+        return finite_answer(total + price * e, place);
     }
-    let e = exp_at(y, place);
-    let Answer::Value(discount) = e else {
-        return e;
+    let a = exp_at(spacing * (-node * dt), place);
+    let Answer::Value(discount) = a else {
+        return a;
     };
-    let w = price * discount;
-    if not_finite(w) {
-        return overflow(place);
-    }
-    let more = total + w;
-    if not_finite(more) {
-        return overflow(place);
-    }
-    Answer::Value(more)
+    finite_answer(total + price * discount, place)
 }
 
 // The weighted sum of a layer's state prices, nodes rising.
@@ -53,11 +66,15 @@ pub fn weighted_sum(nodes: &[i32], row: &[f64], spacing: f64, dt: f64, place: u3
     requires { ⌜ length (now nodes) ≡ length (now row) * 2 ⌝ }
     ensures { λ r. ⌜ r ≡ weighted spacing dt place (rowOf (numbersIn (now (nodes .entry))) (now (row .entry))) plusZero ⌝ }
 {
+    let mut es = [0.0; 64];
+    let mut good = false;
     let mut total = 0.0;
     let mut i = 0;
     while i < row.len() {
+        good = weights(nodes, row.len(), i, good, spacing, dt, &mut es);
         let node = nodes[i * 2];
-        let sum = weigh(total, node as f64, row[i], spacing, dt, place);
+        let e = es[i % 64];
+        let sum = weigh(good, e, total, node as f64, row[i], spacing, dt, place);
         let Answer::Value(t) = sum else {
             return sum;
         };
@@ -92,31 +109,28 @@ pub fn shift_from(sum: f64, factor: f64, dt: f64, place: u32) -> Answer
     Answer::Value(shift)
 }
 
-// A node's state price discounted over the step: exp((shift + spacing × node) × −time_step) × price.
-fn discounted(node: f64, price: f64, spacing: f64, dt: f64, shift: f64, place: u32) -> Answer
+// A node's state price discounted over the step: exp((shift + spacing × node) × −time_step) × price. Where `known` says so, e is the exp.
+fn discounted(
+    known: bool,
+    e: f64,
+    node: f64,
+    price: f64,
+    spacing: f64,
+    dt: f64,
+    shift: f64,
+    place: u32,
+) -> Answer
+    requires { ⌜ (known ≡ true → expAt (rateArgument spacing dt shift node) place ≡ Value e) ⌝ }
     ensures { λ r. ⌜ r ≡ discountedOf spacing dt shift place node price ⌝ }
 {
-    let state = spacing * node;
-    if not_finite(state) {
-        return overflow(place);
+    if known {
+        return finite_answer(price * e, place);
     }
-    let rate = shift + state;
-    if not_finite(rate) {
-        return overflow(place);
-    }
-    let x = rate * -dt;
-    if not_finite(x) {
-        return overflow(place);
-    }
-    let e = exp_at(x, place);
-    let Answer::Value(discount) = e else {
-        return e;
+    let a = exp_at((shift + spacing * node) * -dt, place);
+    let Answer::Value(discount) = a else {
+        return a;
     };
-    let worth = price * discount;
-    if not_finite(worth) {
-        return overflow(place);
-    }
-    Answer::Value(worth)
+    finite_answer(price * discount, place)
 }
 
 // The position of a destination, `back` before the count that is reached.
@@ -223,12 +237,16 @@ pub fn onward(
     requires { ⌜ Layered flat (length (now next)) (now nodes) (now probabilities) (length (now row)) ⌝ }
     ensures { λ r. ⌜ outcomeOf r (now (next .exit)) ≡ onwardAt spacing dt shift place flat (startOf (now (nodes .entry))) (now (nodes .entry)) (now (probabilities .entry)) (now (row .entry)) (now (next .entry)) ⌝ }
 {
+    let mut es = [0.0; 64];
+    let mut good = false;
     let mut r = nothing_below(nodes[1]);
     let mut i = 0;
     while i < row.len() {
+        good = discounts(nodes, row.len(), i, good, spacing, dt, shift, &mut es);
         let node = nodes[i * 2];
         let middle = nodes[i * 2 + 1];
-        let d = discounted(node as f64, row[i], spacing, dt, shift, place);
+        let e = es[i % 64];
+        let d = discounted(good, e, node as f64, row[i], spacing, dt, shift, place);
         let Answer::Value(price) = d else {
             return refused_by(d);
         };

@@ -1,4 +1,5 @@
 // Forward induction over the layers: the fit to the curve.
+mod exps;
 pub mod fit;
 pub mod fitting;
 pub mod layer;

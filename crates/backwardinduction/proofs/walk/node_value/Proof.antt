@@ -47,7 +47,7 @@ unfolding valueWith
 returns c = rw (← c .before .before .before .before .before .before .before .before .spot .ensures, ← c .before .before .before .before .before .before .before .spot2 .ensures, ← c .before .before .before .before .before .before .spot3 .ensures) (search answers depth 20 fits 4000)
 
 discount-requires : tie.Need-discount-requires
-discount-requires c κs = tt
+discount-requires c κs = search answers
 
 enum-known-d : tie.Need-enum-known-d
 enum-known-d c = c .match2 .keys1
