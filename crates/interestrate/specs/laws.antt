@@ -1,2 +1,3 @@
 -- Laws of rates that proofs and the crates above may cite.
 pub mod Found
+pub mod Rows

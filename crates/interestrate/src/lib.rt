@@ -3,6 +3,7 @@ use floats::Refusal;
 
 pub mod prices;
 pub mod rates;
+pub mod rows;
 
 // How often interest is compounded in a year.
 pub enum Frequency {
