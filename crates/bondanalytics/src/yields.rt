@@ -20,6 +20,7 @@ ghost use mathlib.Core.Path.{_≡_};
 ghost use mathlib.Core.List.{[]};
 ghost use lib.ListN.{length};
 ghost use Rattle.terms.specs.Terms.{Leg};
+ghost use Rattle.terms.specs.Slices.{legIn};
 ghost use Rattle.bondanalytics.specs.Yields.{priceFromYield, yieldFromPrice, solveYield};
 
 // The price of the cashflows at a yield, and its derivative.
@@ -32,7 +33,7 @@ pub fn price_from_yield(
     frequency: u32,
     y: f64,
 ) -> YieldPrice
-    ensures { λ r. ⌜ r ≡ priceFromYield settlement (record { days = now («cashflow_days» .entry); kinds = now («cashflow_kinds» .entry); amounts = now («cashflow_amounts» .entry) }) compounding frequency y ⌝ }
+    ensures { λ r. ⌜ r ≡ priceFromYield settlement (legIn «cashflow_days» «cashflow_kinds» «cashflow_amounts») compounding frequency y ⌝ }
 {
     let found = rate_of(compounding, frequency);
     let checked = price_checks(
@@ -109,7 +110,7 @@ pub fn yield_from_price(
     frequency: u32,
     target: f64,
 ) -> Root
-    ensures { λ r. ⌜ r ≡ yieldFromPrice settlement (record { days = now («cashflow_days» .entry); kinds = now («cashflow_kinds» .entry); amounts = now («cashflow_amounts» .entry) }) compounding frequency target ⌝ }
+    ensures { λ r. ⌜ r ≡ yieldFromPrice settlement (legIn «cashflow_days» «cashflow_kinds» «cashflow_amounts») compounding frequency target ⌝ }
 {
     let found = rate_of(compounding, frequency);
     let checked = target_checks(

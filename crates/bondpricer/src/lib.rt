@@ -17,7 +17,8 @@ ghost use mathlib.Core.Path.{_≡_};
 ghost use mathlib.Core.List.{[]};
 ghost use lib.ListN.{length};
 ghost use Rattle.floats.specs.Answers.{plusZero};
-ghost use Rattle.terms.specs.Terms.{Leg, Pillars};
+ghost use Rattle.terms.specs.Terms.{Leg};
+ghost use Rattle.terms.specs.Slices.{legIn, pillarsIn};
 ghost use Rattle.terms.specs.Curve.{curveOver};
 ghost use Rattle.bondpricer.specs.Straight.{withFlow, flows, discountedValue, straightValue};
 
@@ -153,7 +154,7 @@ pub fn straight_value(
     pillar_days: &[u32],
     pillar_factors: &[f64],
 ) -> Answer
-    ensures { λ r. ⌜ r ≡ straightValue settlement (record { days = now («cashflow_days» .entry); kinds = now («cashflow_kinds» .entry); amounts = now («cashflow_amounts» .entry) }) spread (record { days = now («pillar_days» .entry); factors = now («pillar_factors» .entry) }) ⌝ }
+    ensures { λ r. ⌜ r ≡ straightValue settlement (legIn «cashflow_days» «cashflow_kinds» «cashflow_amounts») spread (pillarsIn «pillar_days» «pillar_factors») ⌝ }
 {
     let table = pillar_times(settlement, pillar_days);
     let count = timed_pillars(pillar_days);

@@ -8,6 +8,7 @@ use bookchecks::BookCheck;
 use bookchecks::Holding;
 use floats::Refusal;
 use floats::finite::not_finite;
+use floats::refusals::overflow_refusal;
 ghost use mathlib.Core.Path.{_≡_};
 ghost use Prim.Native.Nat.{_≤_};
 ghost use lib.ListN.{getD};
@@ -40,10 +41,7 @@ fn sum_of(values: [f64; 32], size: usize) -> BookSum
     while i < size {
         sum = sum + values[i];
         if not_finite(sum) {
-            let refusal = Refusal {
-                number: Refusal::NOT_FINITE,
-                place: 0,
-            };
+            let refusal = overflow_refusal(0);
             return BookSum::Refused(i as u32, refusal);
         }
         i += 1;

@@ -24,7 +24,7 @@ ghost use Rattle.bookchecks.specs.Book.{marketOf, callsOf};
 ghost use Rattle.bookchecks.specs.Checks.{bondCheck, firstRefused};
 ghost use Rattle.bookchecks.specs.Slices.{sharedOf, listsOf};
 ghost use Rattle.bookchecks.specs.laws.Holdings.{pastEnd};
-ghost use Rattle.bookvalue.specs.laws.Answers.{treeRefusal, noValues, valuesOf};
+ghost use Rattle.bookvalue.specs.laws.Answers.{sharedNow, listsNow, treeRefusal, noValues, valuesOf};
 
 // The value of one bond that passed its checks, cut from the lists.
 fn bond_value(
@@ -50,8 +50,8 @@ fn bond_value(
     second: &mut [f64],
 ) -> TreeValue
     requires { ⌜ bondCheck
-        (sharedOf day alpha (record { times = now times; sigmas = now sigmas }) (record { days = now pillars; factors = now factors }))
-        (listsOf (record { days = now days; kinds = now kinds; amounts = now amounts }) (record { starts = now starts; ends = now ends; strikes = now strikes }) (record { starts = now «put_starts»; ends = now «put_ends»; strikes = now «put_strikes» }))
+        (sharedNow day alpha times sigmas pillars factors)
+        (listsNow days kinds amounts starts ends strikes «put_starts» «put_ends» «put_strikes»)
         held ≡ Passed ⌝ }
     ensures { λ r. ⌜ r ≡ treeValue
         (marketOf (sharedOf day alpha (sigmaIn times sigmas) (pillarsIn pillars factors))
@@ -149,8 +149,8 @@ pub fn all_values(
 ) -> Valued
     requires { ⌜ (size ≤ 32) × (firstRefused
         (λ i. bondCheck
-        (sharedOf day alpha (record { times = now times; sigmas = now sigmas }) (record { days = now pillars; factors = now factors }))
-        (listsOf (record { days = now days; kinds = now kinds; amounts = now amounts }) (record { starts = now starts; ends = now ends; strikes = now strikes }) (record { starts = now «put_starts»; ends = now «put_ends»; strikes = now «put_strikes» }))
+        (sharedNow day alpha times sigmas pillars factors)
+        (listsNow days kinds amounts starts ends strikes «put_starts» «put_ends» «put_strikes»)
         (getD held i pastEnd))
         size
         0 ≡ book.Passed) ⌝ }

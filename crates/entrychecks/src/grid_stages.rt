@@ -46,7 +46,8 @@ pub fn grid_counts(
     put_strikes: &[f64],
 ) -> Check
     ensures { λ r. ⌜ Tells r
-        (firstOf (settingChecks (record { perYear = yearly; maximum = maximum }) code ++ gridCounts (legIn days kinds amounts) (callsIn starts ends strikes) (callsIn «put_starts» «put_ends» «put_strikes»)))
+        (firstOf (settingChecks (record { perYear = yearly; maximum = maximum }) code ++
+        gridCounts (legIn days kinds amounts) (callsIn starts ends strikes) (callsIn «put_starts» «put_ends» «put_strikes»)))
         (LegCounted (legIn days kinds amounts) × CallCounted (callsIn starts ends strikes) × Entries (callsIn «put_starts» «put_ends» «put_strikes»)) ⌝ }
 {
     let a = settings(yearly, maximum);

@@ -61,8 +61,8 @@ pub fn tree_counts(
     factors: &[f64],
 ) -> Check
     ensures { λ r. ⌜ Tells r
-        (firstOf
-        (settingChecks (record { perYear = yearly; maximum = maximum }) code ++ treeCounts (legIn days kinds amounts) (callsIn starts ends strikes) (callsIn «put_starts» «put_ends» «put_strikes») (sigmaIn times sigmas) (pillarsIn pillars factors)))
+        (firstOf (settingChecks (record { perYear = yearly; maximum = maximum }) code ++
+        treeCounts (legIn days kinds amounts) (callsIn starts ends strikes) (callsIn «put_starts» «put_ends» «put_strikes») (sigmaIn times sigmas) (pillarsIn pillars factors)))
         ((LegCounted (legIn days kinds amounts) × CallCounted (callsIn starts ends strikes) × Entries (callsIn «put_starts» «put_ends» «put_strikes»)) ×
         (SigmaCounted (sigmaIn times sigmas) × PillarsCounted (pillarsIn pillars factors))) ⌝ }
 {

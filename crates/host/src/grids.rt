@@ -17,7 +17,8 @@ pub fn hand_grid(
     put_marks: &mut [u8; 513],
     put_prices: &mut [f64; 513],
 ) -> u32
-    ensures { λ r. ⌜ HandedGrid answer r (now (place .exit)) (now (maturity .exit)) (now (steps .exit)) (now (cashflows .exit)) (now (marks .exit)) (now (prices .exit)) (now («put_marks» .exit)) (now («put_prices» .exit)) ⌝ }
+    ensures { λ r. ⌜ HandedGrid answer r (now (place .exit)) (now (maturity .exit)) (now (steps .exit)) (now (cashflows .exit))
+        (now (marks .exit)) (now (prices .exit)) (now («put_marks» .exit)) (now («put_prices» .exit)) ⌝ }
 {
     let refusal = answer.refusal;
     let grid = answer.grid;

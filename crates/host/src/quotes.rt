@@ -40,8 +40,8 @@ pub extern "C" fn gutirapeo_spread_from_price(
     tried: &mut u32,
 ) -> u32
     ensures { λ r. ⌜ HandedSpread
-        (quotedIn (record { day = settlement; code = code }) (legIn «cashflow_days» «cashflow_kinds» «cashflow_amounts») units (callsIn «put_starts» «put_ends» «put_strikes») «steps_per_year» «max_steps» alpha
-        (sigmaIn «sigma_times» sigmas) target (pillarsIn «pillar_days» «pillar_factors»))
+        (quotedIn (record { day = settlement; code = code }) (legIn «cashflow_days» «cashflow_kinds» «cashflow_amounts») units
+        (callsIn «put_starts» «put_ends» «put_strikes») «steps_per_year» «max_steps» alpha (sigmaIn «sigma_times» sigmas) target (pillarsIn «pillar_days» «pillar_factors»))
         (callsIn «call_starts» «call_ends» «call_strikes»)
         (lentIn nodes probabilities «first_row» «second_row»)
         (lentOut nodes probabilities «first_row» «second_row»)

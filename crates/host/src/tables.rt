@@ -53,8 +53,8 @@ pub extern "C" fn gutirapeo_spread_table(
     page: &mut [u8; 4112],
 ) -> u32
     ensures { λ r. ⌜ HandedTable
-        (marketIn (record { day = settlement; code = code }) (legIn «cashflow_days» «cashflow_kinds» «cashflow_amounts») units (callsIn «put_starts» «put_ends» «put_strikes») «steps_per_year» «max_steps» alpha
-        (sigmaIn «sigma_times» sigmas) plusZero (pillarsIn «pillar_days» «pillar_factors»))
+        (marketIn (record { day = settlement; code = code }) (legIn «cashflow_days» «cashflow_kinds» «cashflow_amounts») units
+        (callsIn «put_starts» «put_ends» «put_strikes») «steps_per_year» «max_steps» alpha (sigmaIn «sigma_times» sigmas) plusZero (pillarsIn «pillar_days» «pillar_factors»))
         (callsIn «call_starts» «call_ends» «call_strikes»)
         (now (spreads .entry))
         (now (shifts .entry))

@@ -26,11 +26,10 @@ ghost use lib.Ieee.{binary64, div};
 ghost use Rattle.terms.specs.Numbers.{float};
 ghost use Rattle.terms.specs.Curve.{curveOver, pillarTimes};
 ghost use Rattle.terms.specs.Outcomes.{finiteThen};
-ghost use Rattle.hullwhite.specs.laws.Filled.{modelOf};
 ghost use Rattle.backwardinduction.specs.laws.WalkMore.{callsOf};
 ghost use Rattle.treebasedbondpricer.specs.laws.FittedIn.{fittedOver};
 ghost use Rattle.spreads.specs.Spreads.{Solved, quotedIn};
-ghost use Rattle.spreads.specs.laws.SpreadTree.{foundOver};
+ghost use Rattle.spreads.specs.laws.SpreadTree.{modelIn, foundOver};
 ghost use Rattle.spreads.specs.laws.SpreadSolved.{foundFor};
 ghost use Rattle.terms.specs.Slices.{legIn, callsIn, sigmaIn, pillarsIn};
 ghost use Rattle.treebasedbondpricer.specs.Slices.{lentIn, lentOut, roomIn};
@@ -63,7 +62,7 @@ fn solve_over(
         (callsOf (now (marks .entry)) (now (prices .entry)))
         (finiteThen (div binary64 maturity (float steps)) 0 λ dt. fittedOver
         (curveOver (now («curve_times» .entry)) (now (factors .entry)))
-        (modelOf alpha (now (times .entry)) (now (sigmas .entry))) (roomIn nodes probabilities first second) steps dt) ⌝ }
+        (modelIn alpha times sigmas) (roomIn nodes probabilities first second) steps dt) ⌝ }
 {
     let f = fitted_tree(
         maturity,
@@ -138,7 +137,7 @@ fn solve_grid(
         (grid .calls)
         (finiteThen (div binary64 (grid .«maturity_time») (float (grid .steps))) 0 λ dt. fittedOver
         (curveOver (now («curve_times» .entry)) (now (factors .entry)))
-        (modelOf alpha (now (times .entry)) (now (sigmas .entry))) (roomIn nodes probabilities first second) (grid .steps) dt) ⌝ }
+        (modelIn alpha times sigmas) (roomIn nodes probabilities first second) (grid .steps) dt) ⌝ }
 {
     let maturity = grid.maturity_time;
     let steps = grid.steps;

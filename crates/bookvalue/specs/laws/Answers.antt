@@ -5,6 +5,7 @@ use mathlib.Core.Path.{_≡_, refl, sym, ap, _∙_}
 use mathlib.Core.List.{List}
 use lib.ListN.{getD, replicate}
 use lib.Ieee.{Float}
+use denote.Ref.{RefT, now}
 use Rattle.floats.specs.declared.Refusal.{Refusal}
 use Rattle.floats.specs.Answers.{plusZero}
 use Rattle.terms.specs.Terms.{CallSchedule, Market}
@@ -17,6 +18,7 @@ use Rattle.bookchecks.specs.declared.BookCheck.{BookCheck}
 use Rattle.bookchecks.specs.declared.BookCheck.the-variants.{Passed, Refused}
 use Rattle.bookchecks.specs.Book.{Shared, Lists, marketOf, callsOf}
 use Rattle.bookchecks.specs.Checks.{firstRefused, onBook}
+use Rattle.bookchecks.specs.Slices.{sharedOf, listsOf}
 use Rattle.bookvalue.specs.declared.Valued.{Valued}
 use Rattle.bookvalue.specs.declared.BookSum.{BookSum}
 use Rattle.bookvalue.specs.declared.BookSum.the-variants as sum
@@ -24,6 +26,18 @@ use Rattle.bookvalue.specs.declared.BookAnswer.{BookAnswer}
 use Rattle.bookvalue.specs.Values.{refusedTree, each, placed, sumTo, sumCheck, deskTo, deskCounts, refusedBook, acceptedBook, summedBook, valuedBook}
 use Rattle.bookvalue.specs.laws.Placed.{none-there, placed-all, each-alike}
 use Rattle.bookvalue.specs.laws.Nodes.{Counted, few, none, counted}
+
+-- What the slices hold, gathered for what is required of them.
+abbrev pub sharedNow : ℕ → Float → RefT (List Float) → RefT (List Float) → RefT (List ℕ) → RefT (List Float) → Shared
+sharedNow day alpha times sigmas pillars factors =
+    sharedOf day alpha (record { times = now times; sigmas = now sigmas }) (record { days = now pillars; factors = now factors })
+
+abbrev pub listsNow : RefT (List ℕ) → RefT (List ℕ) → RefT (List Float) → RefT (List ℕ) → RefT (List ℕ) → RefT (List Float) → RefT (List ℕ) → RefT (List ℕ) → RefT (List Float) → Lists
+listsNow days kinds amounts starts ends strikes putStarts putEnds putStrikes =
+    listsOf
+    (record { days = now days; kinds = now kinds; amounts = now amounts })
+    (record { starts = now starts; ends = now ends; strikes = now strikes })
+    (record { starts = now putStarts; ends = now putEnds; strikes = now putStrikes })
 
 abbrev pub treeRefusal : TreeValue → Refusal
 treeRefusal v = record { number = numberOf v; place = placeOf v }

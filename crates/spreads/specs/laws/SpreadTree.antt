@@ -5,6 +5,8 @@ use mathlib.Core.Bool.{Bool, true, false, cond}
 use mathlib.Core.List.{List}
 use lib.IntN.{pos}
 use lib.Ieee.{Float, binary64, ofBits, ofInt, sub, neg, lt}
+use denote.Ref.{RefT}
+use denote.Triple.Both.{Both}
 use Rattle.floats.specs.declared.Refusal.{Refusal}
 use Rattle.floats.specs.declared.Answer.{Answer}
 use Rattle.floats.specs.declared.Answer.the-variants as answer
@@ -13,9 +15,10 @@ use Rattle.floats.specs.Extremes.{maxOf}
 use Rattle.terms.specs.declared.Check.{Check}
 use Rattle.terms.specs.declared.Check.the-variants as check
 use Rattle.terms.specs.Numbers.{float}
-use Rattle.terms.specs.Terms.{CallSchedule, Market}
+use Rattle.terms.specs.Terms.{CallSchedule, HullWhite, Market}
 use Rattle.terms.specs.Checks.{onCheck, single, beyond, within}
 use Rattle.terms.specs.Outcomes.{Outcome, given, refused, onOutcome, follow}
+use Rattle.terms.specs.Slices.{sigmaIn}
 use Rattle.terms.specs.laws.Outcomes.{follow-given, follow-refused}
 use Rattle.terms.specs.laws.EntryChecks.{spread-tried}
 use Rattle.bondevents.specs.declared.BondEventGrid.{BondEventGrid}
@@ -34,6 +37,10 @@ use Rattle.brackets.specs.declared.Root.the-variants as root
 use Rattle.brackets.specs.Brackets.{bracketedRoot}
 use Rattle.sought.specs.Objectives.{firstLower, firstUpper}
 use Rattle.spreads.specs.Spreads.{Quoted, atSpread, quotedChecks, onTreeValue, spreadObjective, solveSpread}
+
+-- The model that a call brings, gathered.
+abbrev pub modelIn : {X Y : Type 0} → Float → Both (RefT (List Float)) X → Both (RefT (List Float)) Y → HullWhite
+modelIn alpha times sigmas = record { alpha = alpha; sigma = sigmaIn times sigmas }
 
 -- The value less the target at a spread, over a tree that is fitted.
 unfoldable pub walkedAt : Float → List Float → List CallStep → Fitted → Float → Answer

@@ -24,11 +24,16 @@ array-read-sum c = search needs
 not-finite-requires : tie.Need-not-finite-requires Inv-loop μ-loop
 not-finite-requires c κs = search needs
 
+overflow-refusal-requires : tie.Need-overflow-refusal-requires Inv-loop μ-loop
+overflow-refusal-requires c κs = search needs
+
 cast-t13 : tie.Need-cast-t13 Inv-loop μ-loop
 cast-t13 c = search needs
 
 returns : tie.Need-returns Inv-loop μ-loop
-returns c = sum-refused _ _ _ _ (c .before .before .before .loop .inv) (omega arith) (search needs) (c .before .not-finite .ensures) (c .if1 .taken)
+returns c =
+    rw (c .overflow-refusal .ensures)
+    (sum-refused _ _ _ _ (c .before .before .before .before .loop .inv) (omega arith) (search needs) (c .before .before .not-finite .ensures) (c .before .if1 .taken))
 
 add-i : tie.Need-add-i Inv-loop μ-loop
 add-i c = search needs
@@ -52,6 +57,7 @@ sum-of-spec =
     mul-sum
     array-read-sum
     not-finite-requires
+    overflow-refusal-requires
     cast-t13
     returns
     add-i
