@@ -10,16 +10,14 @@ use lib.Ieee.{Float}
 use Rattle.bondreport.specs.Columns.{blankLine}
 use Rattle.bondreport.specs.Numbers.{byteLeft, wholeLeft}
 use Rattle.bondreport.specs.Figures.{before, putWhole}
-use Rattle.terms.specs.Terms.{CallSchedule, Market, withSpread}
+use Rattle.terms.specs.Terms.{CallSchedule, Market}
 use Rattle.lattice.specs.Layers.{Room}
 use Rattle.treebasedbondpricer.specs.declared.TreeValue.{TreeValue}
 use Rattle.treebasedbondpricer.specs.declared.TreeValue.the-variants.{Value, Refused}
-use Rattle.treebasedbondpricer.specs.Tree.{treeValue}
-use Rattle.closingsheet.specs.Cells.{printedOf, valueCell}
 use Rattle.closingsheet.specs.laws.Columns.{byte-length, whole-length, cell-length}
-use Rattle.spreadtable.specs.Cells.{hashCell, valueText, cellText}
+use Rattle.spreadtable.specs.Cells.{hashCell, cellText}
 use Rattle.spreadtable.specs.Page.{rowText}
-use Rattle.spreadtable.specs.Table.{shifted, withShift, anyOutside, cellAt}
+use Rattle.spreadtable.specs.Table.{cellAt}
 
 pub hash-wide : (n : ℕ) → length (hashCell n) ≡ 16
 unfolding hashCell
@@ -32,16 +30,17 @@ either-wide : (b : Bool) (xs ys : List ℕ) → length xs ≡ 16 → length ys �
 either-wide true xs ys e f = e
 either-wide false xs ys e f = f
 
+-- What a cell is made of.
+ruleset widths = (either-wide, hash-wide, cell-length)
+
 pub text-wide : (v : TreeValue) → length (cellText v) ≡ 16
 unfolding cellText
-text-wide (Value x n) = either-wide (valueCell x .wide) (hashCell 32) (valueCell x .cell) (hash-wide 32) (cell-length (printedOf x))
-text-wide (Refused q) = hash-wide (q .number)
+text-wide (Value x n) = search widths
+text-wide (Refused q) = search widths
 
 pub cell-wide : (m : Market) (calls : CallSchedule) (room : Room) (shift spread : Float) → length (cellAt m calls room shift spread) ≡ 16
 unfolding cellAt
-cell-wide m calls room shift spread =
-    either-wide (anyOutside (shifted shift (m .model .sigma .sigmas))) (hashCell 46) (cellText (treeValue (withSpread (withShift m shift) spread) calls room))
-    (hash-wide 46) (text-wide (treeValue (withSpread (withShift m shift) spread) calls room))
+cell-wide m calls room shift spread = search (text-wide, widths)
 
 pub row-wide : (cell : Float → List ℕ) → ((s : Float) → length (cell s) ≡ 16) → (spreads : List Float) → length (rowText cell spreads) ≡ 16 * length spreads + 1
 unfolding rowText

@@ -55,7 +55,7 @@ as-table-requires : tie.Need-as-table-requires
 as-table-requires c κs =
     let a = c .before .before .before .before .before .before .before .before .before .before .before .before .before .before .before .before .before .before .before .before .before .before .before .before .before .before .before .before .before .before .before .before .before .before .before .before .before .before .before .before .before .before .before .before .before .before .before .before .before .before .args in
     let few = few-of (a .spreads .now) (a .shifts .now) (c .before .before .before .before .before .before .before .before .before .before .before .before .before .before .before .before .before .before .before .before .before .before .before .before .before .before .before .before .before .before .before .wrong-count .ensures) (c .before .before .before .before .before .before .before .before .before .before .before .before .before .before .before .before .before .before .before .before .before .before .before .before .before .before .before .before .before .before .if1 .left) in
-    rows-fit _ (cell-wide (terms-of (a .settlement) (a .cashflow-days .now) (a .cashflow-kinds .now) (a .cashflow-amounts .now) (a .units) (calls-of (a .put-starts .now) (a .put-ends .now) (a .put-strikes .now)) (a .steps-per-year) (a .max-steps) (a .alpha) (a .sigma-times .now) (a .sigmas .now) (a .pillar-days .now) (a .pillar-factors .now)) (calls-of (a .call-starts .now) (a .call-ends .now) (a .call-strikes .now)) (roomOf (lent-of (a .nodes .now) (a .probabilities .now) (a .first-row .now) (a .second-row .now)))) (a .spreads .now) (a .shifts .now) (few .0) (few .1) (c .before .before .before .before .before .before .before .before .before .before .before .before .before .before .before .before .before .before .before .before .before .before .all-rows .ensures)
+    rows-fit _ (cell-wide (terms-of (a .settlement) (a .cashflow-days .now) (a .cashflow-kinds .now) (a .cashflow-amounts .now) (a .units) (calls-of (a .put-starts .now) (a .put-ends .now) (a .put-strikes .now)) (a .steps-per-year) (a .max-steps) (a .alpha) (a .sigma-times .now) (a .sigmas .now) (a .pillar-days .now) (a .pillar-factors .now)) (calls-of (a .call-starts .now) (a .call-ends .now) (a .call-strikes .now)) (roomOf (lent-of (a .nodes .now) (a .probabilities .now) (a .first-row .now) (a .second-row .now)))) _ _ (omega arith) (omega arith) (c .before .before .before .before .before .before .before .before .before .before .before .before .before .before .before .before .before .before .before .before .before .before .all-rows .ensures)
 
 same-length : tie.Need-same-length
 same-length c = c .before .before .before .before .before .before .before .before .before .before .before .before .before .before .zero-numbers .kept .0 ∙ c .before .before .before .before .before .before .before .before .before .before .before .before .before .before .before .before .before .before .before .before .before .before .before .all-rows .kept .1 .1 .1 .1 .1 .1 .1 .1 .1 .1 .1 .1 .1 .1 .1 .1 .1 .1 .1 .1 .1 .0
