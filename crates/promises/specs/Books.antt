@@ -18,7 +18,7 @@ use Rattle.bondevents.specs.Grid.{gridAnswer}
 use Rattle.lattice.specs.Layers.{Room}
 use Rattle.treebasedbondpricer.specs.declared.TreeValue.{TreeValue}
 use Rattle.treebasedbondpricer.specs.declared.TreeValue.the-variants.{Value}
-use Rattle.treebasedbondpricer.specs.Tree.{treeValueOver, valueOf, countedBy, Lent, roomOf}
+use Rattle.treebasedbondpricer.specs.Tree.{treeValueOver, numberOf, valueOf, countedBy, Lent, roomOf}
 use Rattle.bookchecks.specs.declared.BookCheck.the-variants as book
 use Rattle.bookchecks.specs.Book.{Book, sizeOf, holding, marketAt, callsAt}
 use Rattle.bookchecks.specs.Checks.{legLengths, entryLengths, cutAmiss, bondCheck, firstRefused, bookChecks}
@@ -78,6 +78,11 @@ pub record Accepted (curves : ℕ → Float → ℕ → Answer) (b : Book) (room
   pub counts : ℕ → ℕ
   pub valued : (i : ℕ) → i < size b → overCurves curves b room i ≡ Value (values i) (counts i)
   pub summed : firstRefused (sumCheck (placed plusZero (λ i. valueOf (overCurves curves b room i)) (size b))) (size b) 0 ≡ book.Passed
+
+-- The answer of an accepted book holds its values and counts. Any other has a refusal, and beside it no values, no sum and no counts.
+pub data AllOrNoneOver (curves : ℕ → Float → ℕ → Answer) (b : Book) (room : Room) : BookAnswer → Type 0 where
+  all-given : (a : Accepted curves b room) → AllOrNoneOver curves b room (acceptedBook (placed plusZero (a .values) (size b)) (deskOf b) (placed 0 (a .counts) (size b)) (size b))
+  none-given : {bond : ℕ} {q : Refusal} → (Accepted curves b room → ⊥) → AllOrNoneOver curves b room (refusedBook bond q)
 
 -- ---- call lists
 
@@ -183,6 +188,17 @@ BookReorderingRule =
 
 -- All of it over any curves.
 pub record BooksOverCurves (curves : ℕ → Float → ℕ → Answer) : Type 0 where
+  pub all-or-none : (b : Book) (room : Room) → AllOrNoneOver curves b room (bookOver curves b room)
+  -- The bond alone has its value and count in any other slices too, or finds no room.
+  pub alone :
+      (b : Book) (room : Room)
+      → (a : Accepted curves b room)
+      → (i : ℕ) → i < size b
+      → (other : Room) → (overCurves curves b other i ≡ Value (a .values i) (a .counts i)) ⊎ (numberOf (overCurves curves b other i) ≡ 21)
+  pub counts :
+      (b : Book) (room : Room)
+      → (a : Accepted curves b room)
+      → totalTo (bookOver curves b room .counts) 8 ≡ totalTo (placed 0 (a .counts) (size b)) (size b)
   pub dropped-or-raised :
       (first second : Book) (room : Room)
       → CallsMade first second

@@ -98,21 +98,21 @@ EachMetOnSheet = Each MetOnSheet sheetRefusals
 
 -- ---- the call-list rule
 
--- The second line shows 4 exactly when one of its strikes is above 1,000,000. Otherwise it shows a value, whose cents are no lower than the first's, or 27 or 32.
-pub record ThinnedLine (bond : ℕ) (second : CallSchedule) (first-line : List ℕ) (number : ℕ) (line : List ℕ) : Type 0 where
+-- The second line shows 4 exactly when one of its strikes is above 1,000,000. Otherwise it shows a value, whose cents are no lower than the first's where that shows one, or 27 or 32.
+pub record ThinnedLine (bond : ℕ) (second : CallSchedule) (first-number : ℕ) (first-line : List ℕ) (number : ℕ) (line : List ℕ) : Type 0 where
   pub with-4 : (number ≡ 4) ↔ StrikeAbove second
-  pub otherwise : (StrikeAbove second → ⊥) → ((number ≡ 0) × NoLower (valueShown first-line) (valueShown line)) ⊎ ((number ≡ 27) ⊎ (number ≡ 32))
+  pub otherwise : (StrikeAbove second → ⊥) → ((number ≡ 0) × (first-number ≡ 0 → NoLower (valueShown first-line) (valueShown line))) ⊎ ((number ≡ 27) ⊎ (number ≡ 32))
   pub in-columns : (number ≡ 0 → ⊥) → RefusedColumns bond number line
 
--- Any line that shows a value, and any second one of the same bond whose call list is made from the first's, each working slice as long.
+-- Any line that shows a value or 32, and any second one of the same bond whose call list is made from the first's, each working slice as long.
 abbrev pub LineCallListRule : Type 0
 LineCallListRule =
     (bond : ℕ) (m : Market) (first second : CallSchedule)
     → MadeFrom first second
     → (a : SheetCall bond m first) (b : SheetCall bond m second)
     → roomOf (b .lent) ≡ roomOf (a .lent)
-    → a .number ≡ 0
-    → ThinnedLine bond second (a .line) (b .number) (b .line)
+    → (a .number ≡ 0) ⊎ (a .number ≡ 32)
+    → ThinnedLine bond second (a .number) (a .line) (b .number) (b .line)
 
 -- ---- halves to even
 

@@ -164,14 +164,14 @@ pub record SameTables {m n : Market} {spreads shifts : List Float} {first second
   pub page : b .page ≡ a .page
   pub slices : b .lent ≡ a .lent → b .left ≡ a .left
 
--- No bit of what any of the six hands back.
-pub record Unchanged (m : Market) (first second : CallSchedule) : Type 0 where
-  pub grids : (a : GridCall m first) (b : GridCall m second) → SameGrids a b
-  pub values : (a : TreeCall m first) (b : TreeCall m second) → roomOf (b .lent) ≡ roomOf (a .lent) → SameValues a b
-  pub spreads : (target : Float) (a : SpreadCall m target first) (b : SpreadCall m target second) → roomOf (b .lent) ≡ roomOf (a .lent) → SameSpreads a b
-  pub lines : (bond : ℕ) (a : SheetCall bond m first) (b : SheetCall bond m second) → roomOf (b .lent) ≡ roomOf (a .lent) → SameLines a b
-  pub sizes : (a : SizesCall m first) (b : SizesCall m second) → length (b .lent) ≡ length (a .lent) → SameSizes a b
-  pub tables : (spreads shifts : List Float) (a : TableCall m spreads shifts first) (b : TableCall m spreads shifts second) → roomOf (b .lent) ≡ roomOf (a .lent) → SameTables a b
+-- Between a market with a call list and another with its own: no bit of what any of the six hands back.
+pub record Unchanged (m : Market) (first : CallSchedule) (n : Market) (second : CallSchedule) : Type 0 where
+  pub grids : (a : GridCall m first) (b : GridCall n second) → SameGrids a b
+  pub values : (a : TreeCall m first) (b : TreeCall n second) → roomOf (b .lent) ≡ roomOf (a .lent) → SameValues a b
+  pub spreads : (target : Float) (a : SpreadCall m target first) (b : SpreadCall n target second) → roomOf (b .lent) ≡ roomOf (a .lent) → SameSpreads a b
+  pub lines : (bond : ℕ) (a : SheetCall bond m first) (b : SheetCall bond n second) → roomOf (b .lent) ≡ roomOf (a .lent) → SameLines a b
+  pub sizes : (a : SizesCall m first) (b : SizesCall n second) → length (b .lent) ≡ length (a .lent) → SameSizes a b
+  pub tables : (spreads shifts : List Float) (a : TableCall m spreads shifts first) (b : TableCall n spreads shifts second) → roomOf (b .lent) ≡ roomOf (a .lent) → SameTables a b
 
 -- Whenever the grid accepts a list, reordering it changes nothing.
 abbrev pub HostReorderingRule : Type 0
@@ -180,7 +180,7 @@ HostReorderingRule =
     → Reordered first second
     → (g : GridCall m first)
     → g .number ≡ 0
-    → Unchanged m first second
+    → Unchanged m first m second
 
 -- ---- sizing, which makes no call prices
 

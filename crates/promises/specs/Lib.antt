@@ -12,6 +12,7 @@ pub mod SpreadReordering
 pub mod Evaluations
 pub mod HostCallLists
 pub mod ClosingSheet
+pub mod SheetExamples
 pub mod Sizing
 pub mod SpreadTable
 pub mod FitNodes

@@ -1,11 +1,10 @@
--- Definitions only. Bonds that the holder can put back, as a C caller meets them: what put lists may change, what call lists may change beside any puts, and that without puts every answer is the old one.
+-- Definitions only. Bonds that the holder can put back, as a C caller meets them: what put lists may change, what call lists may change beside any puts, both whatever the curve, and that without puts every answer is the old one.
 use Prim.Native.Nat.{ℕ}
 use mathlib.Core.Path.{_≡_}
 use mathlib.Core.List.{List, map}
 use lib.Dec.{T}
-use lib.ListN.{length}
 use lib.IntN.{ℤ}
-use lib.Ieee.{Float, le}
+use lib.Ieee.{le}
 use Rattle.terms.specs.declared.Settlement.{Settlement}
 use Rattle.terms.specs.Terms.{CallSchedule, Bond, TimeGrid, Market, noEntries, bondWithPuts, withPuts}
 use Rattle.terms.specs.CallLists.{MadeFrom, LoweredFrom, Reordered}
@@ -16,12 +15,14 @@ use Rattle.bondevents.specs.Calls.{none}
 use Rattle.bondevents.specs.Grid.{gridAnswer}
 use Rattle.lattice.specs.Layers.{Room}
 use Rattle.treebasedbondpricer.specs.Tree.{treeValue, Lent, roomOf, lentAfter}
+use Rattle.treebasedbondpricer.specs.CallLists.{AnyCurveRule}
+use Rattle.treebasedbondpricer.specs.PutLists.{AnyCurvePutRule}
 use Rattle.closingsheet.specs.Sheet.{sheetOf}
 use Rattle.sizing.specs.Sizing.{sizesOf, nodesAfter}
 use Rattle.spreads.specs.Spreads.{Quoted, spreadFromPrice}
 use Rattle.spreads.specs.Spreads as spreads
 use Rattle.promises.specs.Callable as callable
-use Rattle.promises.specs.HostCallLists.{GridCall, TreeCall, SpreadCall, SheetCall, SizesCall, TableCall, SameGrids, SameValues, SameSpreads, SameLines, SameSizes, SameTables, HostCallListRule, HostReorderingRule}
+use Rattle.promises.specs.HostCallLists.{GridCall, TreeCall, Unchanged, HostCallListRule, HostReorderingRule}
 
 -- ---- put lists
 
@@ -36,15 +37,6 @@ HostPutListRule =
     → b .number ≡ 0
     → T (le (b .value) (a .value))
 
--- No bit of what any of the six hands back.
-pub record PutsUnchanged (m : Market) (calls first second : CallSchedule) : Type 0 where
-  pub grids : (a : GridCall (withPuts m first) calls) (b : GridCall (withPuts m second) calls) → SameGrids a b
-  pub values : (a : TreeCall (withPuts m first) calls) (b : TreeCall (withPuts m second) calls) → roomOf (b .lent) ≡ roomOf (a .lent) → SameValues a b
-  pub spreads : (target : Float) (a : SpreadCall (withPuts m first) target calls) (b : SpreadCall (withPuts m second) target calls) → roomOf (b .lent) ≡ roomOf (a .lent) → SameSpreads a b
-  pub lines : (bond : ℕ) (a : SheetCall bond (withPuts m first) calls) (b : SheetCall bond (withPuts m second) calls) → roomOf (b .lent) ≡ roomOf (a .lent) → SameLines a b
-  pub sizes : (a : SizesCall (withPuts m first) calls) (b : SizesCall (withPuts m second) calls) → length (b .lent) ≡ length (a .lent) → SameSizes a b
-  pub tables : (spreads shifts : List Float) (a : TableCall (withPuts m first) spreads shifts calls) (b : TableCall (withPuts m second) spreads shifts calls) → roomOf (b .lent) ≡ roomOf (a .lent) → SameTables a b
-
 -- Whenever the grid accepts, reordering the puts changes nothing.
 abbrev pub HostPutReorderingRule : Type 0
 HostPutReorderingRule =
@@ -52,7 +44,7 @@ HostPutReorderingRule =
     → Reordered first second
     → (g : GridCall (withPuts m first) calls)
     → g .number ≡ 0
-    → PutsUnchanged m calls first second
+    → Unchanged (withPuts m first) calls (withPuts m second) calls
 
 -- ---- call lists beside any fixed puts
 
@@ -71,6 +63,23 @@ Never38 =
     → a .number ≡ 0
     → b .number ≡ 38
     → ⊥
+
+-- Nor in the grid's own answer.
+abbrev pub GridNever38 : Type 0
+GridNever38 =
+    (m : Market) (first second : CallSchedule)
+    → MadeFrom first second
+    → (a : GridCall m first) (b : GridCall m second)
+    → a .number ≡ 0
+    → b .number ≡ 38
+    → ⊥
+
+-- ---- whatever the curve
+
+-- Whatever a curve gives at each time, the rules of call lists and of put lists hold of the tree value over it.
+pub record ListsOverCurves : Type 0 where
+  pub call-lists : AnyCurveRule
+  pub put-lists : AnyCurvePutRule
 
 -- ---- without puts
 

@@ -49,3 +49,16 @@ pub record Met (number : ℕ) : Type 0 where
 -- None stands there in vain.
 abbrev pub EachMet : Type 0
 EachMet = Each Met treeRefusals
+
+-- Quoted terms that spread from price refuses with this number.
+pub record MetBySpread (number : ℕ) : Type 0 where
+  pub asked : Quoted
+  pub calls : CallSchedule
+  pub room : Room
+  pub place : ℕ
+  pub tries : ℕ
+  pub refused : spreadFromPrice asked calls room ≡ root.Refused (record { number = number; place = place }) tries
+
+-- Nor does any of a spread's.
+abbrev pub EachMetBySpread : Type 0
+EachMetBySpread = Each MetBySpread spreadRefusals

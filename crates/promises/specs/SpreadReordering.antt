@@ -9,17 +9,17 @@ use Rattle.treebasedbondpricer.specs.Tree.{Lent, roomOf}
 use Rattle.brackets.specs.declared.Root.{Root}
 use Rattle.spreads.specs.Spreads.{Quoted, spreadFromPrice, lentAfter, Solved}
 
--- The spread, the tries or the refusal with its place, and what is left in the lent slices.
-pub record SameSpread (asked : Quoted) (first second : CallSchedule) : Type 0 where
-  pub roots : (room : Room) → spreadFromPrice asked second room ≡ spreadFromPrice asked first room
-  pub slices : (lent : Lent) → lentAfter asked second lent ≡ lentAfter asked first lent
+-- The spread, the tries or the refusal with its place, and what is left in the lent slices, of terms with a call list and of others with their own.
+pub record SameSpread (asked : Quoted) (first : CallSchedule) (again : Quoted) (second : CallSchedule) : Type 0 where
+  pub roots : (room : Room) → spreadFromPrice again second room ≡ spreadFromPrice asked first room
+  pub slices : (lent : Lent) → lentAfter again second lent ≡ lentAfter asked first lent
 
 abbrev pub SpreadReorderingRule : Type 0
 SpreadReorderingRule =
     (asked : Quoted) (first second : CallSchedule)
     → Reordered first second
     → gridAnswer (asked .settlement) (asked .bond) first (asked .controls) .refusal .number ≡ 0
-    → SameSpread asked first second
+    → SameSpread asked first asked second
 
 -- ---- of what the running entry answers
 

@@ -7,21 +7,27 @@ use mathlib.Core.List.{List, [], _∷_, _++_}
 use lib.Dec.{T}
 use lib.ListN.{length, getD, take, drop, replicate}
 use lib.Ieee.{Float}
+use Rattle.floats.specs.declared.Refusal.{Refusal}
 use Rattle.floats.specs.Answers.{plusZero}
 use Rattle.decimal.specs.Examples.{bytes}
 use Rattle.terms.specs.Numbers.{float}
 use Rattle.terms.specs.Terms.{CallSchedule, Market, withSpread, withPuts}
 use Rattle.terms.specs.CallLists.{MadeFrom, LoweredFrom}
+use Rattle.terms.specs.Entries.{treeChecks}
+use Rattle.terms.specs.Outcomes.{Outcome}
+use Rattle.lattice.specs.Layers.{Room}
+use Rattle.lattice.specs.Lattice.{Lattice}
 use Rattle.treebasedbondpricer.specs.Tree.{roomOf, zeroed}
 use Rattle.closingsheet.specs.Cells.{valueCell}
 use Rattle.closingsheet.specs.Shown.{readBack, NoLower}
+use Rattle.sizing.specs.declared.Lengths.{Lengths}
 use Rattle.spreadtable.specs.Cells.{hashCell, valueText}
 use Rattle.spreadtable.specs.Page.{printed}
 use Rattle.spreadtable.specs.Table.{shifted, withShift, anyOutside, wrongCount, tableOf}
 use Rattle.promises.specs.RefusalNumbers.{member}
 use Rattle.promises.specs.Examples.{market99, callFrom, lent}
 use Rattle.promises.specs.HostCallLists.{TreeCall, SizesCall, TableCall}
-use Rattle.promises.specs.Sizing.{AsLong, lengthsIn}
+use Rattle.promises.specs.Sizing.{AsLong, Shorter, beforeFit, Stops, lengthsIn}
 
 -- ---- where things stand on the page
 
@@ -155,3 +161,21 @@ RowSized =
     → AsLong (lengthsIn s) (roomOf (a .lent))
     → cellIn spreads i j (a .page) ≡ hashCell 21
     → ⊥
+
+-- A cell that stops for want of room, or before it: a number behind a hash sign, never a value.
+pub record ShortCell (l : Lengths) (before : Room → Outcome Lattice) (cell : List ℕ) : Type 0 where
+  pub no-value : ShowsValue cell → ⊥
+  pub refusal : Refusal
+  pub shows : cell ≡ hashCell (refusal .number)
+  pub stops : Stops l before refusal
+
+-- With any one slice shorter than sizing gives for a row's shifted terms, each cell of that row shows 21, or the number that its checks, grid, variances or layers give in ample slices.
+abbrev pub RowShort : Type 0
+RowShort =
+    (m : Market) (calls : CallSchedule) (spreads shifts : List Float) (a : TableCall m spreads shifts calls)
+    → a .number ≡ 0
+    → (i j : ℕ) → On spreads shifts i j
+    → (s : SizesCall (withShift m (getD shifts i plusZero)) calls)
+    → s .number ≡ 0
+    → Shorter (lengthsIn s) (roomOf (a .lent))
+    → ShortCell (lengthsIn s) (beforeFit (treeChecks (cellTerms m spreads shifts i j) calls) (cellTerms m spreads shifts i j) calls) (cellIn spreads i j (a .page))

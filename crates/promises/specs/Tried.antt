@@ -33,26 +33,26 @@ use Rattle.bondanalytics.specs.Yields.{priceFromYield, yieldFromPrice}
 use Rattle.spreads.specs.Spreads.{Quoted, quoting, spreadFromPrice, onTreeValue}
 use Rattle.sought.specs.Objectives.{firstLower, firstUpper}
 
-abbrev leg : List ℕ → List ℕ → List Float → Leg
+abbrev pub leg : List ℕ → List ℕ → List Float → Leg
 leg days kinds amounts = record { days = days; kinds = kinds; amounts = amounts }
 
-abbrev calls : List ℕ → List ℕ → List Float → CallSchedule
+abbrev pub calls : List ℕ → List ℕ → List Float → CallSchedule
 calls starts ends strikes = record { starts = starts; ends = ends; strikes = strikes }
 
-abbrev pillars : List ℕ → List Float → Pillars
+abbrev pub pillars : List ℕ → List Float → Pillars
 pillars days factors = record { days = days; factors = factors }
 
-abbrev steps : ℕ → ℕ → TimeGrid
+abbrev pub steps : ℕ → ℕ → TimeGrid
 steps perYear maximum = record { perYear = perYear; maximum = maximum }
 
-abbrev room : ℕ → ℕ → ℕ → ℕ → Room
+abbrev pub room : ℕ → ℕ → ℕ → ℕ → Room
 room nodes probabilities first second = record { nodes = nodes; probabilities = probabilities; first = first; second = second }
 
 -- A settlement day, its times by Actual/365.
-abbrev on : ℕ → Settlement
+abbrev pub on : ℕ → Settlement
 on day = record { day = day; code = 0 }
 
-abbrev marketBy : Settlement → Leg → Float → TimeGrid → Float → List Float → List Float → Float → Pillars → Market
+abbrev pub marketBy : Settlement → Leg → Float → TimeGrid → Float → List Float → List Float → Float → Pillars → Market
 marketBy settlement leg units controls alpha times sigmas spread pillars =
     record {
       settlement = settlement;
@@ -67,7 +67,7 @@ abbrev market : ℕ → Leg → Float → TimeGrid → Float → List Float → 
 market day = marketBy (on day)
 
 -- 30E/360.
-abbrev thirty : ℕ → Settlement
+abbrev pub thirty : ℕ → Settlement
 thirty day = record { day = day; code = 2 }
 
 abbrev quoted : ℕ → Leg → Float → TimeGrid → Float → List Float → List Float → Float → Pillars → Quoted
@@ -324,7 +324,7 @@ spread-called : spreadFromPrice (quoted 100 (leg (465 ∷ 830 ∷ 830 ∷ []) (0
 unfolding spreadFromPrice onTreeValue treeValue paidInto rawStep curveOver expAt expM1At lnAt sqrtAt onOutcome onCheck lowest onAnswer rounded ieee.ofBits ieee.add ieee.sub ieee.mul ieee.div ieee.neg ieee.lt ieee.le ieee.ofInt ieee.toSigned
 spread-called = refl
 
-spread-4 : spreadFromPrice (quoted 0 (leg (365 ∷ []) (1 ∷ []) ((float 105) ∷ [])) (float 100) (steps 1 512) (float 0) ((float 0) ∷ []) ((float 0) ∷ []) (ofBits binary64 0x430c6bf526340001) (pillars (0 ∷ 365 ∷ []) ((float 1) ∷ (float 1) ∷ []))) (calls ([]) ([]) ([])) (room 4 6 1 1) ≡ root.Refused (record { number = 4; place = 0 }) 0
+pub spread-4 : spreadFromPrice (quoted 0 (leg (365 ∷ []) (1 ∷ []) ((float 105) ∷ [])) (float 100) (steps 1 512) (float 0) ((float 0) ∷ []) ((float 0) ∷ []) (ofBits binary64 0x430c6bf526340001) (pillars (0 ∷ 365 ∷ []) ((float 1) ∷ (float 1) ∷ []))) (calls ([]) ([]) ([])) (room 4 6 1 1) ≡ root.Refused (record { number = 4; place = 0 }) 0
 unfolding spreadFromPrice onTreeValue treeValue paidInto rawStep curveOver expAt expM1At lnAt sqrtAt onOutcome onCheck lowest onAnswer rounded ieee.ofBits ieee.add ieee.sub ieee.mul ieee.div ieee.neg ieee.lt ieee.le ieee.ofInt ieee.toSigned
 spread-4 = refl
 
@@ -333,27 +333,27 @@ unfolding spreadFromPrice onTreeValue treeValue paidInto rawStep curveOver expAt
 spread-limit = refl
 
 -- Met at the first spread.
-spread-20 : spreadFromPrice (quoted 100 (leg (465 ∷ 830 ∷ 830 ∷ []) (0 ∷ 0 ∷ 1 ∷ []) ((float 5) ∷ (float 5) ∷ (float 100) ∷ [])) (float 100) (steps 1 512) (ofBits binary64 0x3fb999999999999a) ((float 0) ∷ (float 1) ∷ []) ((ofBits binary64 0x3f847ae147ae147b) ∷ (ofBits binary64 0x3f889374bc6a7efa) ∷ []) (float 100) (pillars (100 ∷ 465 ∷ 900 ∷ []) ((float 1) ∷ (ofBits binary64 0x3fef0a3d70a3d70a) ∷ (ofBits binary64 0x3fedc28f5c28f5c3) ∷ []))) (calls (830 ∷ []) (830 ∷ []) ((float 101) ∷ [])) (room 64 96 9 9) ≡ root.Refused (record { number = 20; place = 0 }) 1
+pub spread-20 : spreadFromPrice (quoted 100 (leg (465 ∷ 830 ∷ 830 ∷ []) (0 ∷ 0 ∷ 1 ∷ []) ((float 5) ∷ (float 5) ∷ (float 100) ∷ [])) (float 100) (steps 1 512) (ofBits binary64 0x3fb999999999999a) ((float 0) ∷ (float 1) ∷ []) ((ofBits binary64 0x3f847ae147ae147b) ∷ (ofBits binary64 0x3f889374bc6a7efa) ∷ []) (float 100) (pillars (100 ∷ 465 ∷ 900 ∷ []) ((float 1) ∷ (ofBits binary64 0x3fef0a3d70a3d70a) ∷ (ofBits binary64 0x3fedc28f5c28f5c3) ∷ []))) (calls (830 ∷ []) (830 ∷ []) ((float 101) ∷ [])) (room 64 96 9 9) ≡ root.Refused (record { number = 20; place = 0 }) 1
 unfolding spreadFromPrice onTreeValue treeValue paidInto rawStep curveOver expAt expM1At lnAt sqrtAt onOutcome onCheck lowest onAnswer rounded ieee.ofBits ieee.add ieee.sub ieee.mul ieee.div ieee.neg ieee.lt ieee.le ieee.ofInt ieee.toSigned
 spread-20 = refl
 
-spread-21 : spreadFromPrice (quoted 0 (leg (365 ∷ []) (1 ∷ []) ((float 105) ∷ [])) (float 100) (steps 1 512) (float 0) ((float 0) ∷ []) ((float 0) ∷ []) (float 100) (pillars (0 ∷ 365 ∷ []) ((float 1) ∷ (float 1) ∷ []))) (calls ([]) ([]) ([])) (room 3 6 1 1) ≡ root.Refused (record { number = 21; place = 1 }) 1
+pub spread-21 : spreadFromPrice (quoted 0 (leg (365 ∷ []) (1 ∷ []) ((float 105) ∷ [])) (float 100) (steps 1 512) (float 0) ((float 0) ∷ []) ((float 0) ∷ []) (float 100) (pillars (0 ∷ 365 ∷ []) ((float 1) ∷ (float 1) ∷ []))) (calls ([]) ([]) ([])) (room 3 6 1 1) ≡ root.Refused (record { number = 21; place = 1 }) 1
 unfolding spreadFromPrice onTreeValue treeValue paidInto rawStep curveOver expAt expM1At lnAt sqrtAt onOutcome onCheck lowest onAnswer rounded ieee.ofBits ieee.add ieee.sub ieee.mul ieee.div ieee.neg ieee.lt ieee.le ieee.ofInt ieee.toSigned
 spread-21 = refl
 
 -- Met at the fifth spread, −0.47.
-spread-26 : spreadFromPrice (quoted 0 (leg (7300 ∷ 14600 ∷ []) (0 ∷ 1 ∷ []) ((float 0) ∷ (float 1) ∷ [])) (float 100) (steps 1 2) (float 0) ((float 0) ∷ []) ((float 0) ∷ []) (float 1000000) (pillars (0 ∷ 7300 ∷ 14600 ∷ []) ((float 1) ∷ (ofBits binary64 0x13b6e3d22865634) ∷ (float 1) ∷ []))) (calls ([]) ([]) ([])) (room 6 9 1 1) ≡ root.Refused (record { number = 26; place = 1 }) 5
+pub spread-26 : spreadFromPrice (quoted 0 (leg (7300 ∷ 14600 ∷ []) (0 ∷ 1 ∷ []) ((float 0) ∷ (float 1) ∷ [])) (float 100) (steps 1 2) (float 0) ((float 0) ∷ []) ((float 0) ∷ []) (float 1000000) (pillars (0 ∷ 7300 ∷ 14600 ∷ []) ((float 1) ∷ (ofBits binary64 0x13b6e3d22865634) ∷ (float 1) ∷ []))) (calls ([]) ([]) ([])) (room 6 9 1 1) ≡ root.Refused (record { number = 26; place = 1 }) 5
 unfolding spreadFromPrice onTreeValue treeValue paidInto rawStep curveOver expAt expM1At lnAt sqrtAt onOutcome onCheck lowest onAnswer rounded ieee.ofBits ieee.add ieee.sub ieee.mul ieee.div ieee.neg ieee.lt ieee.le ieee.ofInt ieee.toSigned
 spread-26 = refl
 
-spread-29 : spreadFromPrice (quoted 0 (leg (365 ∷ []) (1 ∷ []) ((float 105) ∷ [])) (float 100) (steps 1 512) (float 0) ((float 0) ∷ []) ((float 0) ∷ []) (float 1000000) (pillars (0 ∷ 365 ∷ []) ((float 1) ∷ (float 1) ∷ []))) (calls ([]) ([]) ([])) (room 4 6 1 1) ≡ root.Refused (record { number = 29; place = 0 }) 7
+pub spread-29 : spreadFromPrice (quoted 0 (leg (365 ∷ []) (1 ∷ []) ((float 105) ∷ [])) (float 100) (steps 1 512) (float 0) ((float 0) ∷ []) ((float 0) ∷ []) (float 1000000) (pillars (0 ∷ 365 ∷ []) ((float 1) ∷ (float 1) ∷ []))) (calls ([]) ([]) ([])) (room 4 6 1 1) ≡ root.Refused (record { number = 29; place = 0 }) 7
 unfolding spreadFromPrice onTreeValue treeValue paidInto rawStep curveOver expAt expM1At lnAt sqrtAt onOutcome onCheck lowest onAnswer rounded ieee.ofBits ieee.add ieee.sub ieee.mul ieee.div ieee.neg ieee.lt ieee.le ieee.ofInt ieee.toSigned
 spread-29 = refl
 
-spread-36 : spreadFromPrice (quoted 0 (leg (365 ∷ []) (1 ∷ []) ((float 105) ∷ [])) (float 100) (steps 1 512) (float 0) ((float 0) ∷ []) ((float 0) ∷ []) (float 1) (pillars (0 ∷ 365 ∷ []) ((float 1) ∷ (float 1) ∷ []))) (calls ([]) ([]) ([])) (room 4 6 1 1) ≡ root.Refused (record { number = 36; place = 0 }) 6
+pub spread-36 : spreadFromPrice (quoted 0 (leg (365 ∷ []) (1 ∷ []) ((float 105) ∷ [])) (float 100) (steps 1 512) (float 0) ((float 0) ∷ []) ((float 0) ∷ []) (float 1) (pillars (0 ∷ 365 ∷ []) ((float 1) ∷ (float 1) ∷ []))) (calls ([]) ([]) ([])) (room 4 6 1 1) ≡ root.Refused (record { number = 36; place = 0 }) 6
 unfolding spreadFromPrice onTreeValue treeValue paidInto rawStep curveOver expAt expM1At lnAt sqrtAt onOutcome onCheck lowest onAnswer rounded ieee.ofBits ieee.add ieee.sub ieee.mul ieee.div ieee.neg ieee.lt ieee.le ieee.ofInt ieee.toSigned
 spread-36 = refl
 
-spread-44 : spreadFromPrice (quoted 0 (leg (365 ∷ []) (1 ∷ []) ((float 105) ∷ [])) (float 100) (steps 1 512) (float 0) ((float 0) ∷ []) ((float 0) ∷ []) (float 100) (pillars (0 ∷ 365 ∷ []) ((float 1) ∷ (float 0) ∷ []))) (calls ([]) ([]) ([])) (room 4 6 1 1) ≡ root.Refused (record { number = 44; place = 1 }) 0
+pub spread-44 : spreadFromPrice (quoted 0 (leg (365 ∷ []) (1 ∷ []) ((float 105) ∷ [])) (float 100) (steps 1 512) (float 0) ((float 0) ∷ []) ((float 0) ∷ []) (float 100) (pillars (0 ∷ 365 ∷ []) ((float 1) ∷ (float 0) ∷ []))) (calls ([]) ([]) ([])) (room 4 6 1 1) ≡ root.Refused (record { number = 44; place = 1 }) 0
 unfolding spreadFromPrice onTreeValue treeValue paidInto rawStep curveOver expAt expM1At lnAt sqrtAt onOutcome onCheck lowest onAnswer rounded ieee.ofBits ieee.add ieee.sub ieee.mul ieee.div ieee.neg ieee.lt ieee.le ieee.ofInt ieee.toSigned
 spread-44 = refl

@@ -13,6 +13,8 @@ pub mod ActualDays
 pub mod DayCounts
 pub mod SpreadPromise
 pub mod SpreadNumbers
+pub mod ActualNumbers
+pub mod SpreadNumbersMet
 pub mod Rooms
 pub mod ProbabilityPromise
 pub mod NoticeLists
@@ -29,10 +31,13 @@ pub mod ClosingSheet
 pub mod Sizing
 pub mod LastTable
 pub mod SpreadTable
+pub mod ShortRows
 pub mod SortedSets
 pub mod FitNodes
 pub mod BookAnswers
 pub mod BookRules
 pub mod DeskCounts
 pub mod Books
+pub mod ShortBooks
+pub mod BooksOverCurves
 pub mod Desks

@@ -46,7 +46,7 @@ use Rattle.bookvalue.specs.laws.Placed.{placed-at}
 use Rattle.bookvalue.specs.laws.Answers.{answerOf, answer-is}
 use Rattle.bookvalue.specs.laws.Entered.{tree-passed, by-size, by-desks, by-bonds, valued-alike}
 use Rattle.promises.specs.Books as page
-use Rattle.promises.specs.Books.{size, AddsUp, overCurves, bookOver, Accepted, CallsMade, LowestAbove, NoLowerBook, ThinnedBook, putsAt, PutsMade, Moved, kept, calls-moved, puts-moved, BondsMoved, AnyCurveBooks}
+use Rattle.promises.specs.Books.{size, AddsUp, overCurves, bookOver, Accepted, CallsMade, LowestAbove, NoLowerBook, ThinnedBook, putsAt, PutsMade, Moved, kept, calls-moved, puts-moved, BondsMoved}
 use Rattle.promises.specs.laws.BookAnswers.{Cause, by-checks, by-value, by-sum, all-passed, cause, answer-of-checks, checked-alone}
 
 -- ---- what passes
@@ -278,11 +278,3 @@ module _ (first second : Book) (moved : BondsMoved first second) where
   pub same-left : (lent : Lent) → bookLent second lent ≡ bookLent first lent
   unfolding bookLent
   same-left lent = ap (λ (k : BookCheck). onBook k (λ bond r. lent) (zeroed lent)) same-checks
-
-pub any-curve-books : AnyCurveBooks
-any-curve-books curves =
-    record {
-      dropped-or-raised = λ first second room made a. thinned first second made curves room a;
-      lowered = book-lowered curves;
-      reordered = λ first second moved room. same-book first second moved curves room;
-    }

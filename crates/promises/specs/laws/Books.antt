@@ -15,7 +15,7 @@ use Rattle.terms.specs.Terms.{CallSchedule, Market, withPuts}
 use Rattle.lattice.specs.Layers.{Room}
 use Rattle.treebasedbondpricer.specs.declared.TreeValue.{TreeValue}
 use Rattle.treebasedbondpricer.specs.declared.TreeValue.the-variants.{Value, Refused}
-use Rattle.treebasedbondpricer.specs.Tree.{treeValueOver, treeValue, numberOf, placeOf, valueOf, countedBy, Lent, roomOf, lentAfter, curveOf}
+use Rattle.treebasedbondpricer.specs.Tree.{treeValueOver, treeValue, numberOf, valueOf, countedBy, roomOf, curveOf}
 use Rattle.bookchecks.specs.declared.BookCheck.the-variants as book
 use Rattle.treebasedbondpricer.specs.laws.PutLists.{put-list-rule}
 use Rattle.bookchecks.specs.Book.{Book, sizeOf, holding, marketAt, callsAt}
@@ -25,13 +25,13 @@ use Rattle.bookvalue.specs.declared.BookAnswer.{BookAnswer}
 use Rattle.bookvalue.specs.Values.{bondValue, refusedTree, placed, sumCheck, deskOf, refusedBook, acceptedBook, bookBy, bookValue}
 use Rattle.bookvalue.specs.Entry.{bookLent}
 use Rattle.bookvalue.specs.laws.Placed.{placed-at, each-alike}
-use Rattle.promises.specs.HostCallLists.{TreeCall, SizesCall, BookCall}
-use Rattle.promises.specs.Rooms.{SameOr21, same, first-21, second-21}
+use Rattle.promises.specs.HostCallLists.{TreeCall, BookCall}
+use Rattle.promises.specs.Rooms.{SameValueOr21, same, first-21, second-21}
 use Rattle.promises.specs.laws.Rooms.{any-room, same-in-any-room}
 use Rattle.promises.specs.OneCount.{totalTo}
 use Rattle.promises.specs.laws.DeskCounts.{together, desk-in}
-use Rattle.promises.specs.Sizing.{AsLong, lengthsIn, BookSizingRule}
-use Rattle.promises.specs.laws.Sizing.{sizing-rule}
+use Rattle.promises.specs.Sizing.{BookSizes, AllSized, AmpleFor, BookSizingRule}
+use Rattle.promises.specs.laws.Sizing.{sizing-rule, called}
 use Rattle.promises.specs.Books as page
 use Rattle.promises.specs.Books.{size, NoValues, Alone, AllOrNone, BookRule, overCurves, bookOver, Accepted, CallsMade, LowestAbove, NoLowerBook, ThinnedBook, ThinnedCall, BookCallListRule, putsAt, PutsMade, BookPutListRule, BondsMoved, SameBooks, BookReorderingRule}
 use Rattle.promises.specs.laws.BookAnswers.{Cause, by-checks, by-value, by-sum, all-passed, cause, valuesOf, countsOf, CheckNumber, of-cut, of-settings, of-day-count, of-tree, check-number, Checked, of-size, of-desk, of-bond, checks-refused, checks-not-0, tree-not-0, refused-by-check}
@@ -39,11 +39,11 @@ use Rattle.promises.specs.laws.BookRules.{sum-27, none-above, decided, t
 
 -- ---- accepted
 
-value-of : (v : TreeValue) → refusedTree v ≡ check.Passed → v ≡ Value (valueOf v) (countedBy v)
+pub value-of : (v : TreeValue) → refusedTree v ≡ check.Passed → v ≡ Value (valueOf v) (countedBy v)
 value-of (Value x n) e = refl
 value-of (Refused q) e = absurd (let z : _≡_ {A = ℕ} 0 1 = cc in omega arith)
 
-refusal-of : (v : TreeValue) {q : Refusal} → refusedTree v ≡ check.Refused q → v ≡ Refused q
+pub refusal-of : (v : TreeValue) {q : Refusal} → refusedTree v ≡ check.Refused q → v ≡ Refused q
 refusal-of (Value x n) e = absurd (let z : _≡_ {A = ℕ} 0 1 = cc in omega arith)
 refusal-of (Refused r) {q} e = let p : r ≡ q = cc in ap Refused p
 
@@ -98,7 +98,7 @@ module _ {b : Book} (c : BookCall b) (z : c .number ≡ 0) (i : ℕ) (h : i < si
       let v = valued-call c z .values i h in
       (p .number-is ∙ ap numberOf (e ∙ v), p .value-is ∙ ap valueOf e ∙ sym (value-handed c z i h))
 
-  any-alone : {v w : TreeValue} → SameOr21 v w → treeValue (marketAt b i) (callsAt b i) (roomOf (t .lent)) ≡ v → bondValue b (roomOf (c .lent)) i ≡ w → ((t .number ≡ 0) × (t .value ≡ getD (c .values) i plusZero)) ⊎ (t .number ≡ 21)
+  any-alone : {v w : TreeValue} → SameValueOr21 v w → treeValue (marketAt b i) (callsAt b i) (roomOf (t .lent)) ≡ v → bondValue b (roomOf (c .lent)) i ≡ w → ((t .number ≡ 0) × (t .value ≡ getD (c .values) i plusZero)) ⊎ (t .number ≡ 21)
   any-alone same e f = inl (same-alone (e ∙ sym f))
   any-alone first-21 e f = inr (t .handed .handed .number-is ∙ ap numberOf e)
   any-alone second-21 e f = absurd (let v = sym f ∙ valued-call c z .values i h in let y : _≡_ {A = ℕ} 0 1 = cc in omega arith)
@@ -230,33 +230,18 @@ book-reordering-rule first second moved a c as-long =
 
 -- ---- sizing
 
--- The call of a bond alone, with these slices.
-alone-call : (m : Market) (calls : CallSchedule) (lent : Lent) → TreeCall m calls
-alone-call m calls lent =
-    let v = treeValue m calls (roomOf lent) in
-    record {
-      lent = lent;
-      left = lentAfter m calls lent;
-      number = numberOf v;
-      place = placeOf v;
-      value = valueOf v;
-      nodes = countedBy v;
-      handed = record { handed = record { number-is = refl; place-is = refl; value-is = refl; nodes-is = refl }; slices = refl };
-    }
-
-module _ (b : Book) (c : BookCall b) (sizes : (i : ℕ) → SizesCall (marketAt b i) (callsAt b i)) (zeros : (i : ℕ) → i < size b → sizes i .number ≡ 0) (as-long : (i : ℕ) → i < size b → AsLong (lengthsIn (sizes i)) (roomOf (c .lent))) where
-  never : (i : ℕ) → i < size b → {q : Refusal} → bondValue b (roomOf (c .lent)) i ≡ Refused q → q .number ≡ 21 → ⊥
-  unfolding alone-call
-  never i h {q} e n =
+module _ (b : Book) (c : BookCall b) (sizes : BookSizes b) (zeros : AllSized b sizes) (as-long : AmpleFor b sizes (roomOf (c .lent))) where
+  pub never : (i : ℕ) → i < size b → numberOf (bondValue b (roomOf (c .lent)) i) ≡ 21 → ⊥
+  never i h =
       let m = marketAt b i in
-      sizing-rule m (callsAt b i) (sizes i) (zeros i h) .values (m .spread) .never-21 (alone-call m (callsAt b i) (c .lent)) (as-long i h) (ap numberOf e ∙ n)
+      sizing-rule m (callsAt b i) (sizes i) (zeros i h) .values (m .spread) .never-21 (called m (callsAt b i) (c .lent)) (as-long i h)
 
   check-never : (i : ℕ) → i < size b → {q : Refusal} → CheckNumber (marketAt b i) (callsAt b i) q → q .number ≡ 21 → ⊥
   unfolding treeValue
   check-never i h (of-cut e) n = omega arith
   check-never i h (of-settings e) n = omega arith
   check-never i h (of-day-count e) n = omega arith
-  check-never i h (of-tree e) n = never i h (refused-by-check (curvesOf b i) (marketAt b i) (callsAt b i) (roomOf (c .lent)) e) n
+  check-never i h (of-tree e) n = never i h (ap numberOf (refused-by-check (curvesOf b i) (marketAt b i) (callsAt b i) (roomOf (c .lent)) e) ∙ n)
 
   checks-never : {bond : ℕ} {q : Refusal} → Checked b bond q → q .number ≡ 21 → ⊥
   checks-never {bond} {q} (of-size e) n = let k : q .number ≡ 39 = ap (λ (r : Refusal). r .number) e in omega arith
@@ -265,7 +250,7 @@ module _ (b : Book) (c : BookCall b) (sizes : (i : ℕ) → SizesCall (marketAt 
 
   answer-never : {answer : BookAnswer} → Cause (bondValue b (roomOf (c .lent))) b answer → answer .refusal .number ≡ 21 → ⊥
   answer-never (by-checks e) n = checks-never (checks-refused b e) n
-  answer-never (by-value {bond = bond} e f) n = let g = first-refused _ (size b) f in never bond (g .of-book) (refusal-of (bondValue b (roomOf (c .lent)) bond) (g .refused)) n
+  answer-never (by-value {bond = bond} e f) n = let g = first-refused _ (size b) f in never bond (g .of-book) (ap numberOf (refusal-of (bondValue b (roomOf (c .lent)) bond) (g .refused)) ∙ n)
   answer-never (by-sum e f g) n = let k = sum-27 _ _ (first-refused _ (size b) g .refused) in omega arith
   answer-never (all-passed e f g) n = omega arith
 

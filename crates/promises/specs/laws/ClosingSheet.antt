@@ -100,23 +100,21 @@ no-line bond v (inr h) = either (ltb bond 1) (ap (λ (b : Bool). cond b noSheet 
 
 -- ---- every input
 
--- No refusal of the tree value has a number of more than four digits, or 0.
+-- No refusal of the tree value has a number of more than four digits.
 abbrev fewIn : List ℕ → Bool
 fewIn [] = true
-fewIn (k ∷ ks) = (ltb 0 k && ltb k 10000) && fewIn ks
+fewIn (k ∷ ks) = ltb k 10000 && fewIn ks
 
-few-in : (ns : List ℕ) → T (fewIn ns) → (n : ℕ) → T (member n ns) → (0 < n) × (n ≤ 9999)
+few-in : (ns : List ℕ) → T (fewIn ns) → (n : ℕ) → T (member n ns) → n ≤ 9999
 few-in [] t n h = absurd h
 few-in (k ∷ ks) t n h =
-    let here = and-l (ltb 0 k && ltb k 10000) (fewIn ks) t in
-    let some = ltb→lt 0 k (and-l (ltb 0 k) (ltb k 10000) here) in
-    let most = ltb→lt k 10000 (and-r (ltb 0 k) (ltb k 10000) here) in
+    let most = ltb→lt k 10000 (and-l (ltb k 10000) (fewIn ks) t) in
     elim (or-split (eqb n k) (member n ks) h) [
-      | inl e ↦ subst (λ (z : ℕ). (0 < z) × (z ≤ 9999)) (sym (eqb→eq n k e)) (some, omega arith)
-      | inr r ↦ few-in ks (and-r (ltb 0 k && ltb k 10000) (fewIn ks) t) n r
+      | inl e ↦ subst (λ (z : ℕ). z ≤ 9999) (sym (eqb→eq n k e)) (omega arith)
+      | inr r ↦ few-in ks (and-r (ltb k 10000) (fewIn ks) t) n r
     ]
 
-few : (n : ℕ) → Among treeRefusals n → (0 < n) × (n ≤ 9999)
+few : (n : ℕ) → Among treeRefusals n → n ≤ 9999
 few n h = few-in treeRefusals tt n (h .is-one)
 
 value-back : (bond n : ℕ) (cell line : List ℕ) → length cell ≡ 16 → ValueColumns bond n cell line → valueColumns line ≡ cell
@@ -143,11 +141,11 @@ module _ (bond : ℕ) where
   refusal-shown q h = record { refusal = refl; line = refused-columns bond q h }
 
   -- What a line in range shows of an answer whose refusals have at most four digits.
-  line-of : (v : TreeValue) → ((q : Refusal) → v ≡ Refused q → (0 < q .number) × (q .number ≤ 9999)) → Line bond v (sheetOf bond v)
+  line-of : (v : TreeValue) → ((q : Refusal) → v ≡ Refused q → q .number ≤ 9999) → Line bond v (sheetOf bond v)
   line-of v refusals =
       record {
         out-of-range = λ o. subst NoLine (sym (no-line bond v o)) (record { refusal = refl; line = refl });
-        refused = λ f l q e. subst (λ (z : TreeValue). RefusalShown bond q (sheetOf bond z)) (sym e) (by-refusal q (sheetOf bond (Refused q)) (shows bond (Refused q) f l) (refusals q e .1));
+        refused = λ f l q e. subst (λ (z : TreeValue). RefusalShown bond q (sheetOf bond z)) (sym e) (by-refusal q (sheetOf bond (Refused q)) (shows bond (Refused q) f l) (refusals q e));
         too-wide = λ f l x n e o. subst (λ (z : TreeValue). RefusalShown bond (at 32 0) (sheetOf bond z)) (sym e) (by-32 x n (sheetOf bond (Value x n)) (shows bond (Value x n) f l) o);
         shown = λ f l x n e w h. subst (λ (z : TreeValue). ValueShown bond x n (sheetOf bond z)) (sym e) (by-value x n (sheetOf bond (Value x n)) (shows bond (Value x n) f l) w h);
       }
@@ -164,14 +162,6 @@ module _ (bond : ℕ) where
       by-value x n r (too-wide (inl v)) w h = absurd (subst T (sym v ∙ w) tt)
       by-value x n r (too-wide (inr l)) w h = absurd (both n h l)
       by-value x n r (a-value v k) w h = value-shown x n w h
-
-  shown-line : (x : Float) (n : ℕ) → 1 ≤ bond → bond ≤ 999999 → valueCell x .wide ≡ false → n ≤ 99999999 → sheetOf bond (Value x n) .line ≡ shownSheet bond n (valueCell x .cell) .line
-  shown-line x n f l w h = by (sheetOf bond (Value x n)) (shows bond (Value x n) f l)
-    where
-      by : (r : ClosingLine) → Shows bond (Value x n) r → r .line ≡ shownSheet bond n (valueCell x .cell) .line
-      by r (too-wide (inl v)) = absurd (subst T (sym v ∙ w) tt)
-      by r (too-wide (inr k)) = absurd (both n h k)
-      by r (a-value v k) = refl
 
 pub every-line : EveryLine
 every-line bond m calls r before after f = (
@@ -243,42 +233,56 @@ each-met-on-sheet = more met-31 (more met-32 (met-by-tree each-met))
 
 -- ---- the call-list rule
 
--- A line with number 0 shows a value.
-record Valued (bond : ℕ) (v : TreeValue) : Type 0 where
+-- A line that shows this value.
+record ShownAs (bond : ℕ) (x : Float) (n : ℕ) (line : List ℕ) : Type 0 where
+  pub narrow : valueCell x .wide ≡ false
+  pub few-nodes : n ≤ 99999999
+  pub is : line ≡ shownSheet bond n (valueCell x .cell) .line
+
+-- A line with number 0 or 32 is that of a value, and with 0 shows it.
+record Valued (bond : ℕ) (v : TreeValue) (r : ClosingLine) : Type 0 where
   pub first-bond : 1 ≤ bond
   pub last-bond : bond ≤ 999999
   pub value : Float
   pub count : ℕ
   pub is : v ≡ Value value count
-  pub narrow : valueCell value .wide ≡ false
-  pub few-nodes : count ≤ 99999999
+  pub shown : r .refusal .number ≡ 0 → ShownAs bond value count (r .line)
 
-valued : (bond : ℕ) (v : TreeValue) → ((q : Refusal) → v ≡ Refused q → 0 < q .number) → sheetOf bond v .refusal .number ≡ 0 → Valued bond v
-valued bond v some z = go (ordered 1 bond) (ordered bond 999999)
+valued : (bond : ℕ) (v : TreeValue) → ((q : Refusal) → v ≡ Refused q → Among treeRefusals (q .number)) → (sheetOf bond v .refusal .number ≡ 0) ⊎ (sheetOf bond v .refusal .number ≡ 32) → Valued bond v (sheetOf bond v)
+valued bond v refusals z = go (ordered 1 bond) (ordered bond 999999)
   where
+    -- 31 is neither, and no refusal of the tree value is.
+    not-31 : {n : ℕ} → n ≡ 31 → (n ≡ 0) ⊎ (n ≡ 32) → ⊥
+    not-31 e (inl o) = omega arith
+    not-31 e (inr o) = omega arith
+
+    not-refused : {n : ℕ} → Among treeRefusals n → (n ≡ 0) ⊎ (n ≡ 32) → ⊥
+    not-refused h (inl e) = absurd (subst (Among treeRefusals) e h .is-one)
+    not-refused h (inr e) = absurd (subst (Among treeRefusals) e h .is-one)
+
+    not-0 : _≡_ {A = ℕ} 32 0 → ⊥
+    not-0 e = omega arith
+
     out : (bond < 1) ⊎ (999999 < bond) → ⊥
-    out o = let e : _≡_ {A = ℕ} 31 0 = sym (ap (λ (s : ClosingLine). s .refusal .number) (no-line bond v o)) ∙ z in omega arith
+    out o = not-31 (ap (λ (s : ClosingLine). s .refusal .number) (no-line bond v o)) z
 
-    none : (n : ℕ) → 0 < n → n ≡ 0 → ⊥
-    none n h e = omega arith
+    by : (w : TreeValue) (r : ClosingLine) → 1 ≤ bond → bond ≤ 999999 → Shows bond w r → ((q : Refusal) → w ≡ Refused q → Among treeRefusals (q .number)) → (r .refusal .number ≡ 0) ⊎ (r .refusal .number ≡ 32) → Valued bond w r
+    by (Refused q) r f l a-refusal p e = absurd (not-refused (p q refl) e)
+    by (Value x n) r f l (too-wide o) p e = record { first-bond = f; last-bond = l; value = x; count = n; is = refl; shown = λ z. absurd (not-0 z) }
+    by (Value x n) r f l (a-value w h) p e = record { first-bond = f; last-bond = l; value = x; count = n; is = refl; shown = λ _. record { narrow = w; few-nodes = h; is = refl } }
 
-    by : (w : TreeValue) (r : ClosingLine) → 1 ≤ bond → bond ≤ 999999 → Shows bond w r → ((q : Refusal) → w ≡ Refused q → 0 < q .number) → r .refusal .number ≡ 0 → Valued bond w
-    by (Refused q) r f l a-refusal p e = absurd (none (q .number) (p q refl) e)
-    by (Value x n) r f l (too-wide o) p e = absurd (none 32 (omega arith) e)
-    by (Value x n) r f l (a-value w h) p e = record { first-bond = f; last-bond = l; value = x; count = n; is = refl; narrow = w; few-nodes = h }
-
-    go : (1 ≤ bond) ⊎ (bond < 1) → (bond ≤ 999999) ⊎ (999999 < bond) → Valued bond v
-    go (inl f) (inl l) = by v (sheetOf bond v) f l (shows bond v f l) some z
+    go : (1 ≤ bond) ⊎ (bond < 1) → (bond ≤ 999999) ⊎ (999999 < bond) → Valued bond v (sheetOf bond v)
+    go (inl f) (inl l) = by v (sheetOf bond v) f l (shows bond v f l) refusals z
     go (inr f) o = absurd (out (inl f))
     go (inl f) (inr l) = absurd (out (inr l))
 
 module _ (bond : ℕ) where
-  -- A second value no lower than a first that is shown, or 27.
-  thinned : (x : Float) (n : ℕ) → valueCell x .wide ≡ false → n ≤ 99999999 → (w : TreeValue) (r : ClosingLine) → Shows bond w r → NoLowerOr27 x w
-      → ((r .refusal .number ≡ 0) × NoLower (valueShown (shownSheet bond n (valueCell x .cell) .line)) (valueShown (r .line))) ⊎ ((r .refusal .number ≡ 27) ⊎ (r .refusal .number ≡ 32))
-  thinned x n u h (Refused q) r a-refusal refused-27 = inr (inl refl)
-  thinned x n u h (Value y k) r (too-wide o) p = inr (inr refl)
-  thinned x n u h (Value y k) r (a-value w g) (accepted l) = inl (refl, rw (shown-back bond x n h, shown-back bond y k g) (printed-no-lower x y u w l))
+  -- A second value no lower than a first, whether or not that is shown, or 27.
+  thinned : (x : Float) (n : ℕ) (first : ClosingLine) → (first .refusal .number ≡ 0 → ShownAs bond x n (first .line)) → (w : TreeValue) (r : ClosingLine) → Shows bond w r → NoLowerOr27 x w
+      → ((r .refusal .number ≡ 0) × (first .refusal .number ≡ 0 → NoLower (valueShown (first .line)) (valueShown (r .line)))) ⊎ ((r .refusal .number ≡ 27) ⊎ (r .refusal .number ≡ 32))
+  thinned x n first shown (Refused q) r a-refusal refused-27 = inr (inl refl)
+  thinned x n first shown (Value y k) r (too-wide o) p = inr (inr refl)
+  thinned x n first shown (Value y k) r (a-value w g) (accepted l) = inl (refl, λ z. let s = shown z in rw (s .is, shown-back bond x n (s .few-nodes), shown-back bond y k g) (printed-no-lower x y (s .narrow) w l))
 
   -- A line shows 4 where the tree value is refused with 4, and only there.
   same-4 : (w : TreeValue) (r : ClosingLine) → Shows bond w r → (r .refusal .number ≡ 4) ↔ (numberOf w ≡ 4)
@@ -300,15 +304,16 @@ line-call-list-rule bond m first second made a b as-long z =
     let w = treeValue m second room in
     let number : b .number ≡ sheetOf bond w .refusal .number = q .number-is ∙ ap (λ (r : Room). sheetOf bond (treeValue m second r) .refusal .number) as-long in
     let line : b .line ≡ sheetOf bond w .line = q .line-is ∙ ap (λ (r : Room). sheetOf bond (treeValue m second r) .line) as-long in
-    let has = valued bond v (λ s e. few (s .number) (tree-numbers m first room s e) .0) (sym (p .number-is) ∙ z) in
+    let first-number : a .number ≡ sheetOf bond v .refusal .number = p .number-is in
+    let first-line : a .line ≡ sheetOf bond v .line = p .line-is in
+    let has = valued bond v (tree-numbers m first room) (subst (λ (k : ℕ). (k ≡ 0) ⊎ (k ≡ 32)) first-number z) in
     let show = shows bond w (has .first-bond) (has .last-bond) in
-    let first-line : a .line ≡ shownSheet bond (has .count) (valueCell (has .value) .cell) .line = p .line-is ∙ ap (λ (u : TreeValue). sheetOf bond u .line) (has .is) ∙ shown-line bond (has .value) (has .count) (has .first-bond) (has .last-bond) (has .narrow) (has .few-nodes) in
     let t = call-list-rule m room first second (has .value) (has .count) made (has .is) in
     let four = same-4 bond w (sheetOf bond w) show in
     record {
       with-4 = ((λ e. t .with-4 .0 (four .0 (sym number ∙ e))), (λ above. number ∙ four .1 (t .with-4 .1 above)));
-      otherwise = λ none. rw (number, line, first-line) (thinned bond (has .value) (has .count) (has .narrow) (has .few-nodes) w (sheetOf bond w) show (t .otherwise none));
-      in-columns = λ some. rw (number, line) (in-columns bond w (sheetOf bond w) show (λ s e. few (s .number) (tree-numbers m second room s e) .1) (λ e. some (number ∙ e)));
+      otherwise = λ none. rw (number, line, first-number, first-line) (thinned bond (has .value) (has .count) (sheetOf bond v) (has .shown) w (sheetOf bond w) show (t .otherwise none));
+      in-columns = λ some. rw (number, line) (in-columns bond w (sheetOf bond w) show (λ s e. few (s .number) (tree-numbers m second room s e)) (λ e. some (number ∙ e)));
     }
 
 -- ---- halves to even

@@ -9,17 +9,15 @@ use lib.IntN.{ℤ, pos}
 use lib.Ieee.{Float, le}
 use Rattle.floats.specs.declared.Refusal.{Refusal}
 use Rattle.floats.specs.laws.Order.{not-le-of-lt}
-use Rattle.terms.specs.Terms.{CallSchedule, Market, withSpread}
-use Rattle.terms.specs.CallLists.{Reordered, StrikeAbove, strikeOf}
+use Rattle.terms.specs.Terms.{CallSchedule, Market, withPuts}
+use Rattle.terms.specs.CallLists.{StrikeAbove, strikeOf}
 use Rattle.terms.specs.Checks.{onCheck}
 use Rattle.terms.specs.Entries.{treeChecks}
-use Rattle.terms.specs.Numbers.{million}
+use Rattle.terms.specs.Numbers.{float, million}
 use Rattle.terms.specs.Outcomes.{Outcome, onOutcome}
 use Rattle.terms.specs.declared.Check.{Check}
 use Rattle.terms.specs.declared.Check.the-variants as check
-use Rattle.terms.specs.laws.EntryChecks.{grid-calls}
-use Rattle.terms.specs.laws.MadeLists.{AllWithin, strikes-decided, tree-made-refused, tree-made-passed, tree-reordered-alike}
-use Rattle.bondevents.specs.laws.GridAnswers as answers
+use Rattle.terms.specs.laws.MadeLists.{AllWithin, strikes-decided, tree-made-refused, tree-made-passed}
 use Rattle.bondevents.specs.declared.GridAnswer.{GridAnswer}
 use Rattle.bondevents.specs.Grid.{gridAnswer}
 use Rattle.bondevents.specs.declared.Side.the-variants.{Call, Put}
@@ -29,7 +27,7 @@ use Rattle.treebasedbondpricer.specs.declared.TreeValue.{TreeValue}
 use Rattle.treebasedbondpricer.specs.declared.TreeValue.the-variants.{Value, Refused}
 use Rattle.treebasedbondpricer.specs.Tree.{treeValueOver, treeValue, Lent, lentAfter, numberOf, placeOf, valueOf, countedBy, roomOf}
 use Rattle.treebasedbondpricer.specs.CallLists.{NoLowerOr27, accepted, refused-27}
-use Rattle.treebasedbondpricer.specs.laws.CallLists.{call-list-rule, reordering-rule}
+use Rattle.treebasedbondpricer.specs.laws.CallLists.{call-list-rule}
 use Rattle.sizing.specs.declared.Sizes.{Sizes}
 use Rattle.sizing.specs.declared.Sizes.the-variants as sizes
 use Rattle.sizing.specs.Sizing.{treeWidths, sizesFrom, sizesOf, nodesAfter, sizesNumber, sizesPlace, needed}
@@ -43,10 +41,10 @@ use Rattle.spreadtable.specs.Table.{withShift, tableOf}
 use Rattle.spreadtable.specs.Table as table
 use Rattle.spreadtable.specs.laws.Alike.{same-table}
 use Rattle.promises.specs.RefusalNumbers.{Among, treeRefusals}
-use Rattle.promises.specs.HostCallLists.{GridCall, TreeCall, SpreadCall, SheetCall, SizesCall, TableCall, HostCallListRule, SameGrids, SameValues, SameSpreads, SameLines, SameSizes, SameTables, HostReorderingRule, HostSizesRule}
+use Rattle.promises.specs.HostCallLists.{GridCall, TreeCall, SpreadCall, SheetCall, SizesCall, TableCall, HostCallListRule, SameGrids, SameValues, SameSpreads, SameLines, SameSizes, SameTables, Unchanged, HostReorderingRule, HostSizesRule}
 use Rattle.promises.specs.laws.TreeNumbers.{tree-numbers}
 use Rattle.promises.specs.laws.SpreadNumbers.{passed}
-use Rattle.promises.specs.laws.SpreadReordering.{spread-reordering-rule}
+use Rattle.promises.specs.laws.SpreadReordering.{AnsweredAlike, same-spread, reordered-calls-alike}
 use Rattle.promises.specs.laws.SizingNumbers.{never-4}
 
 -- ---- the call-list rule
@@ -176,13 +174,7 @@ tables-alike {m} {n} {spreads} {shifts} {first} {second} a b as-long same =
       slices = λ alike. b .handed .slices ∙ ap (table.lentAfter spreads shifts) alike ∙ sym (a .handed .slices);
     }
 
--- ---- reordering
-
-module _ (m : Market) (first second : CallSchedule) (r : Reordered first second) (z : gridAnswer (m .settlement) (m .bond) first (m .controls) .refusal .number ≡ 0) where
-  same-checks : treeChecks m second ≡ treeChecks m first
-  same-checks =
-      let a = answers.accepted (m .settlement) (m .bond) first (m .controls) z in
-      tree-reordered-alike first second r m (grid-calls (m .settlement) (m .bond) first (m .controls) (a .checked))
+-- ---- sizing
 
 -- What has a value has passed its checks.
 value-passed : (m : Market) (calls : CallSchedule) (room : Room) (x : Float) (n : ℕ) → treeValue m calls room ≡ Value x n → treeChecks m calls ≡ check.Passed
@@ -217,17 +209,30 @@ host-sizes-rule m first second made v z a b as-long =
     not-both : StrikeAbove second → AllWithin second → ⊥
     not-both s w = not-le-of-lt million (strikeOf second (s .entry)) (s .above) (w (s .entry) (s .of-list))
 
-pub host-reordering-rule : HostReorderingRule
-host-reordering-rule m first second r g z =
-    let y = sym (g .handed .number-is) ∙ z in
-    let same = reordering-rule m first second r y in
+-- ---- reordering
+
+-- Of lists answered alike nothing is changed.
+pub unchanged : {m : Market} {puts first others second : CallSchedule} → AnsweredAlike m puts first others second → Unchanged (withPuts m puts) first (withPuts m others) second
+unchanged {m} {puts} {first} {others} {second} same =
     record {
       grids = λ a b. grids-alike a b (same .grids);
-      values = λ a b as-long. values-alike a b as-long (same .values) (same .slices);
-      spreads = λ target a b as-long. let found = spread-reordering-rule (quoting m target) first second r y in spreads-alike a b as-long (found .roots) (found .slices);
-      lines = λ bond a b as-long. lines-alike a b as-long (same .values) (same .slices);
-      sizes = same-sizes (same-checks m first second r y) (λ room. refl);
+      values = λ a b as-long. values-alike a b as-long values slices;
+      spreads = λ target a b as-long. let found = same-spread same target in spreads-alike a b as-long (found .roots) (found .slices);
+      lines = λ bond a b as-long. lines-alike a b as-long values slices;
+      sizes = same-sizes checks (λ room. unfold treeWidths in refl);
       tables = λ spreads shifts a b as-long.
           tables-alike a b as-long
-          (λ room. same-table m m first second room refl (λ h s. reordering-rule (withSpread (withShift m h) s) first second r y .values room) spreads shifts);
+          (λ room. same-table (withPuts m puts) (withPuts m others) first second room refl (λ h s. same .values (withShift m h .model) s room) spreads shifts);
     }
+  where
+    checks : treeChecks (withPuts m others) second ≡ treeChecks (withPuts m puts) first
+    checks = unfold treeChecks in same .checks (float 1) m
+
+    values : (room : Room) → treeValue (withPuts m others) second room ≡ treeValue (withPuts m puts) first room
+    values = same .values (m .model) (m .spread)
+
+    slices : (lent : Lent) → lentAfter (withPuts m others) second lent ≡ lentAfter (withPuts m puts) first lent
+    slices lent = unfold lentAfter in rw checks
+
+pub host-reordering-rule : HostReorderingRule
+host-reordering-rule m first second r g z = unchanged (reordered-calls-alike m first second r (sym (g .handed .number-is) ∙ z))

@@ -14,8 +14,7 @@ use Rattle.lattice.specs.Lattice.{transitionsOf, stepOf, grown, flat, curved, l
 use Rattle.terms.specs.Outcomes.{Outcome}
 use Rattle.chances.specs.laws.NeverTooLow.{Only23Or27, was-given, too-far, not-finite, SpacedStep, transition-only, made-spaced}
 use Rattle.floats.specs.laws.Cases.{Holds}
-use Rattle.promises.specs.RefusalNumbers.{treeRefusals}
-use Rattle.promises.specs.laws.Numbers.{arithmeticRefusals, AnswerAmong, OutcomeAmong, wider-answer, then-known, numbers}
+use Rattle.promises.specs.laws.Numbers.{arithmeticRefusals, builtRefusals, AnswerAmong, OutcomeAmong, wider-answer, then-known, numbers}
 use Rattle.promises.specs.laws.ElementaryNumbers.{exp-number, expM1-number, sqrt-number}
 
 -- ---- variances
@@ -55,15 +54,15 @@ variances-number model dt (suc count) k =
 -- ---- transitions
 
 -- a step that is made never meets 24
-transition-number : (s : Step) → SpacedStep s → (node : ℤ) → Holds (OutcomeAmong treeRefusals) (transitionOf s node)
+transition-number : (s : Step) → SpacedStep s → (node : ℤ) → Holds (OutcomeAmong builtRefusals) (transitionOf s node)
 transition-number s sp node = go (transition-only s sp node)
   where
-    go : {A : Type 0} {o : Outcome A} → Only23Or27 o → Holds (OutcomeAmong treeRefusals) o
+    go : {A : Type 0} {o : Outcome A} → Only23Or27 o → Holds (OutcomeAmong builtRefusals) o
     go was-given = search numbers
     go too-far = search numbers
     go not-finite = search numbers
 
-transitions-number : (s : Step) → SpacedStep s → (nodes : List ℤ) → Holds (OutcomeAmong treeRefusals) (transitionsOf s nodes)
+transitions-number : (s : Step) → SpacedStep s → (nodes : List ℤ) → Holds (OutcomeAmong builtRefusals) (transitionsOf s nodes)
 unfolding transitionsOf
 transitions-number s sp [] = search numbers
 transitions-number s sp (n ∷ ns) =
@@ -73,17 +72,17 @@ transitions-number s sp (n ∷ ns) =
 
 -- ---- layers
 
-decay-number : (x : Float) (place : ℕ) → Holds (AnswerAmong treeRefusals) (expAt x place)
-decay-number x place = wider-answer arithmeticRefusals treeRefusals refl (expAt x place) (exp-number x place)
+decay-number : (x : Float) (place : ℕ) → Holds (AnswerAmong builtRefusals) (expAt x place)
+decay-number x place = wider-answer arithmeticRefusals builtRefusals refl (expAt x place) (exp-number x place)
 
-root-number : (x : Float) (place : ℕ) → Holds (AnswerAmong treeRefusals) (sqrtAt x place)
-root-number x place = wider-answer arithmeticRefusals treeRefusals refl (sqrtAt x place) (sqrt-number x place)
+root-number : (x : Float) (place : ℕ) → Holds (AnswerAmong builtRefusals) (sqrtAt x place)
+root-number x place = wider-answer arithmeticRefusals builtRefusals refl (sqrtAt x place) (sqrt-number x place)
 
-step-number : (spacing decay variance : Float) (k : ℕ) → Holds (OutcomeAmong treeRefusals) (stepOf spacing decay variance k)
+step-number : (spacing decay variance : Float) (k : ℕ) → Holds (OutcomeAmong builtRefusals) (stepOf spacing decay variance k)
 unfolding stepOf
 step-number spacing decay variance k = search (root-number, numbers) depth 24
 
-grown-number : (variances : List Float) (room : Room) (decay spacing : Float) (before : ℕ) (nodes : List ℤ) (k : ℕ) → Holds (OutcomeAmong treeRefusals) (grown room decay spacing before nodes k variances)
+grown-number : (variances : List Float) (room : Room) (decay spacing : Float) (before : ℕ) (nodes : List ℤ) (k : ℕ) → Holds (OutcomeAmong builtRefusals) (grown room decay spacing before nodes k variances)
 unfolding grown
 grown-number [] room decay spacing before nodes k = search numbers
 grown-number (v ∷ vs) room decay spacing before nodes k =
@@ -92,18 +91,18 @@ grown-number (v ∷ vs) room decay spacing before nodes k =
     let now = transitions-number s (made-spaced spacing decay v k s e) nodes in
     search numbers
 
-flat-number : (left : ℕ) (room : Room) (k : ℕ) → Holds (OutcomeAmong treeRefusals) (flat room k left)
+flat-number : (left : ℕ) (room : Room) (k : ℕ) → Holds (OutcomeAmong builtRefusals) (flat room k left)
 unfolding flat
 flat-number zero room k = search numbers
 flat-number (suc left) room k =
     let later = flat-number left in
     search numbers
 
-curved-number : (room : Room) (alpha dt : Float) (variances : List Float) → Holds (OutcomeAmong treeRefusals) (curved room alpha dt variances)
+curved-number : (room : Room) (alpha dt : Float) (variances : List Float) → Holds (OutcomeAmong builtRefusals) (curved room alpha dt variances)
 unfolding curved
 curved-number room alpha dt [] = search numbers
 curved-number room alpha dt (v ∷ vs) = search (decay-number, root-number, grown-number, numbers)
 
-pub lattice-number : (room : Room) (alpha dt : Float) (variances : List Float) → Holds (OutcomeAmong treeRefusals) (lattice room alpha dt variances)
+pub lattice-number : (room : Room) (alpha dt : Float) (variances : List Float) → Holds (OutcomeAmong builtRefusals) (lattice room alpha dt variances)
 unfolding lattice
 lattice-number room alpha dt variances = search (flat-number, curved-number, numbers)

@@ -64,6 +64,10 @@ gridRefusals = 20 ∷ 27 ∷ 38 ∷ []
 abbrev pub walkRefusals : List ℕ
 walkRefusals = 25 ∷ 26 ∷ 27 ∷ []
 
+-- Grid, layers, fit and walk: what checked terms are refused with.
+abbrev pub builtRefusals : List ℕ
+builtRefusals = 20 ∷ 21 ∷ 22 ∷ 23 ∷ 25 ∷ 26 ∷ 27 ∷ 38 ∷ []
+
 abbrev pub AnswerAmong : List ℕ → Answer → Type 0
 AnswerAmong ns = RefusedOnly (Among ns)
 

@@ -1,38 +1,33 @@
 -- The rules of put lists, and of call lists beside puts, of what the C functions hand back. Assumes nothing.
-use mathlib.Core.Path.{_≡_, refl, sym, ap, fun-ext, _∙_}
+use Prim.Native.Nat.{ℕ}
+use mathlib.Core.Path.{_≡_, refl, sym, ap, subst, _∙_}
 use mathlib.Core.Logic.{inl, inr}
-use mathlib.Core.Bool.{cond}
 use native.Mathlib.Omega.{arith}
-use lib.Ieee.{Float, binary64, sub, neg, lt}
-use Rattle.floats.specs.declared.Answer.{Answer}
-use Rattle.floats.specs.declared.Answer.the-variants as answer
-use Rattle.floats.specs.Answers.{one, refusal, tested}
 use Rattle.terms.specs.declared.Check.{Check}
-use Rattle.terms.specs.Numbers.{targetLimit}
-use Rattle.terms.specs.Terms.{CallSchedule, Market, bondWithPuts, withPuts, withSpread}
+use Rattle.terms.specs.declared.Check.the-variants as check
+use Rattle.terms.specs.declared.Settlement.{Settlement}
+use Rattle.terms.specs.Terms.{CallSchedule, Bond, TimeGrid, Market, bondWithPuts, withPuts, withSpread}
 use Rattle.terms.specs.Checks.{onCheck}
 use Rattle.terms.specs.CallLists.{Reordered, StrikeAbove}
-use Rattle.terms.specs.Entries.{treeChecks}
-use Rattle.terms.specs.laws.Groups.{CallsPassed}
-use Rattle.terms.specs.laws.EntryChecks.{grid-terms, market-puts-alike, tree-puts-alike, spread-is}
+use Rattle.terms.specs.Entries.{gridChecks}
+use Rattle.terms.specs.Outcomes.{Outcome, onOutcome}
+use Rattle.terms.specs.laws.Lockstep.{GivenOr27, is-given, is-27}
+use Rattle.terms.specs.laws.EntryChecks.{grid-terms, market-puts-alike}
 use Rattle.terms.specs.laws.MadeLists.{reordered-calls}
-use Rattle.bondevents.specs.Grid.{gridAnswer}
-use Rattle.bondevents.specs.laws.GridAnswers.{accepted}
+use Rattle.bondevents.specs.declared.BondEventGrid.{BondEventGrid}
+use Rattle.bondevents.specs.Grid.{eventGrid, refusedGrid, acceptedGrid, gridAnswer}
+use Rattle.bondevents.specs.laws.GridAnswers.{accepted, checked-no-lower}
+use Rattle.floats.specs.laws.Cases.{Holds}
 use Rattle.lattice.specs.Layers.{Room}
-use Rattle.treebasedbondpricer.specs.declared.TreeValue.{TreeValue}
 use Rattle.treebasedbondpricer.specs.declared.TreeValue.the-variants.{Value}
-use Rattle.treebasedbondpricer.specs.Tree.{treeValue, Lent, zeroed, roomOf, numberOf, valueOf, countedBy}
-use Rattle.treebasedbondpricer.specs.laws.PutLists.{put-list-rule, put-reordering-rule}
-use Rattle.sizing.specs.Sizing.{treeWidths}
-use Rattle.brackets.specs.declared.Root.the-variants as root
-use Rattle.brackets.specs.Brackets.{bracketedRoot}
-use Rattle.sought.specs.Objectives.{firstLower, firstUpper}
-use Rattle.spreads.specs.Spreads.{quoting, atSpread, quotedChecks, onTreeValue, spreadObjective, solveSpread, spreadFromPrice}
-use Rattle.spreads.specs.Spreads as spreads
-use Rattle.spreadtable.specs.Table.{withShift}
-use Rattle.spreadtable.specs.laws.Alike.{same-table}
-use Rattle.promises.specs.Puts.{HostPutListRule, HostPutReorderingRule, CallsWithPuts, Never38}
-use Rattle.promises.specs.laws.HostCallLists.{valued, grids-alike, values-alike, spreads-alike, lines-alike, same-sizes, tables-alike, host-call-list-rule, host-reordering-rule}
+use Rattle.treebasedbondpricer.specs.Tree.{treeValue, roomOf, numberOf, valueOf, countedBy}
+use Rattle.treebasedbondpricer.specs.laws.CallLists.{any-curve-rule}
+use Rattle.treebasedbondpricer.specs.laws.PutLists.{put-list-rule, put-reordering-rule, any-curve-put-rule}
+use Rattle.promises.specs.Puts.{HostPutListRule, HostPutReorderingRule, CallsWithPuts, Never38, GridNever38, ListsOverCurves}
+use Rattle.promises.specs.RefusalNumbers.{Among}
+use Rattle.promises.specs.laws.Numbers.{checkRefusals, CheckAmong, numbers}
+use Rattle.promises.specs.laws.SpreadReordering.{withModel, AnsweredAlike}
+use Rattle.promises.specs.laws.HostCallLists.{valued, unchanged, host-call-list-rule, host-reordering-rule}
 
 -- ---- put lists
 
@@ -49,54 +44,22 @@ host-put-list-rule m calls first second lowered a b as-long z y =
     let too : w ≡ Value (valueOf w) (countedBy w) = valued (withPuts m second) calls room w refl (sym number ∙ y) in
     rw (value, p .value-is) (put-list-rule m calls room first second (valueOf v) (valueOf w) (countedBy v) (countedBy w) lowered has too)
 
--- ---- reordering puts: the checks, then the spread
+-- ---- reordering puts
 
-module _ (m : Market) (calls first second : CallSchedule) (r : Reordered first second) (z : gridAnswer (m .settlement) (bondWithPuts (m .bond) first) calls (m .controls) .refusal .number ≡ 0) where
-  passed-puts : CallsPassed first
-  passed-puts =
-      let a = accepted (m .settlement) (bondWithPuts (m .bond) first) calls (m .controls) z in
-      grid-terms (m .settlement) (bondWithPuts (m .bond) first) calls (m .controls) (a .checked) .puts
-
-  same-terms : treeChecks (withPuts m second) calls ≡ treeChecks (withPuts m first) calls
-  same-terms = tree-puts-alike m calls first second passed-puts (reordered-calls first second r passed-puts)
-
-module _ (m : Market) (target : Float) (calls first second : CallSchedule) (r : Reordered first second) (z : gridAnswer (m .settlement) (bondWithPuts (m .bond) first) calls (m .controls) .refusal .number ≡ 0) where
-  checks : quotedChecks (quoting (withPuts m second) target) calls ≡ quotedChecks (quoting (withPuts m first) target) calls
-  checks =
-      let k = passed-puts m calls first second r z in
-      let n = atSpread (quoting m target) target in
-      spread-is (withPuts n second) calls ∙ market-puts-alike targetLimit n calls first second k (reordered-calls first second r k) ∙ sym (spread-is (withPuts n first) calls)
-
-  tried : (room : Room) (s : Float) → spreadObjective (quoting (withPuts m second) target) calls room s ≡ spreadObjective (quoting (withPuts m first) target) calls room s
-  unfolding spreadObjective
-  tried room s =
-      ap (λ (v : TreeValue). cond (lt one s) (refusal 36 0) (onTreeValue v answer.Refused λ x. tested (sub binary64 x target) 0))
-      (put-reordering-rule (atSpread (quoting m target) s) calls first second r z .values room)
-
-  same-root : (room : Room) → spreadFromPrice (quoting (withPuts m second) target) calls room ≡ spreadFromPrice (quoting (withPuts m first) target) calls room
-  unfolding spreadFromPrice
-  same-root room =
-      ap (λ (c : Check). onCheck c (λ q. root.Refused q 0) (solveSpread (quoting (withPuts m second) target) calls room)) checks
-      ∙ ap (λ (f : Float → Answer). onCheck (quotedChecks (quoting (withPuts m first) target) calls) (λ q. root.Refused q 0) (bracketedRoot f firstLower firstUpper (neg one))) (fun-ext (tried room))
-
-  same-slices : (lent : Lent) → spreads.lentAfter (quoting (withPuts m second) target) calls lent ≡ spreads.lentAfter (quoting (withPuts m first) target) calls lent
-  unfolding spreads.lentAfter
-  same-slices lent = ap (λ (c : Check). onCheck c (λ q. lent) (zeroed lent)) checks
+reordered-puts-alike : (m : Market) (calls first second : CallSchedule) → Reordered first second → gridAnswer (m .settlement) (bondWithPuts (m .bond) first) calls (m .controls) .refusal .number ≡ 0
+    → AnsweredAlike m first calls second calls
+reordered-puts-alike m calls first second r z =
+    let bond = bondWithPuts (m .bond) first in
+    let a = accepted (m .settlement) bond calls (m .controls) z in
+    let k = grid-terms (m .settlement) bond calls (m .controls) (a .checked) .puts in
+    record {
+      grids = put-reordering-rule m calls first second r z .grids;
+      checks = λ limit n. market-puts-alike limit n calls first second k (reordered-calls first second r k);
+      values = λ model s. put-reordering-rule (withSpread (withModel m model) s) calls first second r z .values;
+    }
 
 pub host-put-reordering-rule : HostPutReorderingRule
-host-put-reordering-rule m calls first second r g z =
-    let y = sym (g .handed .number-is) ∙ z in
-    let same = put-reordering-rule m calls first second r y in
-    record {
-      grids = λ a b. grids-alike a b (same .grids);
-      values = λ a b as-long. values-alike a b as-long (same .values) (same .slices);
-      spreads = λ target a b as-long. spreads-alike a b as-long (same-root m target calls first second r y) (same-slices m target calls first second r y);
-      lines = λ bond a b as-long. lines-alike a b as-long (same .values) (same .slices);
-      sizes = same-sizes (same-terms m calls first second r y) (λ room. unfold treeWidths in refl);
-      tables = λ spreads shifts a b as-long.
-          tables-alike a b as-long
-          (λ room. same-table (withPuts m first) (withPuts m second) calls calls room refl (λ h s. put-reordering-rule (withSpread (withShift m h) s) calls first second r y .values room) spreads shifts);
-    }
+host-put-reordering-rule m calls first second r g z = unchanged (reordered-puts-alike m calls first second r (sym (g .handed .number-is) ∙ z))
 
 -- ---- call lists beside any puts
 
@@ -111,3 +74,39 @@ never-38 m first second made a b as-long z y =
       | inl (n, l) ↦ omega arith
       | inr n ↦ omega arith
     ]
+
+grid-checks-number : (settlement : Settlement) (bond : Bond) (calls : CallSchedule) (controls : TimeGrid) → Holds (CheckAmong checkRefusals) (gridChecks settlement bond calls controls)
+unfolding gridChecks
+grid-checks-number settlement bond calls controls = search numbers depth 40 fits 8000
+
+abbrev gridNumber : Outcome BondEventGrid → ℕ
+gridNumber o = onOutcome o refusedGrid acceptedGrid .refusal .number
+
+made-not-38 : {P : BondEventGrid → Type 0} {o : Outcome BondEventGrid} → GivenOr27 P o → gridNumber o ≡ 38 → ⊥
+unfolding onOutcome
+made-not-38 (is-given g p n) e = let z : _≡_ {A = ℕ} 0 38 = sym (ap gridNumber p) ∙ e in omega (arith, z)
+made-not-38 (is-27 r p n) e = let z : r .number ≡ 38 = sym (ap gridNumber p) ∙ e in omega (arith, z, n)
+
+pub grid-never-38 : GridNever38
+unfolding gridAnswer onCheck
+grid-never-38 m first second made a b z y = go (gridChecks s bond second controls) (grid-checks-number s bond second controls .it) (sym (b .handed .number-is) ∙ y)
+  where
+    s : Settlement
+    s = m .settlement
+
+    bond : Bond
+    bond = m .bond
+
+    controls : TimeGrid
+    controls = m .controls
+
+    go : (c : Check) → CheckAmong checkRefusals c → onCheck c refusedGrid (onOutcome (eventGrid s bond second controls) refusedGrid acceptedGrid) .refusal .number ≡ 38 → ⊥
+    go check.Passed h e =
+        let was = accepted s bond first controls (sym (a .handed .number-is) ∙ z) in
+        made-not-38 (checked-no-lower s bond first second controls (was .checked) made (was .grid) (was .has-grid)) e
+    go (check.Refused q) h e = subst (Among checkRefusals) e h .is-one
+
+-- ---- whatever the curve
+
+pub lists-over-curves : ListsOverCurves
+lists-over-curves = record { call-lists = any-curve-rule; put-lists = any-curve-put-rule }

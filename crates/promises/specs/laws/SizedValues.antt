@@ -129,7 +129,7 @@ module _ (curve : Float → ℕ → Answer) (m : Market) (g : BondEventGrid) whe
     from-lattice (refused q) = refl
 
     -- So does the value.
-    value-from-layers : latticeValueOver curve m room g ≡ follow (layersAt m room (g .«maturity_time») (g .steps)) fitAndWalk
+    pub value-from-layers : latticeValueOver curve m room g ≡ follow (layersAt m room (g .«maturity_time») (g .steps)) fitAndWalk
     unfolding latticeValueOver
     value-from-layers =
         ap (λ (o : Outcome Fitted). follow o λ f. valueWith (m .spread) g f) fitted-from-layers

@@ -7,9 +7,10 @@ use lib.ListN.{length}
 use lib.Ieee.{Float, binary64, div}
 use Rattle.floats.specs.declared.Refusal.{Refusal}
 use Rattle.floats.specs.Answers.{notFinite}
+use Rattle.floats.specs.laws.Cases.{Holds}
 use Rattle.terms.specs.declared.Check.{Check}
 use Rattle.terms.specs.declared.Check.the-variants as check
-use Rattle.terms.specs.Numbers.{float}
+use Rattle.terms.specs.Numbers.{float, targetLimit}
 use Rattle.terms.specs.Terms.{CallSchedule, Market, withSpread}
 use Rattle.terms.specs.Checks.{onCheck}
 use Rattle.terms.specs.Entries.{treeChecks, spreadChecks}
@@ -22,16 +23,23 @@ use Rattle.lattice.specs.Lattice.{Lattice}
 use Rattle.lattice.specs.laws.RoomTest.{Fitting}
 use Rattle.treebasedbondpricer.specs.declared.TreeValue.{TreeValue}
 use Rattle.treebasedbondpricer.specs.declared.TreeValue.the-variants.{Value}
-use Rattle.treebasedbondpricer.specs.Tree.{Lent, roomOf, treeValue}
+use Rattle.treebasedbondpricer.specs.Tree.{Lent, roomOf, lentAfter, treeValue, numberOf, placeOf, valueOf, countedBy}
 use Rattle.closingsheet.specs.declared.ClosingLine.{ClosingLine}
 use Rattle.closingsheet.specs.Sheet.{sheetOf}
 use Rattle.spreads.specs.Spreads.{quoting, spreadFromPrice}
 use Rattle.widths.specs.Widths.{total, widest}
+use Rattle.sizing.specs.declared.Lengths.{Lengths}
 use Rattle.sizing.specs.Sizing.{treeWidths, lengthsOf, sizesOf, needed}
+use Rattle.promises.specs.RefusalNumbers.{Among, treeRefusals}
 use Rattle.promises.specs.HostCallLists.{TreeCall, SpreadCall, SheetCall, SizesCall}
 use Rattle.promises.specs.Sizing.{AsLong, Shorter, fewer-nodes, fewer-probabilities, shorter-first, shorter-second, beforeFit, Stops, with-21, earlier, RightLengths, lengthsIn, Sized, SizingRule}
-use Rattle.promises.specs.laws.Rooms.{Alike, alike, first-short, second-short, after, either, lattice-alike}
-use Rattle.promises.specs.laws.SizedValues.{ValueSized, was-laid, had-no-room, stopped, Ends, after-layers, without-room, before-layers, ends-not-21, refusalOf, value-ends, tree-ends, value-sized, counted-as}
+use Rattle.promises.specs.Rooms.{same, first-21, second-21}
+use Rattle.promises.specs.laws.Rooms.{Alike, after, either, lattice-alike}
+use Rattle.promises.specs.laws.Numbers.{arithmeticRefusals, builtRefusals, gridRefusals, OutcomeAmong, CheckAmong, wider-outcome, then-outcome, then-checked, numbers}
+use Rattle.promises.specs.laws.GridNumbers.{grid-number}
+use Rattle.promises.specs.laws.LatticeNumbers.{variances-number, lattice-number}
+use Rattle.promises.specs.laws.TreeNumbers.{checks-tree}
+use Rattle.promises.specs.laws.SizedValues.{layersAt, ValueSized, was-laid, had-no-room, stopped, Ends, after-layers, without-room, before-layers, ends-not-21, refusalOf, value-ends, tree-ends, value-sized, counted-as}
 use Rattle.promises.specs.laws.SizedSpreads.{rootRefusal, widths-any-spread, spread-ends}
 use Rattle.promises.specs.laws.SizingNumbers.{accepted}
 use Rattle.promises.specs.laws.HostCallLists.{valued}
@@ -48,15 +56,43 @@ short-never-fits ws (fewer-probabilities h) f = omega (arith, h, f .threes)
 short-never-fits ws (shorter-first h) f = omega (arith, h, f .first)
 short-never-fits ws (shorter-second h) f = omega (arith, h, f .second)
 
--- What stands before the fit is the same in two rooms, or one of them is short.
+-- Layers, and all that stands before the fit, are the same in two rooms, or one of them is short.
+pub layers-alike : (m : Market) (a b : Room) (maturity : Float) (steps : ℕ) → Alike (layersAt m a maturity steps) (layersAt m b maturity steps)
+layers-alike m a b maturity steps =
+    let dt = div binary64 maturity (float steps) in
+    either (notFinite dt) _ _ _ _ same
+    (after (transitionVariances (m .model) steps dt) _ _ λ vs. lattice-alike a b (m .model .alpha) dt vs)
+
 before-alike : (c : Check) (m : Market) (calls : CallSchedule) (a b : Room) → Alike (beforeFit c m calls a) (beforeFit c m calls b)
 unfolding beforeFit onCheck
 before-alike check.Passed m calls a b =
-    after (eventGrid (m .settlement) (m .bond) calls (m .controls)) _ _ λ g.
-    let dt = div binary64 (g .«maturity_time») (float (g .steps)) in
-    either (notFinite dt) _ _ _ _ alike
-    (after (transitionVariances (m .model) (g .steps) dt) _ _ λ vs. lattice-alike a b (m .model .alpha) dt vs)
-before-alike (check.Refused q) m calls a b = alike
+    after (eventGrid (m .settlement) (m .bond) calls (m .controls)) _ _ λ g. layers-alike m a b (g .«maturity_time») (g .steps)
+before-alike (check.Refused q) m calls a b = same
+
+-- ---- 0 is no refusal's number
+
+layers-number : (m : Market) (room : Room) (maturity : Float) (steps : ℕ) → Holds (OutcomeAmong builtRefusals) (layersAt m room maturity steps)
+layers-number m room maturity steps =
+    let dt = div binary64 maturity (float steps) in
+    let variances = wider-outcome arithmeticRefusals builtRefusals refl _ (variances-number (m .model) dt steps 0) in
+    search (variances, lattice-number, numbers)
+
+before-number : (c : Check) (m : Market) (calls : CallSchedule) → Holds (CheckAmong treeRefusals) c → (room : Room) → Holds (OutcomeAmong treeRefusals) (beforeFit c m calls room)
+unfolding beforeFit
+before-number c m calls h room =
+    let grid = wider-outcome gridRefusals treeRefusals refl _ (grid-number (m .settlement) (m .bond) calls (m .controls)) in
+    then-checked c _ h (then-outcome _ _ grid λ g. wider-outcome builtRefusals treeRefusals refl _ (layers-number m room (g .«maturity_time») (g .steps)))
+
+pub tree-checks-number : (m : Market) (calls : CallSchedule) → Holds (CheckAmong treeRefusals) (treeChecks m calls)
+unfolding treeChecks
+tree-checks-number m calls = checks-tree (float 1) m calls
+
+spread-checks-number : (m : Market) (calls : CallSchedule) → Holds (CheckAmong treeRefusals) (spreadChecks m calls)
+unfolding spreadChecks
+spread-checks-number m calls = checks-tree targetLimit m calls
+
+no-refusal-0 : {o : Outcome Lattice} {q : Refusal} → Holds (OutcomeAmong treeRefusals) o → o ≡ refused q → q .number ≡ 0 → ⊥
+no-refusal-0 h e z = subst (Among treeRefusals) z (subst (OutcomeAmong treeRefusals) e (h .it)) .is-one
 
 -- ---- one function's calls
 
@@ -66,19 +102,19 @@ first-of (without-room ne) e = cc
 first-of (before-layers ne) e = cc
 
 ample-too : {room : Room} {ws : List ℕ} {o p : Outcome Lattice} {r q : Refusal} → Fitting room (total ws) (widest ws) → (q .number ≡ 21 → ⊥) → Alike o p → o ≡ refused q → Ends room ws p r → p ≡ refused q
-ample-too fit ne alike e x = e
-ample-too {q = q} fit ne (first-short {k = k}) e x = let same : record { number = 21; place = k } ≡ q = cc in absurd (ne (sym (ap (λ (r : Refusal). r .number) same)))
-ample-too fit ne second-short e (without-room none) = absurd (none fit)
-ample-too fit ne second-short e (before-layers other) = absurd (other refl)
+ample-too fit ne same e x = e
+ample-too {q = q} fit ne (first-21 {place = k}) e x = let of-21 : record { number = 21; place = k } ≡ q = cc in absurd (ne (sym (ap (λ (r : Refusal). r .number) of-21)))
+ample-too fit ne second-21 e (without-room none) = absurd (none fit)
+ample-too fit ne second-21 e (before-layers other) = absurd (other refl)
 
-module _ (ws : List ℕ) (before : Room → Outcome Lattice) (answers : Room → Refusal) (ends : (room : Room) → Ends room ws (before room) (answers room)) (both : (a b : Room) → Alike (before a) (before b)) where
+module _ (ws : List ℕ) (before : Room → Outcome Lattice) (answers : Room → Refusal) (ends : (room : Room) → Ends room ws (before room) (answers room)) (both : (a b : Room) → Alike (before a) (before b)) (numbered : (room : Room) → Holds (OutcomeAmong treeRefusals) (before room)) where
   stops : (room : Room) → Shorter (lengthsOf ws) room → Stops (lengthsOf ws) before (answers room)
   stops room s = go refl (ends room)
     where
       go : {o : Outcome Lattice} {q : Refusal} → before room ≡ o → Ends room ws o q → Stops (lengthsOf ws) before q
       go e (after-layers f ne) = absurd (short-never-fits ws s f)
       go e (without-room ne) = with-21
-      go e (before-layers ne) = earlier ne λ ample a. ample-too (long-fits ws a) ne (both room ample) e (ends ample)
+      go e (before-layers ne) = earlier ne (no-refusal-0 (numbered room) e) λ ample a. ample-too (long-fits ws a) ne (both room ample) e (ends ample)
 
   right : (Call : Type 0) (lent : Call → Lent) (refusal : Call → Refusal) → ((c : Call) → refusal c ≡ answers (roomOf (lent c))) → RightLengths (lengthsOf ws) before Call lent refusal
   right Call lent refusal is =
@@ -118,6 +154,7 @@ module _ (m : Market) (calls : CallSchedule) (slice : ℕ) (ws : List ℕ) (e : 
       right ws _ (λ room. refusalOf (treeValue (withSpread m s) calls room))
       (λ room. rw (← same-before (treeChecks (withSpread m s) calls) s room) (tree-ends (withSpread m s) calls slice room ws (known s)))
       (before-alike (treeChecks (withSpread m s) calls) m calls)
+      (before-number (treeChecks (withSpread m s) calls) m calls (tree-checks-number (withSpread m s) calls))
       _ _ _ λ c. rw (c .handed .handed .number-is, c .handed .handed .place-is)
 
   line-right : (bond : ℕ) (s : Float) → 1 ≤ bond → bond ≤ 999999
@@ -126,6 +163,7 @@ module _ (m : Market) (calls : CallSchedule) (slice : ℕ) (ws : List ℕ) (e : 
       right ws _ (λ room. sheetOf bond (treeValue (withSpread m s) calls room) .refusal)
       (λ room. rw (← same-before (treeChecks (withSpread m s) calls) s room) (line-ends (value-sized (withSpread m s) calls slice room ws (known s)) (shows bond (treeValue (withSpread m s) calls room) f l)))
       (before-alike (treeChecks (withSpread m s) calls) m calls)
+      (before-number (treeChecks (withSpread m s) calls) m calls (tree-checks-number (withSpread m s) calls))
       _ _ _ λ c. rw (c .handed .handed .number-is, c .handed .handed .place-is)
 
   spread-right : (t : Float) → RightLengths (lengthsOf ws) (beforeFit (spreadChecks (withSpread m t) calls) m calls) (SpreadCall m t calls) (λ c. c .lent) (λ c. record { number = c .number; place = c .place })
@@ -133,6 +171,7 @@ module _ (m : Market) (calls : CallSchedule) (slice : ℕ) (ws : List ℕ) (e : 
       right ws _ (λ room. rootRefusal (spreadFromPrice (quoting m t) calls room))
       (λ room. rw (← same-before (spreadChecks (withSpread m t) calls) t room) (spread-ends (quoting m t) calls slice room ws (known t)))
       (before-alike (spreadChecks (withSpread m t) calls) m calls)
+      (before-number (spreadChecks (withSpread m t) calls) m calls (spread-checks-number (withSpread m t) calls))
       _ _ _ λ c. rw (c .handed .handed .number-is, c .handed .handed .place-is)
 
   counts : (s : Float) (c : TreeCall (withSpread m s) calls) → c .number ≡ 0 → c .nodes ≡ total ws
@@ -149,7 +188,27 @@ module _ (m : Market) (calls : CallSchedule) (slice : ℕ) (ws : List ℕ) (e : 
 handed-lengths : {m : Market} {calls : CallSchedule} (s : SizesCall m calls) → lengthsIn s ≡ needed (sizesOf m calls (length (s .lent)))
 handed-lengths s = let p = s .handed .handed in rw (p .nodes-is, p .probabilities-is, p .row-is, p .count-is)
 
+-- What stops in short slices isn't accepted.
+pub stops-not-0 : {l : Lengths} {before : Room → Outcome Lattice} {q : Refusal} → Stops l before q → q .number ≡ 0 → ⊥
+stops-not-0 with-21 z = omega (arith, z)
+stops-not-0 (earlier ne some ample) z = some z
+
 pub sizing-rule : SizingRule
 sizing-rule m calls s z =
     let (ws, e, f) = accepted m calls (length (s .lent)) (sym (s .handed .handed .number-is) ∙ z) in
     subst (Sized m calls) (sym (handed-lengths s ∙ ap needed f)) (sized m calls (length (s .lent)) ws e)
+
+-- ---- any terms in any slices have a call
+
+abbrev pub called : (m : Market) (calls : CallSchedule) (lent : Lent) → TreeCall m calls
+called m calls lent =
+    let v = treeValue m calls (roomOf lent) in
+    record {
+      lent = lent;
+      left = lentAfter m calls lent;
+      number = numberOf v;
+      place = placeOf v;
+      value = valueOf v;
+      nodes = countedBy v;
+      handed = record { handed = record { number-is = refl; place-is = refl; value-is = refl; nodes-is = refl }; slices = refl };
+    }

@@ -1,7 +1,7 @@
 -- What spread from price refuses with has a number of its list, on which 24 and 30 are not. Assumes nothing.
 use Prim.Native.Nat.{ℕ}
 use mathlib.Core.Path.{_≡_, refl, subst}
-use mathlib.Core.List.{_∷_}
+use mathlib.Core.List.{List, _∷_}
 use lib.Dec.{T}
 use lib.Ieee.{Float, binary64, ofBits, ofInt, sub, neg, lt, le}
 use Rattle.floats.specs.declared.Refusal.{Refusal}
@@ -90,7 +90,7 @@ pub spread-numbers : SpreadNumbers
 spread-numbers asked calls room q n e = subst (Settles SpreadAmong) e (spread-number asked calls room)
 
 -- A spread that is found has number 0.
-or-0 : (r : Root) → Settles SpreadAmong r → Among (0 ∷ spreadRefusals) (rootNumber r)
+pub or-0 : {ns : List ℕ} (r : Root) → Settles (Among ns) r → Among (0 ∷ ns) (rootNumber r)
 or-0 (Found x n) h = one-of 0 refl
 or-0 (Refused q n) h = one-more 0 (q .number) h
 

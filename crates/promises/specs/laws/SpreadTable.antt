@@ -20,7 +20,7 @@ use Rattle.terms.specs.CallLists.{MadeFrom, StrikeAbove}
 use Rattle.lattice.specs.Layers.{Room}
 use Rattle.treebasedbondpricer.specs.declared.TreeValue.{TreeValue}
 use Rattle.treebasedbondpricer.specs.declared.TreeValue.the-variants.{Value, Refused}
-use Rattle.treebasedbondpricer.specs.Tree.{treeValue, Lent, roomOf, zeroed, lentAfter, numberOf, placeOf, valueOf, countedBy}
+use Rattle.treebasedbondpricer.specs.Tree.{treeValue, roomOf, zeroed, numberOf, valueOf}
 use Rattle.treebasedbondpricer.specs.CallLists.{Thinned, NoLowerOr27, accepted}
 use Rattle.treebasedbondpricer.specs.laws.CallLists.{call-list-rule}
 use Rattle.treebasedbondpricer.specs.laws.PutLists.{put-list-rule}
@@ -40,7 +40,7 @@ use Rattle.promises.specs.HostCallLists.{TreeCall, TableCall}
 use Rattle.promises.specs.SpreadTable.{rowStart, cellIn, cellTerms, On, NoPage, Paged, EveryPage, Single, EachCell, OtherCells, ShowsValue, CellCallListRule, CellPutListRule, RowSized}
 use Rattle.promises.specs.laws.TreeNumbers.{tree-numbers}
 use Rattle.promises.specs.laws.HostCallLists.{valued}
-use Rattle.promises.specs.laws.Sizing.{sizing-rule}
+use Rattle.promises.specs.laws.Sizing.{sizing-rule, called}
 
 -- ---- the page
 
@@ -313,20 +313,6 @@ cell-put-list-rule m calls first second lowered spreads shifts a b as-long z i j
     stand-alike q p (put-list-rule terms calls (roomOf (a .lent)) first second (p .value) (q .value) (p .count) (q .count) lowered (p .is) (q .is))
 
 -- ---- how large the slices must be
-
--- Any terms in any slices have a call.
-abbrev called : (m : Market) (calls : CallSchedule) (lent : Lent) → TreeCall m calls
-called m calls lent =
-    let v = treeValue m calls (roomOf lent) in
-    record {
-      lent = lent;
-      left = lentAfter m calls lent;
-      number = numberOf v;
-      place = placeOf v;
-      value = valueOf v;
-      nodes = countedBy v;
-      handed = record { handed = record { number-is = refl; place-is = refl; value-is = refl; nodes-is = refl }; slices = refl };
-    }
 
 no-21 : {outside : Bool} {v : TreeValue} {cell : List ℕ} → Told outside v cell → (numberOf v ≡ 21 → ⊥) → cell ≡ hashCell 21 → ⊥
 no-21 with-46 other e = absurd (let n = told-apart 46 21 tt tt e in omega arith)

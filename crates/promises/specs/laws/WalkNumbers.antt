@@ -17,7 +17,7 @@ use Rattle.floats.specs.laws.Cases.{Holds}
 use Rattle.promises.specs.laws.Numbers.{arithmeticRefusals, walkRefusals, AnswerAmong, OutcomeAmong, wider-answer, numbers}
 use Rattle.promises.specs.laws.ElementaryNumbers as elementary
 
-exp-number : (x : Float) (place : ℕ) → Holds (AnswerAmong walkRefusals) (expAt x place)
+pub exp-number : (x : Float) (place : ℕ) → Holds (AnswerAmong walkRefusals) (expAt x place)
 exp-number x place = wider-answer arithmeticRefusals walkRefusals refl (expAt x place) (elementary.exp-number x place)
 
 ln-number : (x : Float) (place : ℕ) → Holds (AnswerAmong walkRefusals) (lnAt x place)
@@ -29,7 +29,7 @@ between-number : (t t0 d0 t1 d1 : Float) (place : ℕ) → Holds (AnswerAmong wa
 unfolding between
 between-number t t0 d0 t1 d1 place = search (exp-number, ln-number, numbers) depth 24
 
-curve-number : (times factors : List Float) (t : Float) (place : ℕ) → Holds (AnswerAmong walkRefusals) (curveOver times factors t place)
+pub curve-number : (times factors : List Float) (t : Float) (place : ℕ) → Holds (AnswerAmong walkRefusals) (curveOver times factors t place)
 unfolding curveOver
 curve-number (t0 ∷ t1 ∷ times) (d0 ∷ d1 ∷ factors) t place =
     let later = curve-number (t1 ∷ times) (d1 ∷ factors) t place in
