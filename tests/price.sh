@@ -194,6 +194,8 @@ case $(ulimit -H -s) in
 unlimited | [1-9][0-9][0-9][0-9][0-9][0-9]*)
     try "the same with stack enough" './price a.txt large.txt b.txt'
     ends 0; times 3 "Spreads tried"; calm
+    try "a tree too wide for the largest room" 'sed "s/^alpha .*/alpha -4/" a.txt | ./price'
+    ends 1; says "Refused          21"; says "The tree finds no room: ask for fewer steps."; calm
     ;;
 *) echo "the hard stack limit is below 100 MB: a tree that needs more than 8 MB was not tried" ;;
 esac
