@@ -34,11 +34,8 @@ fn flows(count: u32, period: u32, coupon: f64) -> Leg {
     leg
 }
 
-pub fn run() {
-    if !published::AVAILABLE {
-        println!("the published source is not beside the repository: the entries are not measured");
-        return;
-    }
+/// Grid and yields beside the published text.
+pub fn yields() {
     println!("entry                                     Gutirapeo    published text   ratio");
     println!("with document 01's functions:");
     measured();
@@ -46,6 +43,14 @@ pub fn run() {
     published::PLATFORM.store(true, std::sync::atomic::Ordering::Relaxed);
     measured();
     published::PLATFORM.store(false, std::sync::atomic::Ordering::Relaxed);
+}
+
+pub fn run() {
+    if !published::AVAILABLE {
+        println!("the published source is not beside the repository: the entries are not measured");
+        return;
+    }
+    yields();
     crate::trees::run();
     crate::sizing::run();
     crate::spreads::run();

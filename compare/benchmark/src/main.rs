@@ -77,6 +77,9 @@ fn main() {
     if words[1..] == ["--books"] {
         return books::run();
     }
+    if words[1..] == ["--yields"] {
+        return entries::yields();
+    }
     if words[1..] == ["--trees"] {
         trees::run();
         return quantlib::run();

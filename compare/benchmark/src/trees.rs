@@ -3,13 +3,13 @@ use crate::entries::timed;
 use host::Lent;
 use reading::book::Book;
 use reading::ordinary;
-use reading::treebasedbondpricer::{Room, Terms};
+use reading::treebasedbondpricer::{least_room, Room, Terms};
 use std::hint::black_box;
 use std::process::{Command, Stdio};
 use std::sync::atomic::Ordering;
 
 /// Steps, and how often a timing calls.
-const SIZES: [(u32, usize); 4] = [(40, 200), (100, 40), (250, 8), (512, 2)];
+const SIZES: [(u32, usize); 7] = [(4, 4000), (10, 2000), (20, 800), (40, 200), (100, 40), (250, 8), (512, 2)];
 
 fn growth(time: f64, before: Option<f64>) -> String {
     before.map_or(String::new(), |before| format!("x {:.1}", time / before))
@@ -36,8 +36,8 @@ fn sizes(name: &str, bond: fn(u32) -> Terms) {
     let mut before: [Option<f64>; 2] = [None; 2];
     for (steps, calls) in SIZES {
         let terms = bond(steps);
-        let mut lent = Lent::new(ordinary::room(steps));
-        let (_, nodes) = host::tree_value(&terms, &mut lent).expect("the ordinary bond is accepted");
+        let mut lent = Lent::new(least_room(&terms, ordinary::room(2 * steps)).expect("the bond has a tree"));
+        let (_, nodes) = host::tree_value(&terms, &mut lent).expect("the bond is accepted");
         let ours = timed(calls, || { let _ = black_box(host::tree_value(black_box(&terms), &mut lent)); });
         let text = || timed((calls / 4).max(1), || { let _ = black_box(published::tree(black_box(&terms))); });
         let theirs = text();
