@@ -1,9 +1,10 @@
 /* Gutirapeo: the C interface of the callable-bond pricer.
  *
  * Each function returns a refusal number, 0 where the call is accepted, and writes the refusal's
- * place to *place and its result to the outputs, which are 0 on a refusal (but a closing sheet's line, on
- * which a refusal other than 31 is printed). Pointers must not be null, must not overlap, and must be
- * writable. No function keeps a pointer, allocates or traps.
+ * place to *place and its result to the outputs, which are 0 on a refusal (but the count of what a search
+ * tried, the bond that a book names, and a closing sheet's line, on which a refusal other than 31 is
+ * printed). No pointer may be null, that of an array of length 0 included. Lent slices and outputs must be
+ * writable and overlap nothing else. No function keeps a pointer, allocates or traps.
  *
  * Link with the archive that `rt staticlib host` writes: target/staticlib/libhost.a
  */
@@ -285,6 +286,7 @@ uint32_t gutirapeo_spread_from_price(uint32_t settlement, uint32_t day_count,
  *
  * With slices of these lengths, or longer ones, the tree value never answers 21, and neither do a closing line and spread from
  * price, whatever the spread or the target. With any one of them shorter they do, unless checks, grid, variances or layers refuse for another cause.
+ * A book wants, slice by slice, the most that any of its bonds wants; a table the most that any of its shifted sigmas wants.
  * The count is the one that the tree value reports.
  *
  * Everything is taken as for the tree value, and checked as it checks it. No call or put is priced and the curve isn't read, so 20, 25
