@@ -287,6 +287,7 @@ uint32_t gutirapeo_spread_from_price(uint32_t settlement, uint32_t day_count,
  * With slices of these lengths, or longer ones, the tree value never answers 21, and neither do a closing line and spread from
  * price, whatever the spread or the target. With any one of them shorter they do, unless checks, grid, variances or layers refuse for another cause.
  * A book wants, slice by slice, the most that any of its bonds wants; a table the most that any of its shifted sigmas wants.
+ * All that is lent is zeroed on every call, so longer slices only cost time.
  * The count is the one that the tree value reports.
  *
  * Everything is taken as for the tree value, and checked as it checks it. No call or put is priced and the curve isn't read, so 20, 25
