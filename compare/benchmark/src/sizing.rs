@@ -6,7 +6,7 @@ use reading::treebasedbondpricer::{Room, Terms};
 use std::hint::black_box;
 
 /// Steps, and how often a timing calls.
-const SIZES: [(u32, usize); 4] = [(40, 400), (100, 80), (250, 16), (512, 4)];
+const SIZES: [(u32, usize); 7] = [(4, 4000), (10, 2000), (20, 800), (40, 400), (100, 80), (250, 16), (512, 4)];
 
 fn line(name: &str, terms: &Terms, places: usize, calls: usize) {
     let mut slice = Lent::new(Room { nodes: places, probabilities: 0, first: 0, second: 0 });

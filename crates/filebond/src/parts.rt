@@ -2,29 +2,29 @@
 ghost use mathlib.Core.Path.{_≡_};
 ghost use lib.ListN.{take};
 
-pub fn days_of(xs: &[u32], n: usize) -> &[u32]
-    ensures { λ r. ⌜ now r ≡ take n (now (xs .entry)) ⌝ }
+pub fn days_of(days: &[u32], n: usize) -> &[u32]
+    ensures { λ r. ⌜ now r ≡ take n (now (days .entry)) ⌝ }
 {
-    if n > xs.len() {
-        return xs;
+    if n > days.len() {
+        return days;
     }
-    &xs[..n]
+    &days[..n]
 }
 
-pub fn bytes_of(xs: &[u8], n: usize) -> &[u8]
-    ensures { λ r. ⌜ now r ≡ take n (now (xs .entry)) ⌝ }
+pub fn bytes_of(bytes: &[u8], n: usize) -> &[u8]
+    ensures { λ r. ⌜ now r ≡ take n (now (bytes .entry)) ⌝ }
 {
-    if n > xs.len() {
-        return xs;
+    if n > bytes.len() {
+        return bytes;
     }
-    &xs[..n]
+    &bytes[..n]
 }
 
-pub fn numbers_of(xs: &[f64], n: usize) -> &[f64]
-    ensures { λ r. ⌜ now r ≡ take n (now (xs .entry)) ⌝ }
+pub fn numbers_of(numbers: &[f64], n: usize) -> &[f64]
+    ensures { λ r. ⌜ now r ≡ take n (now (numbers .entry)) ⌝ }
 {
-    if n > xs.len() {
-        return xs;
+    if n > numbers.len() {
+        return numbers;
     }
-    &xs[..n]
+    &numbers[..n]
 }

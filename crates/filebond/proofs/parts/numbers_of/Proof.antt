@@ -10,7 +10,7 @@ use Rattle.filebond.proofs.parts.numbers_of.Statement.{statement}
 use Rattle.filebond.proofs.parts.numbers_of.Tie as tie
 
 returns : tie.Need-returns
-returns c = let h : length (c .before .args .xs .now) ≤ c .before .args .n = omega (arith, c .if1 .taken) in whole _ _ h
+returns c = let h : length (c .before .args .numbers .now) ≤ c .before .args .n = omega (arith, c .if1 .taken) in whole _ _ h
 
 slice-aggregate-result : tie.Need-slice-aggregate-result
 slice-aggregate-result c = sym (length-take-le _ _ (omega (arith, c .before .if1 .left)))
