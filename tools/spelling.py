@@ -91,8 +91,22 @@ def joined(word, known):
     return "_".join(parts)
 
 
+def cited():
+    """The words of Rattle's own library that files bring in, which keep their spelling."""
+    own = {path.split("/")[1] for path in glob.glob("crates/*")}
+    found = set()
+    for path in antts() + rts():
+        for module, names in re.findall(r"^(?:pub |ghost )*use ([^\s{]+?)\.\{([^}]*)\}", read(path), re.M):
+            parts = module.split(".")
+            if parts[0] != "Rattle" or parts[1] not in own:
+                found |= {it.strip().split(" as ")[0] for it in names.split(",")}
+    return found
+
+
 def table():
     words, goals = declared()
+    kept = cited()
+    words -= kept
     renamed = {}
     taken = collections.Counter()
     every = set()
@@ -104,7 +118,7 @@ def table():
     camel = sorted(w for w in words if w[:1].islower() and "-" not in w and re.search(r"[a-z0-9'][A-Z]", w))
     for word in camel:
         renamed[word] = TYPES.get(word, snake(word))
-    known = {snake(w) for w in words if "-" not in w} | functions
+    known = {snake(w) for w in words | kept if "-" not in w} | functions
     known = {w for w in known if len(w) > 1 and w not in SMALL and not re.search(r"\d$", w)}
     fresh = set(renamed.values())
     for word in sorted(w for w in words if "-" in w.strip("-") and not w.startswith(("+", "-", "Need", "◌")) and "◌" not in w):

@@ -1,6 +1,6 @@
 -- A float made whole, cast to an unsigned number and clamped, by what the float is compared with: for rounding and for ceiling alike. Assumes nothing.
 use Prim.Native.Nat.{ℕ, ◌-◌, ◌*◌, ◌/◌, ◌^◌, ◌≤◌, ◌<◌, min, max, zero-le}
-use native.Mathlib.Nat.{le_trans, le_of_eq, lt_of_le_of_lt, min-le_left, min-le_right, le_min, min-eq_left, min-eq_right, max-eq_left, max-eq_right, le-div_iff_mul-le, div-mul-le_self, le_of_mul_le_mul_right, mul-le-mul_right, mul_right_comm, zero-div}
+use native.Mathlib.Nat.{le_trans, le_of_eq, lt_of_le_of_lt, min-le_left, min-le_right, le-min, min-eq_left, min-eq_right, max-eq_left, max-eq_right, le-div_iff_mul-le, div-mul-le_self, le_of_mul-le-mul_right, mul-le-mul_right, mul_right_comm, zero-div}
 use native.Mathlib.Omega.{arith}
 use mathlib.Core.Path.{◌≡◌, refl, sym, ap, subst, ◌∙◌}
 use mathlib.Core.Bool.{Bool, true, false}
@@ -30,11 +30,11 @@ use Rattle.bondevents.specs.Steps.{clamp}
 cut-mono : (a b c d : ℕ) → 0 < b → 0 < d → a * d ≤ c * b → a / b ≤ c / d
 cut-mono a b c d B D h =
     (le-div_iff_mul-le D).1
-    (le_of_mul_le_mul_right
+    (le_of_mul-le-mul_right
     (le_trans (le_of_eq (mul_right_comm (a / b) d b)) (le_trans (mul-le-mul_right d (div-mul-le_self a b)) h)) B)
 
 capped : (w x y : ℕ) → x ≤ y → min x (2 ^ w - 1) ≤ min y (2 ^ w - 1)
-capped w x y h = le_min (le_trans (min-le_left x (2 ^ w - 1)) h) (min-le_right x (2 ^ w - 1))
+capped w x y h = le-min (le_trans (min-le_left x (2 ^ w - 1)) h) (min-le_right x (2 ^ w - 1))
 
 pub unsigned-mono : (w : ℕ) (x y : Float) → T (le x y) → to_unsigned w x ≤ to_unsigned w y
 unfolding to_unsigned le lt

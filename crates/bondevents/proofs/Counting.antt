@@ -7,7 +7,7 @@ use mathlib.Core.Path.{◌≡◌, refl, sym, ap, ◌∙◌}
 use mathlib.Core.Bool.{Bool, cond, ◌&&◌}
 use mathlib.Core.List.{List, [], ◌∷◌}
 use lib.ListN.{length, get_or, drop, drop_of_length-le}
-use lib.Seq.{drop_cons}
+use lib.Seq.{drop-cons}
 use lib.Dec.{eqb, ltb}
 use lib.Ieee.{Float, nan, binary64, add}
 use Rattle.floats.specs.Answers.{plus_zero}
@@ -60,7 +60,7 @@ module _ (after : ℕ → Bool) (days kinds : List ℕ) (amounts : List Float) w
       one =
           let hd : i < length days = omega (arith, s.days_too) in
           let ha : i < length amounts = omega (arith, s.amounts_too) in
-          rw (drop_cons days i 0 hd, drop_cons kinds i 0 h, drop_cons amounts i d ha) (unfold redemptions in refl)
+          rw (drop-cons days i 0 hd, drop-cons kinds i 0 h, drop-cons amounts i d ha) (unfold redemptions in refl)
 
   pub done : (total : Float) (i : ℕ) → Counting after days kinds amounts total i → length kinds ≤ i → total ≡ redemptions after days kinds amounts plus_zero
   done total i s h = sym (rw (drop_of_length-le kinds h) (none_left after (drop i days) (drop i amounts) total)) ∙ s.rest

@@ -6,7 +6,7 @@ use borrow.Author.Rules.{rules}
 use mathlib.Core.Path.{◌≡◌, refl, sym, ap, ◌∙◌}
 use mathlib.Core.List.{List}
 use lib.ListN.{length, get_or, drop, drop_of_length-le}
-use lib.Seq.{drop_cons}
+use lib.Seq.{drop-cons}
 use lib.Ieee.{Float, nan}
 use Rattle.floats.specs.declared.Refusal.{Refusal}
 use Rattle.terms.specs.declared.Check.TheVariants.{Passed, Refused}
@@ -40,7 +40,7 @@ module _ (side : Side) (a : Axis) (bond : Bond) (starts ends : List ℕ) (strike
     one_of =
         let he : i < length ends = omega (arith, s.ends_too) in
         let hk : i < length strikes = omega (arith, s.strikes_too) in
-        rw (drop_cons starts i 0 h, drop_cons ends i 0 he, drop_cons strikes i nan hk) (unfold over_entries in refl)
+        rw (drop-cons starts i 0 h, drop-cons ends i 0 he, drop-cons strikes i nan hk) (unfold over_entries in refl)
 
     module _ {r : SideAnswer} (e : r ≡ side_answer entered) where
       pub next : r.check ≡ Passed → Entering side a bond starts ends strikes first r.steps (i + 1)

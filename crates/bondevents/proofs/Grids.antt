@@ -1,6 +1,6 @@
 -- The event grid from its parts: T, the steps, the calls and the cashflows that the code has worked out. Assumes nothing.
 use Prim.Native.Nat.{ℕ, ◌≤◌}
-use native.Mathlib.Nat.{le_trans, le-max_left, max_le, min-le_left}
+use native.Mathlib.Nat.{le_trans, le-max_left, max-le, min-le_left}
 use mathlib.Core.Path.{◌≡◌, refl, sym, ap, ◌∙◌}
 use mathlib.Core.List.{List}
 use lib.ListN.{replicate}
@@ -36,7 +36,7 @@ steps-some T g = le-max_left 1 _
 
 pub steps-few : (T : Float) (g : TimeGrid) → 1 ≤ g.maximum → steps_of T g ≤ g.maximum
 unfolding steps_of
-steps-few T g h = max_le h (min-le_left g.maximum _)
+steps-few T g h = max-le h (min-le_left g.maximum _)
 
 pub bounded : {n : ℕ} (T : Float) (g : TimeGrid) → n ≡ steps_of T g → 1 ≤ g.maximum → g.maximum ≤ 512 → (1 ≤ n) × (n ≤ 512)
 bounded T g e some few = rw e (steps-some T g, le_trans (steps-few T g some) few)

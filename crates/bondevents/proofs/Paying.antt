@@ -8,7 +8,7 @@ use mathlib.Core.Path.{◌≡◌, refl, sym, ap, ◌∙◌}
 use mathlib.Core.Bool.{cond}
 use mathlib.Core.List.{List}
 use lib.ListN.{length, get_or, drop, set, replicate, length-set, length-replicate, drop_of_length-le}
-use lib.Seq.{drop_cons}
+use lib.Seq.{drop-cons}
 use lib.Dec.{ltb}
 use lib.Ieee.{Float, nan, binary64, add}
 use Rattle.floats.specs.Answers.{plus_zero}
@@ -42,7 +42,7 @@ module _ (a : Axis) (days : List ℕ) (amounts : List Float) where
       one : paid_into a (drop i days) (drop i amounts) row ≡ paid_into a (drop (suc i) days) (drop (suc i) amounts) (paid a (get_or days i 0) (get_or amounts i plus_zero) row)
       one =
           let ha : i < length amounts = omega (arith, s.amounts_too) in
-          rw (drop_cons days i 0 h, drop_cons amounts i plus_zero ha) (unfold paid_into in refl)
+          rw (drop-cons days i 0 h, drop-cons amounts i plus_zero ha) (unfold paid_into in refl)
 
   -- A cashflow that is paid, into its step.
   pub turn-paid :

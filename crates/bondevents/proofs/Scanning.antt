@@ -7,7 +7,7 @@ use mathlib.Core.Path.{◌≡◌, refl, sym, ap, ◌∙◌}
 use mathlib.Core.Bool.{Bool, true, false, cond}
 use mathlib.Core.List.{List, [], ◌∷◌, ◌++◌, append_assoc}
 use lib.ListN.{length, get_or, take, drop, set, length-set, take-append-drop}
-use lib.Seq.{drop_cons, take-suc-set, drop-set-lt, set-get_or}
+use lib.Seq.{drop-cons, take-suc-set, drop-set-lt, set-get_or}
 use lib.Ieee.{Float}
 use Rattle.floats.specs.declared.Refusal.{Refusal}
 use Rattle.floats.specs.declared.Answer.{Answer}
@@ -44,7 +44,7 @@ module _ (side : Side) (E : ℕ → Bool) (P : ℕ → Answer) (steps : ℕ) (fe
     one_of =
         let e : steps - i ≡ suc (steps - suc i) = omega arith in
         let l : i < length kept = omega (arith, s.size) in
-        rw (e, drop_cons kept i d l) (unfold over_prices in refl)
+        rw (e, drop-cons kept i d l) (unfold over_prices in refl)
 
     pub turn : (c : Exercise) → stepped side E P i (get_or kept i d) ≡ given c → Scanning side E P steps row (set kept i c) (i + 1)
     unfolding on_outcome

@@ -5,7 +5,7 @@ use native.Mathlib.Numerals.{add-one}
 use mathlib.Core.Path.{◌≡◌, refl, sym, ap, subst, ◌∙◌}
 use mathlib.Core.List.{List, [], ◌∷◌, ◌++◌, map, append_assoc, map-append}
 use lib.ListN.{length, get_or, take, drop, set, length-drop, length-set, length-map}
-use lib.Seq.{take-suc, drop_cons, drop_drop, get_or-drop, set_at, length-take-le}
+use lib.Seq.{take-suc, drop-cons, drop-drop, get_or-drop, set_at, length-take-le}
 use mir.Syntax.{w64}
 use mir.Val.{Fits}
 use borrow.Author.Rules.{rules}
@@ -35,7 +35,7 @@ module _ {X : Type 0} (es : List X) (n : ℕ) (x : X) (rest : List X) (e : drop 
   take_more = take-suc es n x inside ∙ ap (λ (y : X). take n es ++ (y ∷ [])) there
 
   drop_more : drop (n + 1) es ≡ rest
-  drop_more = sym (drop_drop 1 n es) ∙ ap (drop 1) e
+  drop_more = sym (drop-drop 1 n es) ∙ ap (drop 1) e
 
 -- ---- what an entry that was looked for is
 
@@ -104,7 +104,7 @@ module _ {A : Type 0} (part : Numbered → A) (text : List ℕ) (kind : ℕ) (be
 
         stored : set after n v ≡ map part (take (suc n) es) ++ drop (suc n) before
         stored =
-            ap (λ (z : List A). set z n v) (s.content ∙ ap (λ (z : List A). first ++ z) (drop_cons before n v (omega (arith, s.long))))
+            ap (λ (z : List A). set z n v) (s.content ∙ ap (λ (z : List A). first ++ z) (drop-cons before n v (omega (arith, s.long))))
             ∙ set_at first (get_or before n v) (drop (suc n) before) v n sized
             ∙ ap (λ (z : A). first ++ z ∷ drop (suc n) before) u
             ∙ sym (ap (λ (z : List A). z ++ drop (suc n) before) (ap (map part) (take_more es n this others here) ∙ map-append part (take n es) (this ∷ [])) ∙ append_assoc first (part this ∷ []) (drop (suc n) before))

@@ -7,7 +7,7 @@ use mathlib.Core.Path.{◌≡◌, refl, sym, ap, ◌∙◌}
 use mathlib.Core.Bool.{Bool, true, false, cond, ◌&&◌}
 use mathlib.Core.List.{List, [], ◌∷◌}
 use lib.ListN.{length, get_or, take, drop, length-take, drop_of_length-le}
-use lib.Seq.{drop_cons}
+use lib.Seq.{drop-cons}
 use lib.Dec.{eqb, ltb, leb, lit<}
 use mir.Syntax.{w32, w64}
 use mir.Val.{Fits}
@@ -44,7 +44,7 @@ module _ (word : List ℕ) where
       omega arith
 
   one : (v i : ℕ) → i < length word → whole_from i v (drop i word) ≡ cond (ltb i 9 && is_digit (get_or word i 0)) (whole_from (suc i) (v * 10 + (get_or word i 0 - 48)) (drop (suc i) word)) (NotWhole i)
-  one v i h = rw (drop_cons word i 0 h) (unfold whole_from in refl)
+  one v i h = rw (drop-cons word i 0 h) (unfold whole_from in refl)
 
   picked : (v i : ℕ) (z : Bool) → i < length word → (ltb i 9 && is_digit (get_or word i 0)) ≡ z → whole_from i v (drop i word) ≡ cond z (whole_from (suc i) (v * 10 + (get_or word i 0 - 48)) (drop (suc i) word)) (NotWhole i)
   picked v i z h e = one v i h ∙ ap (λ (t : Bool). cond t (whole_from (suc i) (v * 10 + (get_or word i 0 - 48)) (drop (suc i) word)) (NotWhole i)) e
@@ -67,13 +67,13 @@ module _ (word : List ℕ) where
   pub reading-end : (v i : ℕ) → Reading word v i → length word ≤ i → Whole v ≡ whole_from 0 0 word
   reading-end v i s h = sym (rw (drop_of_length-le word h) (unfold whole_from in refl)) ∙ s.rest
 
-  pub reading_mul : (v i : ℕ) → Reading word v i → i < 9 → Fits w32 (v * 10)
-  reading_mul v i s h = omega (arith, reading_small v i s h)
+  pub reading-mul : (v i : ℕ) → Reading word v i → i < 9 → Fits w32 (v * 10)
+  reading-mul v i s h = omega (arith, reading_small v i s h)
 
-  pub reading_add : (v i : ℕ) {f : Bool} {d : ℕ} → Reading word v i → i < 9 → f ≡ is_digit (get_or word i 0) → f ≡ true → d ≡ get_or word i 0 - 48 → Fits w32 (v * 10 + d)
-  reading_add v i s h e t q = omega (arith, reading_small v i s h, digit-most (get_or word i 0) e t)
+  pub reading-add : (v i : ℕ) {f : Bool} {d : ℕ} → Reading word v i → i < 9 → f ≡ is_digit (get_or word i 0) → f ≡ true → d ≡ get_or word i 0 - 48 → Fits w32 (v * 10 + d)
+  reading-add v i s h e t q = omega (arith, reading_small v i s h, digit-most (get_or word i 0) e t)
 
-pub ruleset reading = (reading_mul, reading_add, reading-begin, reading-turn, no_digit, tenth-digit, reading-end, digit-least, taken_eq, left_eq, rules)
+pub ruleset reading = (reading-mul, reading-add, reading-begin, reading-turn, no_digit, tenth-digit, reading-end, digit-least, taken_eq, left_eq, rules)
 
 -- ---- a date's parts
 
@@ -99,14 +99,14 @@ bad_within word = pick (eqb (length word) 0) (bad_from word 0 0)
     pick true h = zero-le
     pick false h = omega arith
 
-pub part_add : (word : List ℕ) (a e k : ℕ) {s : ReadWhole} {at : ℕ} → s ≡ whole_of (between a e word) → s ≡ NotWhole at → e + k < 2 ^ 64 → Fits w64 (at + k)
-part_add word a e k {s} {at} p q h =
+pub part-add : (word : List ℕ) (a e k : ℕ) {s : ReadWhole} {at : ℕ} → s ≡ whole_of (between a e word) → s ≡ NotWhole at → e + k < 2 ^ 64 → Fits w64 (at + k)
+part-add word a e k {s} {at} p q h =
     let w : bad_at (whole_of (between a e word)) ≤ length (between a e word) = bad_within (between a e word) in
     let n : at ≡ bad_at (whole_of (between a e word)) = ap bad_at (sym q ∙ p) in
     omega (arith, length-take (e - a) (drop a word))
 
-pub date_length : (word : List ℕ) {f : Bool} → f ≡ date_shaped word → f ≡ true → length word ≡ 10
+pub date-length : (word : List ℕ) {f : Bool} → f ≡ date_shaped word → f ≡ true → length word ≡ 10
 unfolding date_shaped
-date_length word e t = eqb-true (length word) 10 (and_true_first (eqb (length word) 10) (eqb (get_or word 4 0) 45 && eqb (get_or word 7 0) 45) (sym e ∙ t))
+date-length word e t = eqb-true (length word) 10 (and_true_first (eqb (length word) 10) (eqb (get_or word 4 0) 45 && eqb (get_or word 7 0) 45) (sym e ∙ t))
 
-pub ruleset dating = (part_add, date_length, binding)
+pub ruleset dating = (part-add, date-length, binding)

@@ -7,7 +7,7 @@ use mathlib.Core.Path.{◌≡◌, refl, sym, ap, ◌∙◌}
 use mathlib.Core.Bool.{Bool, true, false, cond}
 use mathlib.Core.List.{List}
 use lib.ListN.{length, get_or, drop, drop_of_length-le}
-use lib.Seq.{drop_cons}
+use lib.Seq.{drop-cons}
 use borrow.Author.Rules.{rules}
 use borrow.Author.Tests.{eq-eqb, ne_eqb}
 use Rattle.bondline.specs.Bytes.{leading, run_end}
@@ -22,7 +22,7 @@ module _ (p : ℕ → Bool) (bs : List ℕ) where
   begin i = record { whole = refl }
 
   next : (i : ℕ) → i < length bs → leading p (drop i bs) ≡ cond (p (get_or bs i 0)) (suc (leading p (drop (suc i) bs))) 0
-  next i h = rw (drop_cons bs i 0 h) (unfold leading in refl)
+  next i h = rw (drop-cons bs i 0 h) (unfold leading in refl)
 
   pub turn : (first i : ℕ) → Running p bs first i → i < length bs → p (get_or bs i 0) ≡ true → Running p bs first (i + 1)
   turn first i s h t = record { whole = rw add-one (more ∙ s.whole) }

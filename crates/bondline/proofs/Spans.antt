@@ -7,7 +7,7 @@ use mathlib.Core.Path.{◌≡◌, refl, sym, ap, ◌∙◌}
 use mathlib.Core.Bool.{Bool, true, false, cond, ◌&&◌}
 use mathlib.Core.List.{List}
 use lib.ListN.{length, get_or, drop, drop_of_length-le}
-use lib.Seq.{drop_cons}
+use lib.Seq.{drop-cons}
 use lib.Dec.{eqb}
 use mir.Syntax.{w64}
 use mir.Val.{Fits}
@@ -17,7 +17,7 @@ use Rattle.bondline.specs.declared.Span.{Span}
 use Rattle.bondline.specs.Bytes.{same, is_space, is_other, run_end}
 use Rattle.bondline.specs.Words.{word_from, span_of, word_at, column_of, seek, place_in}
 use Rattle.bondline.specs.Values.{column_in}
-use Rattle.bondline.specs.laws.Words.{differ, end-within, start_first, word_length}
+use Rattle.bondline.specs.laws.Words.{differ, end-within, start_first, word-length}
 
 -- ---- from word to word
 
@@ -63,7 +63,7 @@ module _ (a b : List ℕ) where
   next : (i : ℕ) → i < length a → length a ≡ length b → same (drop i a) (drop i b) ≡ (eqb (get_or a i 0) (get_or b i 0) && same (drop (suc i) a) (drop (suc i) b))
   next i h e =
       let k : i < length b = omega arith in
-      rw (drop_cons a i 0 h, drop_cons b i 0 k) (unfold same in refl)
+      rw (drop-cons a i 0 h, drop-cons b i 0 k) (unfold same in refl)
 
   pub comparing-turn : (i : ℕ) → Comparing a b i → i < length a → get_or a i 0 ≡ get_or b i 0 → Comparing a b (i + 1)
   comparing-turn i s h e = record { even = s.even; rest = rw add-one (sym (next i h s.even ∙ ap (λ (z : Bool). z && same (drop (suc i) a) (drop (suc i) b)) (eq-eqb _ _ e)) ∙ s.rest) }
@@ -116,6 +116,6 @@ module _ (line : List ℕ) (n at : ℕ) {k m : ℕ} {w : List ℕ} (c : k ≡ co
   column-placed = cc (ap length e)
 
   pub column-room : length line * 1 < 2 ^ 63 → Fits w64 (k + m)
-  column-room h = omega (arith, start_first line n, end-within line n, word_length line n, ap length e)
+  column-room h = omega (arith, start_first line n, end-within line n, word-length line n, ap length e)
 
 pub ruleset placing = (column-placed, column-room, rules)

@@ -8,7 +8,7 @@ use native.Mathlib.Numerals.{add-one}
 use borrow.Author.Tests.{lt-ltb, le-ltb}
 use lib.Dec.{ltb}
 use lib.ListN.{length, get_or, drop, drop_of_length-le}
-use lib.Seq.{drop_cons}
+use lib.Seq.{drop-cons}
 use lib.Ieee.{Float, nan, binary64, add, mul, div, neg, le}
 use Rattle.floats.specs.declared.Refusal.{Refusal}
 use Rattle.floats.specs.declared.Answer.{Answer}
@@ -69,7 +69,7 @@ module _ (curve : Float → ℕ → Answer) (settlement : Epoch) (spread referen
       unfolding flows
       turn h =
           let a : i < length amounts = omega arith in
-          rw (add-one i, drop_cons days i 0 h, drop_cons amounts i nan a)
+          rw (add-one i, drop-cons days i 0 h, drop-cons amounts i nan a)
 
       -- The same where the flow's own outcome is known.
       follows : {s : Answer}

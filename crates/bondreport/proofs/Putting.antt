@@ -5,7 +5,7 @@ use native.Mathlib.Omega.{arith}
 use mathlib.Core.Path.{◌≡◌, refl, sym, ap, ◌∙◌}
 use mathlib.Core.List.{List, [], ◌∷◌}
 use lib.ListN.{length, get_or, set, drop, length-set, drop_of_length-le}
-use lib.Seq.{drop_cons, set_out}
+use lib.Seq.{drop-cons, set_out}
 use Rattle.floats.proofs.Laws.{taken_eq, left_eq}
 use Rattle.bondreport.specs.Columns.{put_at, used_of}
 
@@ -32,7 +32,7 @@ module _ (line : List ℕ) (at : ℕ) (text : List ℕ) where
     put-turn h =
         record {
           size = length-set filled column (get_or text i 0) ∙ p.size;
-          left = rw (add-one column, add-one i) (ap (λ (l : List ℕ). put_at filled column l) (sym (drop_cons text i 0 h)) ∙ p.left);
+          left = rw (add-one column, add-one i) (ap (λ (l : List ℕ). put_at filled column l) (sym (drop-cons text i 0 h)) ∙ p.left);
         }
 
     pub put_full : 80 ≤ column → filled ≡ put_at line at text

@@ -48,7 +48,7 @@ pub record Starred : Type 0 where
   pub above_half : shows 0x3f74_7ae1_47ae_147b ≡ cell "            0.01"
   -- -0.004, -0 and the smallest double below zero.
   pub no_sign : shows 0xbf70_624d_d2f1_a9fc ≡ cell "            0.00"
-  pub minus_zero : shows 0x8000_0000_0000_0000 ≡ cell "            0.00"
+  pub minus-zero : shows 0x8000_0000_0000_0000 ≡ cell "            0.00"
   pub least : shows 0x8000_0000_0000_0001 ≡ cell "            0.00"
   -- 999,999,999,999.99, one cent more, and what is no number.
   pub last : shows 0x426d_1a94_a1ff_ffae ≡ cell " 999999999999.99"
@@ -82,7 +82,7 @@ starred =
       no_half = refl;
       above_half = refl;
       no_sign = refl;
-      minus_zero = refl;
+      minus-zero = refl;
       least = refl;
       last = refl;
       last_below = refl;

@@ -34,8 +34,8 @@ pub record Starred : Type 0 where
   pub tenth : reads "0.1" ≡ bits 0x3fb9_9999_9999_999a
   pub strike : reads "101.5" ≡ bits 0x4059_6000_0000_0000
   pub whole : reads "45000" ≡ bits 0x40e5_f900_0000_0000
-  pub below_zero : reads "-0.0025" ≡ bits 0xbf64_7ae1_47ae_147b
-  pub minus_zero : reads "-0" ≡ bits 0x8000_0000_0000_0000
+  pub below-zero : reads "-0.0025" ≡ bits 0xbf64_7ae1_47ae_147b
+  pub minus-zero : reads "-0" ≡ bits 0x8000_0000_0000_0000
   -- Seventeen digits, and halfway between two doubles.
   pub longest : reads "99999999999999999" ≡ bits 0x4376_3457_85d8_a000
   pub next_to_0·3 : reads "0.30000000000000004" ≡ bits 0x3fd3_3333_3333_3334
@@ -75,7 +75,7 @@ pub record Starred : Type 0 where
   pub tiny : shows 6 0xbe9a_d7f2_9abc_af48 ≡ parts true 0 0
   pub one : shows 6 0x3ff0_0000_0000_0000 ≡ parts false 1 0
   -- -0, the last numbers that are shown, and those that are not.
-  pub shown_zero : shows 2 0x8000_0000_0000_0000 ≡ parts true 0 0
+  pub shown-zero : shows 2 0x8000_0000_0000_0000 ≡ parts true 0 0
   pub last_shown : shows 4 0x42ff_ffff_ffff_ffff ≡ parts false 562949953421311 9375
   pub last_of-six : shows 6 0x427f_ffff_ffff_ffff ≡ parts false 2199023255551 999756
   pub too_large : shows 2 0xc300_0000_0000_0000 ≡ Beyond
@@ -92,8 +92,8 @@ starred =
       tenth = refl;
       strike = refl;
       whole = refl;
-      below_zero = refl;
-      minus_zero = refl;
+      below-zero = refl;
+      minus-zero = refl;
       longest = refl;
       next_to_0·3 = refl;
       halfway = refl;
@@ -124,7 +124,7 @@ starred =
       past-half = refl;
       tiny = refl;
       one = refl;
-      shown_zero = refl;
+      shown-zero = refl;
       last_shown = refl;
       last_of-six = refl;
       too_large = refl;

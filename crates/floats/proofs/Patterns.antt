@@ -26,13 +26,13 @@ shifted q k d l e = ap (λ (z : ℕ). q * z) (ap (λ (z : ℕ). 2 ^ z) (sym e) �
 
 -- ---- what the fields are read as
 
-field_zero : (f : Format) (s : Bool) (t : ℕ) → HasValue (of_fields f s 0 t) s t (2 ^ low f)
+field-zero : (f : Format) (s : Bool) (t : ℕ) → HasValue (of_fields f s 0 t) s t (2 ^ low f)
 unfolding of_fields
-field_zero f s t = subst (λ (a : ℕ). HasValue (odd (prec f) s t 0 (low f)) s a (2 ^ low f)) (mul-one t) (odd_sign (prec f) s t 0 (low f))
+field-zero f s t = subst (λ (a : ℕ). HasValue (odd (prec f) s t 0 (low f)) s a (2 ^ low f)) (mul-one t) (odd_sign (prec f) s t 0 (low f))
 
-field_suc : (f : Format) (s : Bool) (k t : ℕ) → T (finite (of_fields f s (suc k) t)) → HasValue (of_fields f s (suc k) t) s ((hid f + t) * 2 ^ k) (2 ^ low f)
+field-suc : (f : Format) (s : Bool) (k t : ℕ) → T (finite (of_fields f s (suc k) t)) → HasValue (of_fields f s (suc k) t) s ((hid f + t) * 2 ^ k) (2 ^ low f)
 unfolding of_fields
-field_suc f s k t h = go (eqb (suc k) (ones f)) (eqb t 0) h
+field-suc f s k t h = go (eqb (suc k) (ones f)) (eqb t 0) h
   where
     go : (b c : Bool) → T (finite (cond b (cond c (inf s) nan) (odd (prec f) s (hid f + t) k (low f)))) → HasValue (cond b (cond c (inf s) nan) (odd (prec f) s (hid f + t) k (low f))) s ((hid f + t) * 2 ^ k) (2 ^ low f)
     go true true q = absurd q
@@ -52,10 +52,10 @@ nonzero : (k t : ℕ) → suc k + t ≡ 0 → ⊥
 nonzero k t g = omega arith
 
 low_of : (s : Bool) (x t j : ℕ) → T (finite (of_fields binary64 s x t)) → t < 2 ^ 52 → x ≤ j → Low (of_fields binary64 s x t) s x t j
-low_of s zero t j h b l = record { size = t; value = field_zero binary64 s t; small = lt_of_lt_of_le b (pow_mono {i = 52} (omega arith)); some = λ g. omega arith; none = λ g. omega arith }
+low_of s zero t j h b l = record { size = t; value = field-zero binary64 s t; small = lt_of_lt_of_le b (pow_mono {i = 52} (omega arith)); some = λ g. omega arith; none = λ g. omega arith }
 low_of s (suc k) t j h b l = record {
   size = (2 ^ 52 + t) * 2 ^ k;
-  value = field_suc binary64 s k t h;
+  value = field-suc binary64 s k t h;
   small = lt_of_lt_of_le (mul-lt-mul_of_pos_right {n = 2 ^ 53} (omega arith) (pow_pos k)) (le_trans (le_of_eq (sym (pow-add 2 53 k))) (pow_mono {i = 53 + k} (omega arith)));
   some = λ g. mul-pos (omega arith) (pow_pos k);
   none = λ g. absurd (nonzero k t g);
@@ -76,16 +76,16 @@ module _ (x : Float) (p : T (fits binary64 x)) (q : T (finite x)) where
   unfolding of_bits
   read = of_bits-to_bits binary64 x p
 
-  fin_read : T (finite (of_fields binary64 (sign_of x) (field_of x) (digits_of x)))
-  fin_read = subst (λ (y : Float). T (finite y)) (sym read) q
+  fin-read : T (finite (of_fields binary64 (sign_of x) (field_of x) (digits_of x)))
+  fin-read = subst (λ (y : Float). T (finite y)) (sym read) q
 
   pub low_value : (j : ℕ) → field_of x ≤ j → Low x (sign_of x) (field_of x) (digits_of x) j
-  low_value j l = subst (λ (y : Float). Low y (sign_of x) (field_of x) (digits_of x) j) read (low_of (sign_of x) (field_of x) (digits_of x) j fin_read (omega arith) l)
+  low_value j l = subst (λ (y : Float). Low y (sign_of x) (field_of x) (digits_of x) j) read (low_of (sign_of x) (field_of x) (digits_of x) j fin-read (omega arith) l)
 
   normal-value : (k : ℕ) → field_of x ≡ suc k → HasValue x (sign_of x) ((2 ^ 52 + digits_of x) * 2 ^ k) (2 ^ 1074)
   normal-value k e =
       subst (λ (y : Float). HasValue y (sign_of x) ((2 ^ 52 + digits_of x) * 2 ^ k) (2 ^ 1074)) (ap (λ (z : ℕ). of_fields binary64 (sign_of x) z (digits_of x)) (sym e) ∙ read)
-      (field_suc binary64 (sign_of x) k (digits_of x) (subst (λ (z : ℕ). T (finite (of_fields binary64 (sign_of x) z (digits_of x)))) e fin_read))
+      (field-suc binary64 (sign_of x) k (digits_of x) (subst (λ (z : ℕ). T (finite (of_fields binary64 (sign_of x) z (digits_of x)))) e fin-read))
 
   -- ---- a number with places after the point, and a whole number
   pub mid-value : 1 ≤ field_of x → field_of x ≤ 1074 → HasValue x (sign_of x) (2 ^ 52 + digits_of x) (2 ^ (1075 - field_of x))

@@ -9,7 +9,7 @@ use mir.Syntax.{w32}
 use mir.Val.{SFits, to_z, of_z}
 use mir.Facts.{to_z-of_z}
 use Rattle.lattice.specs.Layers.{below}
-use Rattle.lattice.specs.laws.Bounds.{Within, Numbered, mag_suc, mag_pred, numbered_suc, numbered_pred, within-numbered}
+use Rattle.lattice.specs.laws.Bounds.{Within, Numbered, mag_suc, mag_pred, numbered-suc, numbered_pred, within-numbered}
 
 -- what is read back
 abbrev pub back : ℤ → ℤ
@@ -45,10 +45,10 @@ module _ (m : ℤ) (w : Within m) where
   less_is = rw (back-numbered (within-numbered w), -ℤ_one m) (back-numbered (numbered_pred w))
 
   pub more_fits : SFits w32 (back m +ℤ pos 1)
-  more_fits = rw (back-numbered (within-numbered w), +ℤ_one m) (numbered-fits (numbered_suc w))
+  more_fits = rw (back-numbered (within-numbered w), +ℤ_one m) (numbered-fits (numbered-suc w))
 
   pub more_is : back (back m +ℤ pos 1) ≡ suc_ℤ m
-  more_is = rw (back-numbered (within-numbered w), +ℤ_one m) (back-numbered (numbered_suc w))
+  more_is = rw (back-numbered (within-numbered w), +ℤ_one m) (back-numbered (numbered-suc w))
 
   two_less_size : mag (pred_ℤ (pred_ℤ m)) ≤ 1000002
   two_less_size = let h = w.within in omega (arith, mag_pred m, mag_pred (pred_ℤ m))

@@ -131,7 +131,7 @@ pub record Starred : Type 0 where
       ≡ tree.Refused (record { number = 22; place = 1 })
   -- round(−0.5) = −1; exp(0) = 1; ln(1) = 0; exp(−701) = 0.
   pub round-half : round_alone minus_half ≡ answer.Value minus_one
-  pub exp_zero : exp_alone plus_zero ≡ answer.Value one
+  pub exp-zero : exp_alone plus_zero ≡ answer.Value one
   pub ln_one : ln_alone one ≡ answer.Value plus_zero
   pub exp-low : exp_alone minus701 ≡ answer.Value plus_zero
   -- mul_add(1 + 2^−52, 1 − 2^−52, −1) = −2^−104.
@@ -155,7 +155,7 @@ starred =
       flat = refl;
       no_variance = refl;
       round-half = refl;
-      exp_zero = refl;
+      exp-zero = refl;
       ln_one = refl;
       exp-low = refl;
       fused = refl;

@@ -189,9 +189,9 @@ unfolding tree_value paid_into raw_step curve_over exp_at exp_m1_at ln_at sqrt_a
 number_44 = refl
 
 -- The lowest of two; −0 isn't positive either.
-minus_zero : tree_value (market 100 (leg (465 ∷ 830 ∷ 830 ∷ []) (0 ∷ 0 ∷ 1 ∷ []) ((float 5) ∷ (float 5) ∷ (float 100) ∷ [])) (float 100) (steps 2 512) (of_bits binary64 0x3fb999999999999a) ((float 0) ∷ (float 1) ∷ []) ((of_bits binary64 0x3f847ae147ae147b) ∷ (of_bits binary64 0x3f889374bc6a7efa) ∷ []) (of_bits binary64 0x3f747ae147ae147b) (pillars (100 ∷ 465 ∷ 900 ∷ []) ((float 1) ∷ (of_bits binary64 0x8000000000000000) ∷ (float 0) ∷ []))) (calls (465 ∷ []) (465 ∷ []) ((float 101) ∷ [])) (room 64 96 9 9) ≡ tree.Refused (record { number = 44; place = 1 })
+minus-zero : tree_value (market 100 (leg (465 ∷ 830 ∷ 830 ∷ []) (0 ∷ 0 ∷ 1 ∷ []) ((float 5) ∷ (float 5) ∷ (float 100) ∷ [])) (float 100) (steps 2 512) (of_bits binary64 0x3fb999999999999a) ((float 0) ∷ (float 1) ∷ []) ((of_bits binary64 0x3f847ae147ae147b) ∷ (of_bits binary64 0x3f889374bc6a7efa) ∷ []) (of_bits binary64 0x3f747ae147ae147b) (pillars (100 ∷ 465 ∷ 900 ∷ []) ((float 1) ∷ (of_bits binary64 0x8000000000000000) ∷ (float 0) ∷ []))) (calls (465 ∷ []) (465 ∷ []) ((float 101) ∷ [])) (room 64 96 9 9) ≡ tree.Refused (record { number = 44; place = 1 })
 unfolding tree_value paid_into raw_step curve_over exp_at exp_m1_at ln_at sqrt_at on_outcome on_check lowest on_answer rounded ieee.of_bits ieee.add ieee.sub ieee.mul ieee.div ieee.neg ieee.lt ieee.le ieee.of_int ieee.to_signed
-minus_zero = refl
+minus-zero = refl
 
 -- 44 is tried last: after a factor out of range, and after the pillars' days.
 after_range : tree_value (market 100 (leg (465 ∷ 830 ∷ 830 ∷ []) (0 ∷ 0 ∷ 1 ∷ []) ((float 5) ∷ (float 5) ∷ (float 100) ∷ [])) (float 100) (steps 2 512) (of_bits binary64 0x3fb999999999999a) ((float 0) ∷ (float 1) ∷ []) ((of_bits binary64 0x3f847ae147ae147b) ∷ (of_bits binary64 0x3f889374bc6a7efa) ∷ []) (of_bits binary64 0x3f747ae147ae147b) (pillars (100 ∷ 465 ∷ 900 ∷ []) ((float 1) ∷ (of_bits binary64 0xbff0000000000000) ∷ (of_bits binary64 0xc09f400000000000) ∷ []))) (calls (465 ∷ []) (465 ∷ []) ((float 101) ∷ [])) (room 64 96 9 9) ≡ tree.Refused (record { number = 4; place = 2 })

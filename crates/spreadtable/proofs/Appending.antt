@@ -6,7 +6,7 @@ use native.Mathlib.Nat.{le_antisymm}
 use native.Mathlib.Numerals.{add-one}
 use native.Mathlib.Omega.{arith}
 use lib.ListN.{length, get_or, set, drop, length-set, drop_of_length-le}
-use lib.Seq.{drop_cons}
+use lib.Seq.{drop-cons}
 use Rattle.bondreport.specs.Columns.{put_at}
 use Rattle.spreadtable.specs.declared.Written.{Written}
 
@@ -31,7 +31,7 @@ module _ (start : List ℕ) (from : ℕ) (text : List ℕ) where
           behind = omega (arith, p.behind);
           room = p.room;
           size = length-set page at (get_or text i 0) ∙ p.size;
-          left = rw (add-one at, add-one i) (ap (λ (l : List ℕ). put_at page at l) (sym (drop_cons text i 0 h)) ∙ p.left);
+          left = rw (add-one at, add-one i) (ap (λ (l : List ℕ). put_at page at l) (sym (drop-cons text i 0 h)) ∙ p.left);
         }
 
     pub append-done : length text ≤ i → ◌≡◌ {A = Written} (record { page = page; length = at }) (record { page = put_at start from text; length = from + length text })

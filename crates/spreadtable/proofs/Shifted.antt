@@ -7,7 +7,7 @@ use native.Mathlib.Nat.{le_antisymm}
 use native.Mathlib.Numerals.{add-one}
 use native.Mathlib.Omega.{arith}
 use lib.ListN.{length, get_or, set, take, drop, length-set, drop_of_length-le}
-use lib.Seq.{drop_cons, take_all, take-suc, take-suc-set}
+use lib.Seq.{drop-cons, take_all, take-suc, take-suc-set}
 use lib.Ieee.{Float, nan, binary64, add, of_bits, of_int}
 use Rattle.terms.specs.Numbers.{float}
 use Rattle.terms.specs.Checks.{not_up_to}
@@ -36,7 +36,7 @@ module _ (shift : Float) (sigmas : List Float) where
     unfolding any_outside
     one =
         sym p.rest
-        ∙ ap (λ (l : List Float). any_outside (shifted shift l)) (drop_cons sigmas i nan h)
+        ∙ ap (λ (l : List Float). any_outside (shifted shift l)) (drop-cons sigmas i nan h)
         ∙ ap (λ (b : Bool). b || any_outside (shifted shift (drop (suc i) sigmas))) (sym (e ∙ ap (λ (z : Float). not_up_to z (add binary64 (get_or sigmas i nan) shift)) ten_is))
         ∙ ap (λ (j : ℕ). f || any_outside (shifted shift (drop j sigmas))) (sym (add-one i))
 

@@ -35,7 +35,7 @@ pub record Starred : Type 0 where
   -- A value as on the closing sheet: right-justified, halves to the even cent, no sign on a zero.
   pub ninety_nine_lem : value_text (float 99) ≡ bytes "           99.00"
   pub half : value_text (of_bits binary64 0x3fc0_0000_0000_0000) ≡ bytes "            0.12"
-  pub minus_zero : value_text (ieee.neg plus_zero) ≡ bytes "            0.00"
+  pub minus-zero : value_text (ieee.neg plus_zero) ≡ bytes "            0.00"
   pub widest : value_text (of_bits binary64 0xc26d_1a94_a1ff_ffae) ≡ bytes "-999999999999.99"
   -- 32 by the value, and not by the count.
   pub too_wide : cell_text (Value trillion 2) ≡ bytes "             #32"
@@ -65,7 +65,7 @@ starred =
       hash_46 = refl;
       ninety_nine_lem = refl;
       half = refl;
-      minus_zero = refl;
+      minus-zero = refl;
       widest = refl;
       too_wide = refl;
       many-nodes = refl;

@@ -7,7 +7,7 @@ use mathlib.Core.Bool.{Bool, true, false, cond}
 use mathlib.Core.List.{List, [], ◌∷◌}
 use borrow.Author.Rules.{rules}
 use lib.ListN.{length, get_or, drop, drop_of_length-le}
-use lib.Seq.{drop_cons}
+use lib.Seq.{drop-cons}
 use lib.Ieee.{Float, lt}
 use Rattle.floats.specs.declared.Answer.{Answer}
 use Rattle.floats.specs.declared.Answer.TheVariants.{Value}
@@ -66,11 +66,11 @@ module _ (t : Float) (place : ℕ) where
         let d1 = get_or factors (suc i) plus_zero in
         let test = lt t t1 in
         let piece = between t t0 d0 t1 d1 place in
-        ap (λ (xs : List Float). curve_over xs (drop i factors) t place) (drop_cons times i plus_zero l ∙ ap (λ (xs : List Float). t0 ∷ xs) (drop_cons times (suc i) plus_zero h))
-        ∙ ap (λ (xs : List Float). curve_over (t0 ∷ t1 ∷ drop (suc (suc i)) times) xs t place) (drop_cons factors i plus_zero m ∙ ap (λ (xs : List Float). d0 ∷ xs) (drop_cons factors (suc i) plus_zero k))
+        ap (λ (xs : List Float). curve_over xs (drop i factors) t place) (drop-cons times i plus_zero l ∙ ap (λ (xs : List Float). t0 ∷ xs) (drop-cons times (suc i) plus_zero h))
+        ∙ ap (λ (xs : List Float). curve_over (t0 ∷ t1 ∷ drop (suc (suc i)) times) xs t place) (drop-cons factors i plus_zero m ∙ ap (λ (xs : List Float). d0 ∷ xs) (drop-cons factors (suc i) plus_zero k))
         ∙ curve-step t0 t1 (drop (suc (suc i)) times) d0 d1 (drop (suc (suc i)) factors)
-        ∙ ap (λ (xs : List Float). cond test piece (curve_over xs (d1 ∷ drop (suc (suc i)) factors) t place)) (sym (drop_cons times (suc i) plus_zero h))
-        ∙ ap (λ (xs : List Float). cond test piece (curve_over (drop (suc i) times) xs t place)) (sym (drop_cons factors (suc i) plus_zero k))
+        ∙ ap (λ (xs : List Float). cond test piece (curve_over xs (d1 ∷ drop (suc (suc i)) factors) t place)) (sym (drop-cons times (suc i) plus_zero h))
+        ∙ ap (λ (xs : List Float). cond test piece (curve_over (drop (suc i) times) xs t place)) (sym (drop-cons factors (suc i) plus_zero k))
 
     -- The same with the flag of the code's test.
     told : (i : ℕ) (b : Bool) {f : Bool} → i + 1 < length times → i + 1 < length factors → f ≡ lt t (get_or times (i + 1) plus_zero) → f ≡ b → curve_over (drop i times) (drop i factors) t place ≡ cond b (between t (get_or times i plus_zero) (get_or factors i plus_zero) (get_or times (i + 1) plus_zero) (get_or factors (i + 1) plus_zero) place) (curve_over (drop (i + 1) times) (drop (i + 1) factors) t place)
@@ -99,8 +99,8 @@ module _ (t : Float) (place : ℕ) where
         let d0 = get_or factors i plus_zero in
         p ∙ ap Value e
         ∙ sym
-        (ap (λ (xs : List Float). curve_over xs (drop i factors) t place) (drop_cons times i plus_zero c.time-there ∙ ap (λ (xs : List Float). get_or times i plus_zero ∷ xs) none)
-        ∙ ap (λ (xs : List Float). curve_over (get_or times i plus_zero ∷ []) xs t place) (drop_cons factors i plus_zero c.factor-there)
+        (ap (λ (xs : List Float). curve_over xs (drop i factors) t place) (drop-cons times i plus_zero c.time-there ∙ ap (λ (xs : List Float). get_or times i plus_zero ∷ xs) none)
+        ∙ ap (λ (xs : List Float). curve_over (get_or times i plus_zero ∷ []) xs t place) (drop-cons factors i plus_zero c.factor-there)
         ∙ last_time (get_or times i plus_zero) d0 (drop (suc i) factors))
         ∙ c.rest
 
@@ -110,8 +110,8 @@ module _ (t : Float) (place : ℕ) where
         let d0 = get_or factors i plus_zero in
         p ∙ ap Value e
         ∙ sym
-        (ap (λ (xs : List Float). curve_over xs (drop i factors) t place) (drop_cons times i plus_zero c.time-there)
-        ∙ ap (λ (xs : List Float). curve_over (get_or times i plus_zero ∷ drop (suc i) times) xs t place) (drop_cons factors i plus_zero c.factor-there ∙ ap (λ (xs : List Float). d0 ∷ xs) none)
+        (ap (λ (xs : List Float). curve_over xs (drop i factors) t place) (drop-cons times i plus_zero c.time-there)
+        ∙ ap (λ (xs : List Float). curve_over (get_or times i plus_zero ∷ drop (suc i) times) xs t place) (drop-cons factors i plus_zero c.factor-there ∙ ap (λ (xs : List Float). d0 ∷ xs) none)
         ∙ last_factor (get_or times i plus_zero) (drop (suc i) times) d0)
         ∙ c.rest
 

@@ -6,7 +6,7 @@ use Rattle.std.specs.Float.Ieee.{add, mul, le, lt}
 use Rattle.std.specs.Float.Ieee.Scale.{finite}
 use Rattle.floats.specs.Answers.{plus_zero}
 use Rattle.floats.specs.laws.Order.{number, number_of-finite, number_of_le, le_refl, le_trans, le_of_lt, T_of}
-use Rattle.floats.specs.laws.Arithmetic.{add_mono, mul_mono_left}
+use Rattle.floats.specs.laws.Arithmetic.{add-mono, mul_mono_left}
 use Rattle.floats.specs.laws.Extremes.{min-below, min-mono, max-mono}
 use Rattle.floats.specs.Extremes.{min_of, max_of}
 use Rattle.floats.specs.laws.Finite.{finite_of_add, finite_of_mul}
@@ -29,11 +29,11 @@ pub record Higher (x y : Float) : Type 0 where
 pub record Rises (x y : Float) : Type 0 where
   pub where_finite : T (finite x) → Higher x y
 
-pub higher_refl : (x : Float) → T (finite x) → Higher x x
-higher_refl x h = record { first_finite = h; second-finite = h; no_lower = le_refl x (number_of-finite x h) }
+pub higher-refl : (x : Float) → T (finite x) → Higher x x
+higher-refl x h = record { first_finite = h; second-finite = h; no_lower = le_refl x (number_of-finite x h) }
 
-pub rises_refl : (x : Float) → Rises x x
-rises_refl x = record { where_finite = higher_refl x }
+pub rises-refl : (x : Float) → Rises x x
+rises-refl x = record { where_finite = higher-refl x }
 
 pub rises_of_higher : (x y : Float) → Higher x y → Rises x y
 rises_of_higher x y h = record { where_finite = λ _. h }
@@ -53,7 +53,7 @@ pub plus : (a b c d : Float) → T (le a b) → T (le c d) → T (finite (add bi
 plus a b c d h k f g =
     let p = finite_of_add binary64 a c f in
     let q = finite_of_add binary64 b d g in
-    record { first_finite = f; second-finite = g; no_lower = add_mono binary64 a b c d p.0 q.0 p.1 q.1 h k }
+    record { first_finite = f; second-finite = g; no_lower = add-mono binary64 a b c d p.0 q.0 p.1 q.1 h k }
 
 -- ---- calls and puts
 

@@ -25,8 +25,8 @@ use Rattle.backwardinduction.specs.laws.WalkPlaces.{reads_of, rolled_at_lem}
 use Rattle.lattice.specs.laws.Laid.{front_nodes, layers_in, final_in, Laid}
 use Rattle.lattice.specs.laws.Parts.{part_from, part_from_lem}
 use Rattle.forwardinduction.specs.laws.LaidFront.{front_count, fronted, last_of, Behind, behind_of}
-use Rattle.forwardinduction.specs.laws.Fitting.{current_length, row_in}
-use Rattle.lattice.specs.laws.Totals.{numbers_length}
+use Rattle.forwardinduction.specs.laws.Fitting.{current-length, row_in}
+use Rattle.lattice.specs.laws.Totals.{numbers-length}
 use Rattle.backwardinduction.specs.laws.WalkMore.{final_row_lem}
 
 pos_of : (n : ℕ) → (n ≡ 0 → ⊥) → 0 < n
@@ -52,7 +52,7 @@ module _ (dt spread : Float) (cashflows : List Float) (calls : List CallStep) (s
   walk_last none rows e =
       let l = last_of laid none in
       rw (l.layers, l.final, e, get_d_inside cashflows step nan plus_zero inside)
-      (ap given (sym (final_row_lem (get_or cashflows step plus_zero) (numbers_in (front_nodes count nodes)) count (omega (arith, numbers_length count nodes (fronted laid).pairs)))))
+      (ap given (sym (final_row_lem (get_or cashflows step plus_zero) (numbers_in (front_nodes count nodes)) count (omega (arith, numbers-length count nodes (fronted laid).pairs)))))
 
   module _ (some : length spacings ≡ 0 → ⊥) (same : length shifts ≡ length spacings) where
     b : Behind flat one two counts spacings nodes probabilities
@@ -113,8 +113,8 @@ module _ (dt spread : Float) (cashflows : List Float) (calls : List CallStep) (s
         let s = b.stepped in
         let vs : List Float = current_part (step + 1) next behind.first behind.second in
         let out : List Float = current_part step count behind.first behind.second in
-        let long : length vs ≡ next = current_length (step + 1) next behind.first behind.second (omega (arith, s.next_first)) (omega (arith, s.next_second)) in
-        let wide : length out ≡ count = current_length step count behind.first behind.second (omega (arith, s.first_room)) (omega (arith, s.second-room)) in
+        let long : length vs ≡ next = current-length (step + 1) next behind.first behind.second (omega (arith, s.next_first)) (omega (arith, s.next_second)) in
+        let wide : length out ≡ count = current-length step count behind.first behind.second (omega (arith, s.first_room)) (omega (arith, s.second-room)) in
         rw (part_from_lem 1 counts, part_from_lem (count * 2) nodes, b.next, ← s.are_next)
         (rolled_at_lem rates (get_or calls step new_step) (get_or cashflows step nan) step flat vs s.climbs (omega (arith, s.counted)) count 0 (front_nodes count nodes) (take (count * 3) probabilities) out s.placed (length-take-le (count * 2) nodes s.pairs) (length-take-le (count * 3) probabilities s.threes) (omega arith))
 

@@ -22,7 +22,7 @@ use Rattle.lattice.specs.Layers.{At, value_at, node_float}
 use Rattle.lattice.specs.Lattice.{Layer}
 use Rattle.backwardinduction.specs.Walk.{Reads, expected, discount_of, exercised, node_value, rolled, final_row, walk_from}
 use Rattle.lattice.specs.laws.Proper.{Weighted, Each, more, Proper}
-use Rattle.backwardinduction.specs.laws.Rising.{Higher, Rises, rises_refl, rises_of_higher, times, plus, exercised-no_lower, Rows, ends, beside, at_node, rises_of_rows}
+use Rattle.backwardinduction.specs.laws.Rising.{Higher, Rises, rises-refl, rises_of_higher, times, plus, exercised-no_lower, Rows, ends, beside, at_node, rises_of_rows}
 
 -- The same readings with another call step.
 abbrev pub with_call : Reads → CallStep → Reads
@@ -50,7 +50,7 @@ expected-rises t w {next} {next'} rows place =
     let z' = value_at t.up next' in
     let u = mul binary64 z t.probability_up in
     let u' = mul binary64 z' t.probability_up in
-    let at : (n : ℤ) → Rises (value_at n next) (value_at n next') = λ n. at_node n (rises_refl plus_zero) rows in
+    let at : (n : ℤ) → Rises (value_at n next) (value_at n next') = λ n. at_node n (rises-refl plus_zero) rows in
     meets_finite d d' place _ _ λ f f'.
     let D = times v v' t.probability_down (at t.down) w.down f f' in
     meets_finite e e' place _ _ λ f f'.
@@ -83,7 +83,7 @@ continued r c lower e e' E place (same {x = d} w) =
 final-rises : (cashflow : Float) (nodes : List ℤ) → Rows Rises (final_row cashflow nodes) (final_row cashflow nodes)
 unfolding final_row
 final-rises cashflow [] = ends
-final-rises cashflow (n ∷ nodes) = beside (rises_refl cashflow) (final-rises cashflow nodes)
+final-rises cashflow (n ∷ nodes) = beside (rises-refl cashflow) (final-rises cashflow nodes)
 
 -- exp, where it has a value, is finite and not below 0
 exp_same : (x : Float) (place : ℕ) → Meets Same (exp_at x place) (exp_at x place)

@@ -23,7 +23,7 @@ use Rattle.bondevents.specs.declared.CallStep.{CallStep}
 use Rattle.bondevents.specs.Steps.{Axis}
 use Rattle.bondevents.specs.Calls.{none, new_step, exercises, joined, puts_below, call_steps}
 use Rattle.bondevents.specs.laws.Pricing.{Above}
-use Rattle.bondevents.specs.laws.Sides.{Before, before_refl}
+use Rattle.bondevents.specs.laws.Sides.{Before, before-refl}
 use Rattle.bondevents.specs.laws.SamePrices.{exercises-unread}
 use Rattle.bondevents.specs.laws.LowestPrices.{LowestPrices, lowest-prices, refused_by_lem, refused_20_or_27}
 use Rattle.bondevents.specs.laws.NoLower.{Thinner, ThinnerRow, NoLower, NoLowerSteps}
@@ -97,7 +97,7 @@ module _ (a : Axis) (bond : Bond) (calls : CallSchedule) where
 
 -- An exercise is as thin as itself.
 same_thin : (side : Side) (c : Exercise) → T (finite c.price) → Thinner side c c
-same_thin side c f = record { marked_too = λ h. h; price = λ h. before_refl side c.price f }
+same_thin side c f = record { marked_too = λ h. h; price = λ h. before-refl side c.price f }
 
 joined-no_lower : (cs ps ds qs : List Exercise) → length ps ≡ length cs → length qs ≡ length ds → ThinnerRow Call cs ds → ThinnerRow Put qs ps → NoLowerSteps (joined cs ps) (joined ds qs)
 joined-no_lower cs ps ds qs e f t u k = rw (joined_at cs ps k e, joined_at ds qs k f) (record { call = t k; put = u k })

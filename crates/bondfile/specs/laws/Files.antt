@@ -1,6 +1,6 @@
 -- A file from an index on: the line that begins there, and the lines from the next on. Assumes nothing.
 use Rattle.std.specs.Prelude.{ℕ, zero, suc, ◌+◌, ◌-◌, ◌≤◌, ◌<◌, ◌≡◌, Bool, true, false, cond, not, List, [], ◌∷◌, length, take, drop, eqb, ltb}
-use Rattle.std.proofs.Common.{arith, add-one, sym, ap, ◌∙◌, length-drop, drop_of_length-le, drop_drop, lt-ltb, le-ltb, ltb-true, ltb-false}
+use Rattle.std.proofs.Common.{arith, add-one, sym, ap, ◌∙◌, length-drop, drop_of_length-le, drop-drop, lt-ltb, le-ltb, ltb-true, ltb-false}
 use Rattle.std.proofs.Math.Nat.{add-sub_cancel_left}
 use Rattle.std.proofs.Math.Path.{refl}
 use Rattle.bondline.specs.Bytes.{is_other, leading, run_end}
@@ -38,7 +38,7 @@ module _ (text : List ℕ) (at : ℕ) where
       past : drop (suc (leading (is_other 10) (drop at text))) (drop at text) ≡ drop (run_end (is_other 10) text at + 1) text
       past =
           let e : at + suc (leading (is_other 10) (drop at text)) ≡ run_end (is_other 10) text at + 1 = omega arith in
-          drop_drop (suc (leading (is_other 10) (drop at text))) at text ∙ ap (λ (n : ℕ). drop n text) e
+          drop-drop (suc (leading (is_other 10) (drop at text))) at text ∙ ap (λ (n : ℕ). drop n text) e
 
       pick : (z : Bool) → ltb (run_end (is_other 10) text at) (length text) ≡ z → drop (cond z (run_end (is_other 10) text at + 1) (run_end (is_other 10) text at)) text ≡ drop (suc (leading (is_other 10) (drop at text))) (drop at text)
       pick true t = sym past

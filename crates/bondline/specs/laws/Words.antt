@@ -30,8 +30,8 @@ unfolding span_of
 start_first line zero = omega arith
 start_first line (suc n) = omega arith
 
-pub word_length : (line : List ℕ) (n : ℕ) → length (word_at line n) ≤ length line
-word_length line n = simp (length-take, length-drop) (omega arith)
+pub word-length : (line : List ℕ) (n : ℕ) → length (word_at line n) ≤ length line
+word-length line n = simp (length-take, length-drop) (omega arith)
 
 pub differ : (a b : List ℕ) → (length a ≡ length b → ⊥) → false ≡ same a b
 unfolding same

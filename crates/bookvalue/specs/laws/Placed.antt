@@ -1,13 +1,13 @@
 -- What a rule says of each bond, in 32 places: read at a place, and written place by place. Assumes nothing.
 use Prim.Native.Nat.{ℕ, zero, suc, ◌+◌, ◌-◌, ◌≤◌, ◌<◌}
 use native.Mathlib.Omega.{arith}
-use Rattle.std.proofs.Common.{eq-or-lt_of_le, le_of_suc_le_suc, sym, ap, ◌∙◌, get_or-append-add}
+use Rattle.std.proofs.Common.{eq-or-lt_of_le, le_of_suc-le-suc, sym, ap, ◌∙◌, get_or-append-add}
 use Rattle.std.proofs.Math.Numerals.{add-one}
 use Rattle.std.proofs.Math.Logic.{inl, inr}
 use Rattle.std.specs.Prelude.{◌≡◌, length, get_or}
 use Rattle.std.proofs.Math.Path.{refl}
 use mathlib.Core.List.{List, [], ◌∷◌, ◌++◌}
-use Rattle.std.proofs.Math.ListN.{set, replicate, length-append, get_or_append}
+use Rattle.std.proofs.Math.ListN.{set, replicate, length-append, get_or-append}
 use Rattle.std.proofs.lemmas.List.{get_or_at}
 use Rattle.terms.specs.laws.Searching.{below_or_not}
 use Rattle.bookvalue.specs.Values.{each, placed}
@@ -18,29 +18,29 @@ none-there none (suc k) zero = refl
 none-there none (suc k) (suc j) = none-there none k j
 
 module _ {A : Type 0} (f : ℕ → A) where
-  pub each_length : (n : ℕ) → length (each f n) ≡ n
+  pub each-length : (n : ℕ) → length (each f n) ≡ n
   unfolding each
-  each_length zero = refl
-  each_length (suc n) = let e = each_length n in length-append (each f n) (f n ∷ []) ∙ (omega arith)
+  each-length zero = refl
+  each-length (suc n) = let e = each-length n in length-append (each f n) (f n ∷ []) ∙ (omega arith)
 
   pub each_at : (n i : ℕ) (d : A) → i < n → get_or (each f n) i d ≡ f i
   unfolding each
   each_at zero i d h = absurd (omega arith)
   each_at (suc n) i d h =
-      let l = each_length n in
-      elim (eq-or-lt_of_le (le_of_suc_le_suc h)) [
+      let l = each-length n in
+      elim (eq-or-lt_of_le (le_of_suc-le-suc h)) [
         | inl e ↦ rw e (get_or_at (each f n) (f n) [] d n l)
-        | inr k ↦ get_or_append (each f n) (f n ∷ []) d i (omega arith) ∙ each_at n i d k
+        | inr k ↦ get_or-append (each f n) (f n ∷ []) d i (omega arith) ∙ each_at n i d k
       ]
 
   module _ (none : A) where
     -- A bond's place, and those past the size.
     pub placed_at : (n i : ℕ) → i < n → get_or (placed none f n) i none ≡ f i
-    placed_at n i h = let l = each_length n in get_or_append (each f n) (replicate (32 - n) none) none i (omega arith) ∙ each_at n i none h
+    placed_at n i h = let l = each-length n in get_or-append (each f n) (replicate (32 - n) none) none i (omega arith) ∙ each_at n i none h
 
     pub placed_past : (n i : ℕ) → n ≤ i → get_or (placed none f n) i none ≡ none
     placed_past n i h =
-        let l = each_length n in
+        let l = each-length n in
         let e : i ≡ length (each f n) + (i - n) = omega arith in
         ap (λ (k : ℕ). get_or (placed none f n) k none) e ∙ get_or-append-add (each f n) (replicate (32 - n) none) (i - n) none ∙ none-there none (32 - n) (i - n)
 
@@ -64,7 +64,7 @@ module _ {A : Type 0} (f : ℕ → A) where
     pub placed_more : (i : ℕ) (row : List A) {x : A} → i < 32 → row ≡ placed none f i → x ≡ f i → set row i x ≡ placed none f (i + 1)
     unfolding each
     placed_more i row {x} h e g =
-        let l = each_length i in
+        let l = each-length i in
         let more : 32 - i ≡ suc (31 - i) = omega arith in
         let less : 32 - (suc i) ≡ 31 - i = omega arith in
         rw (e, g, add-one, more, less) (ap (λ (k : ℕ). set (each f i ++ replicate (suc (31 - i)) none) k (f i)) (sym l) ∙ set_next (each f i) (31 - i) (f i))

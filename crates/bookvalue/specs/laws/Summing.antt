@@ -20,7 +20,7 @@ use Rattle.bookvalue.specs.declared.BookSum.{BookSum}
 use Rattle.bookvalue.specs.declared.BookSum.TheVariants.{Sum, Refused}
 use Rattle.bookvalue.specs.Values.{each, sum_to, sum_check, desk_to}
 use Rattle.bookchecks.specs.laws.Holdings.{Filling}
-use Rattle.bookvalue.specs.laws.Placed.{each_length, each_at}
+use Rattle.bookvalue.specs.laws.Placed.{each-length, each_at}
 use Rattle.bookvalue.specs.laws.Answers.{sum_of, FewNodes}
 
 -- ---- the sum
@@ -89,4 +89,4 @@ module _ (desk : ℕ → ℕ) (d : ℕ) (counts : List ℕ) (size : ℕ) where
 
 -- Eight counts, each in its place.
 pub eight : (f : ℕ → ℕ) (table : List ℕ) (d : ℕ) → 8 ≤ d → Filling f 0 8 d table → table ≡ each f 8
-eight f table d h s = ext_get_or 0 table (each f 8) (s.sized ∙ sym (each_length f 8)) (λ k l. s.at k (omega (arith, s.sized)) ∙ sym (each_at f 8 k 0 (omega (arith, s.sized))))
+eight f table d h s = ext_get_or 0 table (each f 8) (s.sized ∙ sym (each-length f 8)) (λ k l. s.at k (omega (arith, s.sized)) ∙ sym (each_at f 8 k 0 (omega (arith, s.sized))))

@@ -23,8 +23,8 @@ use Rattle.floats.specs.laws.Cases.{Holds, cases}
 
 -- ---- tests of floats
 
-false_true : ◌≡◌ {A = Bool} false true → ⊥
-false_true h = subst (λ (z : Bool). cond z ⊥ Unit) h tt
+false-true : ◌≡◌ {A = Bool} false true → ⊥
+false-true h = subst (λ (z : Bool). cond z ⊥ Unit) h tt
 
 untrue : (b : Bool) → (b ≡ true → ⊥) → b ≡ false
 untrue true h = absurd (h refl)
@@ -39,11 +39,11 @@ not_below_lem x y h = not_above_lem x y (ap (λ (z : Bool). z || eq x y) h)
 
 both : (a b : Bool) → (a && b) ≡ true → (a ≡ true) × (b ≡ true)
 both true b h = (refl, h)
-both false b h = absurd (false_true h)
+both false b h = absurd (false-true h)
 
 of_not_false : (b : Bool) → not b ≡ false → b ≡ true
 of_not_false true h = refl
-of_not_false false h = absurd (false_true (sym h))
+of_not_false false h = absurd (false-true (sym h))
 
 -- ---- what a root is
 

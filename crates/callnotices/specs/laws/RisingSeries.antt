@@ -1,10 +1,10 @@
 -- The list's order is by series, rising: each entry is a set notice's, the highest version of its series, and none of these is missing. Assumes nothing.
 use Rattle.std.specs.Prelude.{◌≡◌, refl, Bool, true, false, cond, List, [], ◌∷◌, ◌++◌, map, length, get_or, replicate, T, eqb, ltb}
-use Rattle.std.proofs.Common.{sym, ◌∙◌, arith, eq-or-lt_of_le, le_of_suc_le_suc, length-append, eqb→eq, ltb→lt, lt→ltb}
+use Rattle.std.proofs.Common.{sym, ◌∙◌, arith, eq-or-lt_of_le, le_of_suc-le-suc, length-append, eqb→eq, ltb→lt, lt→ltb}
 use Rattle.std.proofs.Math.Logic.{inl, inr}
 use Prim.Native.Nat.{ℕ, zero, suc, ◌+◌, ◌-◌, ◌≤◌, ◌<◌}
 use Rattle.std.proofs.lemmas.List.{length-map}
-use Rattle.std.proofs.Math.ListN.{get_or_append}
+use Rattle.std.proofs.Math.ListN.{get_or-append}
 use Rattle.std.proofs.Math.Seq.{get_or-append_seam}
 use Rattle.std.specs.Float.Ieee.Fits.{eq→eqb}
 use Rattle.floats.specs.Answers.{plus_zero}
@@ -77,9 +77,9 @@ module _ (n : Notices) (parallel : Parallel n) where
   up_at (one_entry {s = s} {is = is} i r t) k h =
       let m : length (is ++ (i ∷ [])) ≡ length is + 1 = length-append is (i ∷ []) in
       let u : k < suc (length is) = omega arith in
-      elim (eq-or-lt_of_le (le_of_suc_le_suc u)) [
+      elim (eq-or-lt_of_le (le_of_suc-le-suc u)) [
         | inl e ↦ rw (e, get_or-append_seam is i [] 0) (record { series = suc s; up_to = omega arith; it = t })
-        | inr l ↦ rw (get_or_append is (i ∷ []) 0 k l) (let v = up_at r k l in record { series = v.series; up_to = omega (arith, v.up_to); it = v.it })
+        | inr l ↦ rw (get_or-append is (i ∷ []) 0 k l) (let v = up_at r k l in record { series = v.series; up_to = omega (arith, v.up_to); it = v.it })
       ]
 
   rises : {s : ℕ} {is : List ℕ} → Rising s is → (j k : ℕ) → j < k → k < length is → series_at n (get_or is j 0) < series_at n (get_or is k 0)
@@ -88,12 +88,12 @@ module _ (n : Notices) (parallel : Parallel n) where
   rises (one_entry {s = s} {is = is} i r t) j k l h =
       let m : length (is ++ (i ∷ [])) ≡ length is + 1 = length-append is (i ∷ []) in
       let u : k < suc (length is) = omega arith in
-      elim (eq-or-lt_of_le (le_of_suc_le_suc u)) [
+      elim (eq-or-lt_of_le (le_of_suc-le-suc u)) [
         | inl e ↦
             let front : j < length is = omega arith in
             let v = up_at r j front in
-            rw (e, get_or-append_seam is i [] 0, get_or_append is (i ∷ []) 0 j front) (omega (arith, v.up_to, v.it.of_series, t.of_series))
-        | inr v ↦ rw (get_or_append is (i ∷ []) 0 k v, get_or_append is (i ∷ []) 0 j (omega arith)) (rises r j k l v)
+            rw (e, get_or-append_seam is i [] 0, get_or-append is (i ∷ []) 0 j front) (omega (arith, v.up_to, v.it.of_series, t.of_series))
+        | inr v ↦ rw (get_or-append is (i ∷ []) 0 k v, get_or-append is (i ∷ []) 0 j (omega arith)) (rises r j k l v)
       ]
 
   -- ---- none is missing
@@ -107,7 +107,7 @@ module _ (n : Notices) (parallel : Parallel n) where
   still_in : (is : List ℕ) (i j : ℕ) (b : Bool) → In is i → In (cond b (is ++ (j ∷ [])) is) i
   still_in is i j true h =
       let m : length (is ++ (j ∷ [])) ≡ length is + 1 = length-append is (j ∷ []) in
-      record { at = h.at; inside = omega (arith, h.inside); found = get_or_append is (j ∷ []) 0 h.at h.inside ∙ h.found }
+      record { at = h.at; inside = omega (arith, h.inside); found = get_or-append is (j ∷ []) 0 h.at h.inside ∙ h.found }
   still_in is i j false h = h
 
   last_in : (is : List ℕ) (i j : ℕ) (b : Bool) → j ≡ i → T b → In (cond b (is ++ (j ∷ [])) is) i
@@ -146,7 +146,7 @@ module _ (n : Notices) (parallel : Parallel n) where
   listed single zero t i l h = absurd (omega arith)
   listed single (suc s) t i l h =
       let j = standing n.series n.versions (suc s) in
-      elim (eq-or-lt_of_le (le_of_suc_le_suc l)) [
+      elim (eq-or-lt_of_le (le_of_suc-le-suc l)) [
         | inl e ↦
             let here : Stands (suc s) i = rw e at h in
             let is = stands_is single (suc s) i here in
@@ -158,7 +158,7 @@ module _ (n : Notices) (parallel : Parallel n) where
 
 place_of : {A : Type 0} (nil : A) (f : ℕ → A) (is : List ℕ) (k : ℕ) → k < length is → get_or (in_places nil (map f is)) k nil ≡ f (get_or is k 0)
 place_of nil f is k h =
-    get_or_append (map f is) (replicate (64 - length (map f is)) nil) nil k (let e : length (map f is) ≡ length is = length-map is f in omega arith)
+    get_or-append (map f is) (replicate (64 - length (map f is)) nil) nil k (let e : length (map f is) ≡ length is = length-map is f in omega arith)
     ∙ map_at f is k 0 nil h
 
 module _ (n : Notices) (h : notice_checks n ≡ Passed) where

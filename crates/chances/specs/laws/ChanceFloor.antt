@@ -1,6 +1,6 @@
 -- Each probability before clamping is at least 0.04, rounding included: from an error of at most 501/1000 of the new spacing. Assumes nothing.
 use Rattle.std.specs.Prelude.{◌≡◌, refl, ℕ, ◌+◌, ◌*◌, ◌^◌, ◌≤◌, ◌<◌, T, Float}
-use Rattle.std.proofs.Common.{ap, inl, inr, zero-le, le_trans, mul-pos, mul-le-mul_right, le_of_mul_le_mul_right, arith, lit≤, lit<, pow_pos}
+use Rattle.std.proofs.Common.{ap, inl, inr, zero-le, le_trans, mul-pos, mul-le-mul_right, le_of_mul-le-mul_right, arith, lit≤, lit<, pow_pos}
 use Rattle.std.specs.Float.{binary64}
 use Rattle.std.specs.Float.Ieee.{add, sub, mul, div, le, of_bits, of_int, round}
 use Rattle.std.specs.Float.Ieee.Positive.{num, den, den_pos}
@@ -10,8 +10,8 @@ use Rattle.floats.specs.laws.Fractions.{pl, mi, le_of_leq}
 use Rattle.floats.specs.laws.Order as order
 use Rattle.floats.specs.laws.Order.{number_of-finite, le_total}
 use Rattle.floats.specs.laws.Rounding.{Rounds, above, rounds-mono}
-use Rattle.floats.specs.laws.Exactly.{add_rounds, sub_rounds, mi_of_above}
-use Rattle.floats.specs.laws.Signs.{mul_above, mul_both_below, div_above, add_above}
+use Rattle.floats.specs.laws.Exactly.{add_rounds, sub-rounds, mi_of_above}
+use Rattle.floats.specs.laws.Signs.{mul-above, mul_both_below, div-above, add-above}
 use Rattle.floats.specs.laws.Arithmetic.{mul_mono_left, sub_anti_right}
 use Rattle.lattice.specs.Transitions.{sixth, two_thirds}
 use Rattle.lattice.specs.laws.Shares.{size-parts, pl_of_above}
@@ -31,7 +31,7 @@ least-rounds = above zero-le refl
 -- What is left of a, whose count is R, when k, whose count is K, is taken off: from counts to fractions.
 settle : (na da R nk dk K U : ℕ) → 0 < U → na * U ≡ R * da → nk * U ≡ K * dk → 10000 * K + 401 * U ≤ 10000 * R → least_hundredths * (da * dk) + 100 * (nk * da) ≤ 100 * (na * dk)
 settle na da R nk dk K U P e g h =
-    le_of_mul_le_mul_right {k = U}
+    le_of_mul-le-mul_right {k = U}
     (omega (arith, ap (λ (z : ℕ). z * dk) e, ap (λ (z : ℕ). z * da) g, mul-le-mul_right (da * dk) h)) P
 
 module _ (a k : Float) (R K : ℕ) (ac : Counts a R) (kc : Counts k K) (a_above : T (le plus_zero a)) (h : 10000 * K + 401 * 2 ^ 1074 ≤ 10000 * R) where
@@ -48,7 +48,7 @@ module _ (a k : Float) (R K : ℕ) (ac : Counts a R) (kc : Counts k K) (a_above 
 
   difference-least : T (le least_probability (sub binary64 a k))
   difference-least =
-      rounds-mono (lit< tt) (mul-pos (den_pos a) (den_pos k)) least-rounds (sub_rounds binary64 a k ac.is_finite kc.is_finite)
+      rounds-mono (lit< tt) (mul-pos (den_pos a) (den_pos k)) least-rounds (sub-rounds binary64 a k ac.is_finite kc.is_finite)
       (room_for (pl k) (mi k) (size-parts k kc.is_finite))
 
   sum-least : T (le least_probability (add binary64 a k))
@@ -77,7 +77,7 @@ below-quarter t T' c h =
     (record { holds = rest (pl t) (mi t) (num t) (den t) (size-parts t c.is_finite) (small (num t) (den t) T' (2 ^ 1074) (pow_pos 1074) c.units h) })
   where
     small : (n d t u : ℕ) → 0 < u → n * u ≡ t * d → 1000 * t ≤ 128 * u → 4 * n ≤ d
-    small n d t u P e h = le_of_mul_le_mul_right {k = u} (omega (arith, e, mul-le-mul_right d h)) P
+    small n d t u P e h = le_of_mul-le-mul_right {k = u} (omega (arith, e, mul-le-mul_right d h)) P
 
     rest : (p m n d : ℕ) → p + m ≡ n → 4 * n ≤ d → p * 4 + 0 * d ≤ 1 * d + m * 4
     rest p m n d e h = omega arith
@@ -97,9 +97,9 @@ pub record Floored (down mid up : Float) : Type 0 where
   pub middle-least : T (le least_probability mid)
   pub up_least : T (le least_probability up)
 
-square-above_zero : (e : Float) → T (finite e) → T (le plus_zero (mul binary64 e e))
+square_above-zero : (e : Float) → T (finite e) → T (le plus_zero (mul binary64 e e))
 unfolding of_bits
-square-above_zero e f = elim (le_total plus_zero e tt (number_of-finite e f)) [ inl l ↦ mul_above binary64 e e f f l l | inr l ↦ mul_both_below binary64 e e f f l l ]
+square_above-zero e f = elim (le_total plus_zero e tt (number_of-finite e f)) [ inl l ↦ mul-above binary64 e e f f l l | inr l ↦ mul_both_below binary64 e e f f l l ]
 
 module _ (h d s e : Float) (sp : Spaced h d s) (er : SmallError e sp.H) (fq : T (finite (mul binary64 e e))) (ft : T (finite (div binary64 (mul binary64 e e) d)))
     (fa : T (finite (add binary64 sixth (div binary64 (mul binary64 e e) d)))) (fk : T (finite (div binary64 e s))) (fw : T (finite (mul binary64 (div binary64 (mul binary64 e e) d) two))) where
@@ -125,7 +125,7 @@ module _ (h d s e : Float) (sp : Spaced h d s) (er : SmallError e sp.H) (fq : T 
   k_makes = div_makes e s er.A sp.S er.counts sp.scale sp.scale-above fk
 
   term-above : T (le plus_zero term)
-  term-above = div_above binary64 square d fq sp.divisor.is_finite (square-above_zero e er.counts.is_finite) sp.divisor-above
+  term-above = div-above binary64 square d fq sp.divisor.is_finite (square_above-zero e er.counts.is_finite) sp.divisor-above
 
   sixth-above : T (le plus_zero sixth)
   unfolding of_bits of_int div le
@@ -135,7 +135,7 @@ module _ (h d s e : Float) (sp : Spaced h d s) (er : SmallError e sp.H) (fq : T 
   a_makes = add_makes sixth term Z t_makes.count sixth-counts t_makes.counts sixth-above term-above fa
 
   a_above : T (le plus_zero a)
-  a_above = add_above binary64 sixth term sixth-counts.is_finite ft sixth-above term-above
+  a_above = add-above binary64 sixth term sixth-counts.is_finite ft sixth-above term-above
 
   t_high : 1000 * t_makes.count ≤ 128 * 2 ^ 1074
   t_high = term-high (2 ^ 1074) sp.X sp.D sp.H sp.S er.A q_makes.count t_makes.count k_makes.count (lit≤ tt) sp.divisors er.small q_makes.near t_makes.near k_makes.near

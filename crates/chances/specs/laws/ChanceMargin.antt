@@ -1,7 +1,7 @@
 -- What is left of each probability before clamping: whole numbers only, in units of the smallest double; U units are 1.
 -- X, H, D and S are those of `Divisors`; A is the error, Q its square, T the term, K the skew, each in size. Each step is a law of its own, over what it needs. Assumes nothing.
 use Rattle.std.specs.Prelude.{◌≡◌, ℕ, ◌+◌, ◌-◌, ◌*◌, ◌≤◌, ◌<◌}
-use Rattle.std.proofs.Common.{subst, inl, inr, le_of_lt, mul_comm, mul_le_mul, mul-le-mul_left, mul-le-mul_right, le_of_mul_le_mul_right, arith}
+use Rattle.std.proofs.Common.{subst, inl, inr, le_of_lt, mul_comm, mul-le-mul, mul-le-mul_left, mul-le-mul_right, le_of_mul-le-mul_right, arith}
 use Rattle.rounded.specs.laws.RoundToOdd.{ordered}
 use Rattle.chances.specs.laws.Near.{Near, fine-under, rough_over, rough_under}
 use Rattle.chances.specs.laws.SpacingMargin.{Divisors}
@@ -17,7 +17,7 @@ square_above a b = elim (ordered a b) [ inl h ↦ go a (b - a) b (omega arith) |
 
 -- upper bounds: with x for X × U, q for Q × U
 square-high : (A H x : ℕ) → 1000 * A ≤ 501 * H → 1000 * (H * H) ≤ 1003 * x → 1000 * (A * A) ≤ 252 * x
-square-high A H x a h = go (A * A) (H * H) (omega (arith, mul_le_mul a a)) h
+square-high A H x a h = go (A * A) (H * H) (omega (arith, mul-le-mul a a)) h
   where
     go : (a h : ℕ) → 1000000 * a ≤ 251001 * h → 1000 * h ≤ 1003 * x → 1000 * a ≤ 252 * x
     go a h k l = omega arith
@@ -50,7 +50,7 @@ times : (c a b m n : ℕ) → c * a ≤ m * n → c * (a * b) ≤ m * (n * b)
 times c a b m n h = omega (arith, mul-le-mul_right b h)
 
 back : (c a b m n : ℕ) → 0 < b → c * (a * b) ≤ m * (n * b) → c * a ≤ m * n
-back c a b m n p h = le_of_mul_le_mul_right {k = b} (omega arith) p
+back c a b m n p h = le_of_mul-le-mul_right {k = b} (omega arith) p
 
 million_of : (U : ℕ) → 1000000000 ≤ U → 1000000 ≤ U
 million_of U b = omega arith
@@ -97,13 +97,13 @@ module _ (U X D H S A Q T K : ℕ) (big : 1000000000 ≤ U) (v : Divisors U X D 
     square-low = go K H A U X (positive_of U (million_of U big)) error-low v.over
       where
         go : (K H A U X : ℕ) → 0 < U → 1996 * (K * H) ≤ 1000 * (A * U) → 1000 * (X * U) ≤ 1003 * (H * H) → 3972 * (K * K * X) ≤ 1000 * (A * A * U)
-        go K H A U X p e o = le_of_mul_le_mul_right {k = U} (omega (arith, mul_le_mul e e, mul-le-mul_right (K * K) o)) p
+        go K H A U X p e o = le_of_mul-le-mul_right {k = U} (omega (arith, mul-le-mul e e, mul-le-mul_right (K * K) o)) p
 
     square-wide : U * X ≤ 17 * (A * A)
     square-wide = go K A U X (positive_of U (million_of U big)) square-low (le_of_lt far)
       where
         go : (K A U X : ℕ) → 0 < U → 3972 * (K * K * X) ≤ 1000 * (A * A * U) → U ≤ 8 * K → U * X ≤ 17 * (A * A)
-        go K A U X p s f = le_of_mul_le_mul_right {k = U} (omega (arith, mul-le-mul_right X (mul_le_mul f f))) p
+        go K A U X p s f = le_of_mul-le-mul_right {k = U} (omega (arith, mul-le-mul_right X (mul-le-mul f f))) p
 
     product-low : 998 * (A * A) ≤ 1000 * (T * D)
     product-low =
@@ -132,7 +132,7 @@ module _ (U X D H S A Q T K : ℕ) (big : 1000000000 ≤ U) (v : Divisors U X D 
     term-low = go K T U (positive_of U (million_of U big)) term-square
       where
         go : (K T U : ℕ) → 0 < U → 1979 * (K * K) ≤ 1000 * (T * U) → 15832 * K ≤ 16000 * T + 1979 * U
-        go K T U p s = le_of_mul_le_mul_right {k = U} (omega (arith, square_above (4 * K) U)) p
+        go K T U p s = le_of_mul-le-mul_right {k = U} (omega (arith, square_above (4 * K) U)) p
 
 -- ---- a sixth and the term, less the skew: Z is a sixth, R the rounded sum
 

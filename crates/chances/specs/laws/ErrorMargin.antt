@@ -1,16 +1,16 @@
 -- How far the error can be from 0 beside the new spacing: whole numbers only, in units of the smallest double; U units are 1.
 -- H is the new spacing, E the expectation, Q their quotient, N the middle, C the centre, A the error, each in size. Assumes nothing.
 use Rattle.std.specs.Prelude.{ℕ, ◌+◌, ◌*◌, ◌≤◌}
-use Rattle.std.proofs.Common.{mul-le-mul_left, mul-le-mul_right, le_of_mul_le_mul_right, arith}
+use Rattle.std.proofs.Common.{mul-le-mul_left, mul-le-mul_right, le_of_mul-le-mul_right, arith}
 use Rattle.chances.specs.laws.Near.{Near, apart, fine-over, fine-under, rough_over}
 
 upper_at : (U H E Q N : ℕ) → 8589934592 ≤ U → 8589934592 * (E * U) ≤ 8589934592 * (Q * H) + E * U + 8589934592 * H → 2 * Q + U ≤ 2 * U * (N + 1)
     → 8589934592 * E ≤ E + 8589934592 * (H * N) + 4294967296 * H + H
-upper_at U H E Q N b q h = le_of_mul_le_mul_right {k = U} (omega (arith, mul-le-mul_right H h, mul-le-mul_right H b)) (omega arith)
+upper_at U H E Q N b q h = le_of_mul-le-mul_right {k = U} (omega (arith, mul-le-mul_right H h, mul-le-mul_right H b)) (omega arith)
 
 lower_at : (U H E Q N : ℕ) → 8589934592 ≤ U → 8589934592 * (Q * H) ≤ 8589934592 * (E * U) + E * U + 8589934592 * H → 2 * U * N ≤ 2 * Q + U
     → 8589934592 * (H * N) ≤ E + 8589934592 * E + 4294967296 * H + H
-lower_at U H E Q N b q h = le_of_mul_le_mul_right {k = U} (omega (arith, mul-le-mul_right H h, mul-le-mul_right H b)) (omega arith)
+lower_at U H E Q N b q h = le_of_mul-le-mul_right {k = U} (omega (arith, mul-le-mul_right H h, mul-le-mul_right H b)) (omega arith)
 
 -- with G for H × N
 far_at : (H E G : ℕ) → G ≤ 1000000 * H → 8589934592 * E ≤ E + 8589934592 * G + 4294967296 * H + H → E ≤ 1000001 * H
@@ -31,7 +31,7 @@ step_at_lem x z a b H f n l h = last x z H (join (8589934592 * x) (8589934592 * 
     join x z a b H f n l h = omega arith
 
     last : (x z H : ℕ) → 8589934592 * x ≤ 8589934592 * z + 4294967296 * H + 2000003 * H → 4096 * x ≤ 4096 * z + 2049 * H
-    last x z H h = le_of_mul_le_mul_right {k = 2097152} (omega (arith, h)) (omega arith)
+    last x z H h = le_of_mul-le-mul_right {k = 2097152} (omega (arith, h)) (omega arith)
 
 apart_at : (H E C : ℕ) → 4096 * E ≤ 4096 * C + 2049 * H → 4096 * C ≤ 4096 * E + 2049 * H → 4096 * apart E C ≤ 2049 * H
 apart_at H E C h k = omega arith

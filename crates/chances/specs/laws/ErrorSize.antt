@@ -18,8 +18,8 @@ use Rattle.floats.specs.Answers.{plus_zero}
 use Rattle.floats.specs.Whole.{whole_of, rounded}
 use Rattle.floats.specs.laws.Order as order
 use Rattle.floats.specs.laws.Order.{number_of-finite, le_total, le_of_lt, le_of_not_lt, neg_anti, T-of_not}
-use Rattle.floats.specs.laws.Rounding.{round_neg, round-signed, number_of-signed}
-use Rattle.floats.specs.laws.Signs.{mul_above, mul_below, div_above, div_below}
+use Rattle.floats.specs.laws.Rounding.{round-neg, round-signed, number_of-signed}
+use Rattle.floats.specs.laws.Signs.{mul-above, mul-below, div-above, div_below}
 use Rattle.floats.specs.laws.Arithmetic as arithmetic
 use Rattle.floats.specs.laws.Cuts.{whole-nil, whole_pos, whole-finite}
 use Rattle.floats.specs.laws.Whole.{rounded-value, rounded-mono, rounded-whole}
@@ -78,7 +78,7 @@ few-signed false n low high =
 few-signed true n low high =
     let m = round binary64 true n 1 in
     let l : T (le (neg million) m) = le_of_not_lt m (neg million) (number_of-signed true m (round-signed binary64 true n 1)) (unfold neg in tt) (T-of_not (lt m (neg million)) low) in
-    few_of n (subst (λ (z : Float). T (le z million)) (sym (round_neg binary64 true n 1)) (unfold neg in neg_anti (neg million) m l))
+    few_of n (subst (λ (z : Float). T (le z million)) (sym (round-neg binary64 true n 1)) (unfold neg in neg_anti (neg million) m l))
 
 few-middles : (s : Bool) (n : ℕ) → too_far (whole_of s n) ≡ false → n ≤ 1000000
 few-middles s n near = elim (eq-zero-or-pos n) [
@@ -147,12 +147,12 @@ module _ (h x : Float) (H E : ℕ) (hc : Counts h H) (wide : 8589934592 ≤ H) (
   side = elim (le_total plus_zero x tt (number_of-finite x xc.is_finite)) [
     | inl l ↦
         above_both l
-        (mul_above binary64 h (rounded q) hc.is_finite m_finite h_above
-        (unfold rounded in rounded-mono plus_zero q tt fq (div_above binary64 x h xc.is_finite hc.is_finite l hz)))
+        (mul-above binary64 h (rounded q) hc.is_finite m_finite h_above
+        (unfold rounded in rounded-mono plus_zero q tt fq (div-above binary64 x h xc.is_finite hc.is_finite l hz)))
     | inr l ↦
         below_both l
         (rw (arithmetic.mul_comm binary64 h (rounded q))
-        (mul_below binary64 (rounded q) h m_finite hc.is_finite
+        (mul-below binary64 (rounded q) h m_finite hc.is_finite
         (unfold rounded in rounded-mono q plus_zero fq tt (div_below binary64 x h xc.is_finite hc.is_finite l hz)) h_above))
   ]
 

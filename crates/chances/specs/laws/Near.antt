@@ -2,16 +2,16 @@
 -- A double is counted in units of the smallest double: `Counts x X` says that x is X units in size, whatever its sign.
 -- `Makes x n c` says that x is a count of units near n / c. Assumes nothing.
 use Rattle.std.specs.Prelude.{◌≡◌, refl, ◌⊎◌, Bool, true, false, ℕ, ◌+◌, ◌-◌, ◌*◌, ◌/◌, ◌^◌, ◌≤◌, ◌<◌, T, Float}
-use Rattle.std.proofs.Common.{sym, ap, ◌∙◌, subst, inl, inr, le_trans, le_of_eq, mul_assoc, mul_comm, mul_left_comm, mul-one, mul-pos, mul-le-mul_right, le_of_mul_le_mul_right, le-div_iff_mul-le, arith, pow-add, pow_pos}
+use Rattle.std.proofs.Common.{sym, ap, ◌∙◌, subst, inl, inr, le_trans, le_of_eq, mul_assoc, mul_comm, mul_left_comm, mul-one, mul-pos, mul-le-mul_right, le_of_mul-le-mul_right, le-div_iff_mul-le, arith, pow-add, pow_pos}
 use Rattle.std.specs.Float.{nan, inf, fin, binary64}
 use Rattle.std.specs.Float.Ieee.{fits, size, round, neg}
 use Rattle.std.specs.Float.Ieee.Digits.{size_reaches}
 use Rattle.std.specs.Float.Ieee.Order.{drop, kept}
 use Rattle.std.specs.Float.Ieee.Positive.{num, den, value→cross}
 use Rattle.std.specs.Float.Ieee.Scale.{finite, grid, round_val, round_under}
-use Rattle.floats.specs.laws.Rounding.{Rounds, above, under, round_neg}
+use Rattle.floats.specs.laws.Rounding.{Rounds, above, under, round-neg}
 use Rattle.rounded.specs.laws.RoundToOdd.{ordered}
-use Rattle.rounded.specs.laws.Midpoints.{Within, closest_within}
+use Rattle.rounded.specs.laws.Midpoints.{Within, closest-within}
 use Rattle.rounded.specs.laws.Sized.{sized}
 
 -- g is n / c, rounded to 53 binary digits or to a whole number.
@@ -44,7 +44,7 @@ grid-near : (n c : ℕ) → 0 < c → Near n c (kept 53 n c * 2 ^ drop 53 n c)
 grid-near n c C =
     let k = drop 53 n c in
     let q = kept 53 n c in
-    let w : Within n (c * 2 ^ k) (q * (c * 2 ^ k)) = closest_within n (c * 2 ^ k) (mul-pos C (pow_pos k)) in
+    let w : Within n (c * 2 ^ k) (q * (c * 2 ^ k)) = closest-within n (c * 2 ^ k) (mul-pos C (pow_pos k)) in
     let e : q * (c * 2 ^ k) ≡ q * 2 ^ k * c = ap (λ (z : ℕ). q * z) (mul_comm c (2 ^ k)) ∙ sym (mul_assoc q (2 ^ k) c) in
     near_of n c (q * 2 ^ k) (c * 2 ^ k)
     (subst (λ (z : ℕ). 2 * z ≤ 2 * n + c * 2 ^ k) e w.not_over)
@@ -55,8 +55,8 @@ grid-near n c C =
 near_same : (n c m d g : ℕ) → 0 < c → n * d ≡ m * c → Near n c g → Near m d g
 near_same n c m d g C e h =
     record {
-      over = le_of_mul_le_mul_right {k = c} (omega (arith, e, mul-le-mul_right d h.over)) C;
-      under = le_of_mul_le_mul_right {k = c} (omega (arith, e, mul-le-mul_right d h.under)) C;
+      over = le_of_mul-le-mul_right {k = c} (omega (arith, e, mul-le-mul_right d h.over)) C;
+      under = le_of_mul-le-mul_right {k = c} (omega (arith, e, mul-le-mul_right d h.under)) C;
     }
 
 -- ---- the same more roughly, in shorter numbers: one part in 2^33, and one part in 2000
@@ -65,13 +65,13 @@ pub fine-over : (n c g : ℕ) → Near n c g → 8589934592 * (g * c) ≤ 858993
 fine-over n c g h = go (g * c) h.over
   where
     go : (x : ℕ) → 2 ^ 53 * x ≤ 2 ^ 53 * n + n + 2 ^ 52 * c → 8589934592 * x ≤ 8589934592 * n + n + 8589934592 * c
-    go x o = le_of_mul_le_mul_right {k = 1048576} (omega (arith, o)) (omega arith)
+    go x o = le_of_mul-le-mul_right {k = 1048576} (omega (arith, o)) (omega arith)
 
 pub fine-under : (n c g : ℕ) → Near n c g → 8589934592 * n ≤ 8589934592 * (g * c) + n + 8589934592 * c
 fine-under n c g h = go (g * c) h.under
   where
     go : (x : ℕ) → 2 ^ 53 * n ≤ 2 ^ 53 * x + n + 2 ^ 52 * c → 8589934592 * n ≤ 8589934592 * x + n + 8589934592 * c
-    go x o = le_of_mul_le_mul_right {k = 1048576} (omega (arith, o)) (omega arith)
+    go x o = le_of_mul-le-mul_right {k = 1048576} (omega (arith, o)) (omega arith)
 
 pub rough_over : (n c g : ℕ) → Near n c g → 2000 * (g * c) ≤ 2001 * n + 2000 * c
 rough_over n c g h = omega (arith, h.over)
@@ -96,26 +96,26 @@ makes_same x n c m d C e h = record { count = h.count; counts = h.counts; near =
 pub counted : (x : Float) → T (fits binary64 x) → T (finite x) → (X : ℕ) × Counts x X
 counted x t f = let s = sized x t f in (s.digits * 2 ^ s.places, record { is_finite = f; units = s.value })
 
-neg_num : (x : Float) → num (neg x) ≡ num x
+neg-num : (x : Float) → num (neg x) ≡ num x
 unfolding neg
-neg_num nan = refl
-neg_num (inf s) = refl
-neg_num (fin s m e) = refl
+neg-num nan = refl
+neg-num (inf s) = refl
+neg-num (fin s m e) = refl
 
-neg_den : (x : Float) → den (neg x) ≡ den x
+neg-den : (x : Float) → den (neg x) ≡ den x
 unfolding neg
-neg_den nan = refl
-neg_den (inf s) = refl
-neg_den (fin s m e) = refl
+neg-den nan = refl
+neg-den (inf s) = refl
+neg-den (fin s m e) = refl
 
-neg_back : (x : Float) → T (finite (neg x)) → T (finite x)
+neg-back : (x : Float) → T (finite (neg x)) → T (finite x)
 unfolding neg
-neg_back nan h = h
-neg_back (inf s) h = h
-neg_back (fin s m e) h = tt
+neg-back nan h = h
+neg-back (inf s) h = h
+neg-back (fin s m e) h = tt
 
-neg_counts : (x : Float) (X : ℕ) → T (finite (neg x)) → Counts x X → Counts (neg x) X
-neg_counts x X f h = record { is_finite = f; units = rw (neg_num x, neg_den x) h.units }
+neg-counts : (x : Float) (X : ℕ) → T (finite (neg x)) → Counts x X → Counts (neg x) X
+neg-counts x X f h = record { is_finite = f; units = rw (neg-num x, neg-den x) h.units }
 
 plus_makes : (a c : ℕ) → 0 < c → T (finite (round binary64 false a c)) → Makes (round binary64 false a c) (a * 2 ^ 1074) c
 plus_makes a c C f =
@@ -128,11 +128,11 @@ plus_makes a c C f =
 pub round_makes : (s : Bool) (a c : ℕ) → 0 < c → T (finite (round binary64 s a c)) → Makes (round binary64 s a c) (a * 2 ^ 1074) c
 round_makes false a c C f = plus_makes a c C f
 round_makes true a c C f =
-    let e : round binary64 true a c ≡ neg (round binary64 false a c) = round_neg binary64 false a c in
+    let e : round binary64 true a c ≡ neg (round binary64 false a c) = round-neg binary64 false a c in
     let g : T (finite (neg (round binary64 false a c))) = subst (λ (z : Float). T (finite z)) e f in
-    let p = plus_makes a c C (neg_back (round binary64 false a c) g) in
+    let p = plus_makes a c C (neg-back (round binary64 false a c) g) in
     subst (λ (z : Float). Makes z (a * 2 ^ 1074) c) (sym e)
-    (record { count = p.count; counts = neg_counts (round binary64 false a c) p.count g p.counts; near = p.near })
+    (record { count = p.count; counts = neg-counts (round binary64 false a c) p.count g p.counts; near = p.near })
 
 -- ---- the size of p - n
 abbrev pub apart : ℕ → ℕ → ℕ

@@ -9,7 +9,7 @@ use Rattle.std.specs.Float.Ieee.Scale.{finite}
 use Rattle.floats.specs.Answers.{plus_zero}
 use Rattle.floats.specs.laws.Fractions.{pl, mi, on_finite}
 use Rattle.floats.specs.laws.Order.{le_of_lt}
-use Rattle.floats.specs.laws.Exactly.{add_rounds, sub_rounds, mul_rounds, div_rounds, mi_of_above, pl_of_below, pl_of_positive}
+use Rattle.floats.specs.laws.Exactly.{add_rounds, sub-rounds, mul-rounds, div-rounds, mi_of_above, pl_of_below, pl_of_positive}
 use Rattle.lattice.specs.laws.Shares.{size-parts, pl_of_above}
 use Rattle.chances.specs.laws.Near.{Counts, Makes, makes_same, apart, rounds_makes}
 
@@ -29,7 +29,7 @@ product-apart = on_finite (λ (x y : Float). apart (pl x * pl y + mi x * mi y) (
 pub mul_raw : (x y : Float) → T (finite x) → T (finite y) → T (finite (mul binary64 x y)) → Makes (mul binary64 x y) (num x * num y * 2 ^ 1074) (den x * den y)
 mul_raw x y p q f =
     subst (λ (z : ℕ). Makes (mul binary64 x y) (z * 2 ^ 1074) (den x * den y)) (product-apart x y p q)
-    (rounds_makes (mul binary64 x y) (pl x * pl y + mi x * mi y) (pl x * mi y + mi x * pl y) (den x * den y) (mul-pos (den_pos x) (den_pos y)) (mul_rounds binary64 x y p q) f)
+    (rounds_makes (mul binary64 x y) (pl x * pl y + mi x * mi y) (pl x * mi y + mi x * pl y) (den x * den y) (mul-pos (den_pos x) (den_pos y)) (mul-rounds binary64 x y p q) f)
 
 pub mul_makes : (x y : Float) (X Y : ℕ) → Counts x X → Counts y Y → T (finite (mul binary64 x y)) → Makes (mul binary64 x y) (X * Y) (2 ^ 1074)
 mul_makes x y X Y p q f =
@@ -69,7 +69,7 @@ div_makes x y X Y p q z f =
     (over-cross (num x) X (den x) (num y) Y (den y) (2 ^ 1074) p.units q.units)
     (subst (λ (k : ℕ). Makes (div binary64 x y) (num x * den y * 2 ^ 1074) (k * den x)) n
     (subst (λ (k : ℕ). Makes (div binary64 x y) (k * 2 ^ 1074) (pl y * den x)) (quotient-apart x y p.is_finite q.is_finite)
-    (rounds_makes (div binary64 x y) (pl x * den y) (mi x * den y) (pl y * den x) (mul-pos (pl_of_positive y q.is_finite z) (den_pos x)) (div_rounds binary64 x y p.is_finite q.is_finite z) f)))
+    (rounds_makes (div binary64 x y) (pl x * den y) (mi x * den y) (pl y * den x) (mul-pos (pl_of_positive y q.is_finite z) (den_pos x)) (div-rounds binary64 x y p.is_finite q.is_finite z) f)))
 
 -- ---- the sum of two that are not below 0
 pub add_makes : (x y : Float) (X Y : ℕ) → Counts x X → Counts y Y → T (le plus_zero x) → T (le plus_zero y) → T (finite (add binary64 x y)) → Makes (add binary64 x y) (X + Y) 1
@@ -105,7 +105,7 @@ sub_makes x y X Y p q o f =
     makes_same (sub binary64 x y) (apart (num x * den y) (num y * den x) * 2 ^ 1074) (den x * den y) (apart X Y) 1 (mul-pos (den_pos x) (den_pos y))
     (mul-one _ ∙ apart-scale (num x * den y) (num y * den x) (2 ^ 1074) ∙ (λ i. apart (left i) (right i)) ∙ sym (apart-scale X Y (den x * den y)))
     (subst (λ (z : ℕ). Makes (sub binary64 x y) (z * 2 ^ 1074) (den x * den y)) (difference-apart x y p.is_finite q.is_finite o)
-    (rounds_makes (sub binary64 x y) (pl x * den y + mi y * den x) (mi x * den y + pl y * den x) (den x * den y) (mul-pos (den_pos x) (den_pos y)) (sub_rounds binary64 x y p.is_finite q.is_finite) f))
+    (rounds_makes (sub binary64 x y) (pl x * den y + mi y * den x) (mi x * den y + pl y * den x) (den x * den y) (mul-pos (den_pos x) (den_pos y)) (sub-rounds binary64 x y p.is_finite q.is_finite) f))
   where
     left : num x * den y * 2 ^ 1074 ≡ X * (den x * den y)
     left = mul_right_comm (num x) (den y) (2 ^ 1074) ∙ ap (λ (z : ℕ). z * den y) p.units ∙ mul_assoc X (den x) (den y)

@@ -1,7 +1,7 @@
 -- What a step's new spacing and its two divisors are, counted in units of the smallest double, for every variance above 2^−52. Assumes nothing.
 use Rattle.std.specs.Prelude.{◌≡◌, false, not, ℕ, ◌*◌, ◌^◌, ◌≤◌, ◌<◌, T, Float}
 use Rattle.std.proofs.Math.Path.{refl, subst}
-use Rattle.std.proofs.Common.{sym, ◌∙◌, inl, inr, mul_assoc, mul_le_mul, le_of_lt as less-le, mul-pos, mul-le-mul_right, le_of_mul_le_mul_right, lit≤, lit<, pow_pos}
+use Rattle.std.proofs.Common.{sym, ◌∙◌, inl, inr, mul_assoc, mul-le-mul, le_of_lt as less-le, mul-pos, mul-le-mul_right, le_of_mul-le-mul_right, lit≤, lit<, pow_pos}
 use Rattle.std.proofs.Math.Nat.{eq_of_mul-eq-mul_right}
 use native.Mathlib.Omega.{arith}
 use Rattle.std.specs.Float.Ieee.{binary64, mul, le, lt, of_bits, of_int}
@@ -12,7 +12,7 @@ use Rattle.floats.specs.Answers.{plus_zero, two}
 use Rattle.floats.specs.laws.Fractions.{decide, leq_of_le}
 use Rattle.floats.specs.laws.Order.{number_of-finite, le_trans, le_of_lt, lt_of_not_le}
 use Rattle.floats.specs.laws.Exactly.{mi_of_above, pl_of_below}
-use Rattle.floats.specs.laws.Signs.{mul_above}
+use Rattle.floats.specs.laws.Signs.{mul-above}
 use Rattle.floats.specs.laws.Arithmetic.{mul_mono_left}
 use Rattle.floats.specs.laws.Finite.{finite_of_mul}
 use Rattle.rounded.specs.Root.{root_of}
@@ -61,13 +61,13 @@ above_of-counts x X p P h = elim (decide (le x plus_zero)) [
 -- ---- numbers only
 
 start_of : (U n d X : ℕ) → n * U ≡ X * d → 0 < d → d ≤ n * 2 ^ 52 → U ≤ 2 ^ 52 * X
-start_of U n d X e D h = le_of_mul_le_mul_right {k = d} (omega (arith, e, mul-le-mul_right U h)) D
+start_of U n d X e D h = le_of_mul-le-mul_right {k = d} (omega (arith, e, mul-le-mul_right U h)) D
 
 large_of : (U X : ℕ) → 2 ^ 92 ≤ U → U ≤ 2 ^ 52 * X → 2 ^ 40 ≤ X
 large_of U X b s = omega arith
 
 wide_of : (U X H : ℕ) → 2 ^ 40 ≤ U → 2 ^ 40 ≤ X → 1000 * (X * U) ≤ 1003 * (H * H) → 8589934592 ≤ H
-wide_of U X H u x h = elim (ordered 8589934592 H) [ inl l ↦ l | inr l ↦ absurd (clash (X * U) (H * H) (omega (arith, mul_le_mul x u)) (omega (arith, mul_le_mul (less-le l) (less-le l))) h) ]
+wide_of U X H u x h = elim (ordered 8589934592 H) [ inl l ↦ l | inr l ↦ absurd (clash (X * U) (H * H) (omega (arith, mul-le-mul x u)) (omega (arith, mul-le-mul (less-le l) (less-le l))) h) ]
   where
     clash : (p s : ℕ) → 2 ^ 80 ≤ p → s ≤ 2 ^ 66 → 1000 * p ≤ 1003 * s → ⊥
     clash p s a b c = omega arith
@@ -97,11 +97,11 @@ module _ (v : Float) (above : T (lt epsilon v)) (fx : T (finite (mul binary64 v 
 
   pub x_above : T (le plus_zero x)
   unfolding of_bits of_int le
-  x_above = mul_above binary64 v (float 3) fv tt v_above tt
+  x_above = mul-above binary64 v (float 3) fv tt v_above tt
 
   d_above : T (le plus_zero d)
   unfolding of_bits of_int le
-  d_above = mul_above binary64 v (float 6) fv tt v_above tt
+  d_above = mul-above binary64 v (float 6) fv tt v_above tt
 
   eps_x : T (le epsilon x)
   unfolding of_bits of_int le mul
@@ -204,7 +204,7 @@ module _ (v : Float) (above : T (lt epsilon v)) (fx : T (finite (mul binary64 v 
 
     s_above : T (le plus_zero (mul binary64 h two))
     unfolding of_bits le
-    s_above = mul_above binary64 h two h_finite tt h_above tt
+    s_above = mul-above binary64 h two h_finite tt h_above tt
 
     s_bounds : (1998 * H ≤ 1000 * s_makes.count) × (0 < s_makes.count)
     s_bounds = scale-over H s_makes.count (spacing-million H h_wide) s_makes.near

@@ -1,7 +1,7 @@
 -- What the new spacing and the two divisors are beside the variance: whole numbers only, in units of the smallest double; U units are 1.
 -- X is three times the variance, H the new spacing, D the divisor of the square, S the divisor of the error. Assumes nothing.
 use Rattle.std.specs.Prelude.{ℕ, ◌+◌, ◌*◌, ◌≤◌, ◌<◌}
-use Rattle.std.proofs.Common.{mul_le_mul, mul-le-mul_right, le_of_mul_le_mul_right, arith}
+use Rattle.std.proofs.Common.{mul-le-mul, mul-le-mul_right, le_of_mul-le-mul_right, arith}
 use Rattle.rounded.specs.laws.Root.{IsRoot, root-most}
 use Rattle.rounded.specs.laws.RootValue.{Twice, whole, cut}
 use Rattle.chances.specs.laws.Near.{Near, rough_over, rough_under}
@@ -32,10 +32,10 @@ spacing-under : (r w H : ℕ) → 1000000 < r + 1 → w ≤ 2 * r + 1 → 2000 *
 spacing-under r w H l d n = omega arith
 
 square_over_at : (n r H : ℕ) → n < (r + 1) * (r + 1) → 1998 * (r + 1) ≤ 2000 * H → 1000 * n ≤ 1003 * (H * H)
-square_over_at n r H h l = omega (arith, mul_le_mul l l)
+square_over_at n r H h l = omega (arith, mul-le-mul l l)
 
 square_under_at : (n r H : ℕ) → r * r ≤ n → 2000 * H ≤ 2002 * r → 1000 * (H * H) ≤ 1003 * n
-square_under_at n r H h l = omega (arith, mul_le_mul l l)
+square_under_at n r H h l = omega (arith, mul-le-mul l l)
 
 module _ (n r w H : ℕ) (large : 1099511627776 ≤ n) (root : IsRoot r n) (twice : Twice r n w) (near : Near w 2 H) where
   root-large : 1000000 < r + 1
@@ -57,13 +57,13 @@ divisor_over_at n c x d l h k = omega arith
 
 module _ (n c X D : ℕ) (pos : 0 < c) (large : 1000000 ≤ X) (x : Near n c X) (d : Near (2 * n) c D) where
   pub divisor-under : 1000 * D ≤ 2003 * X
-  divisor-under = le_of_mul_le_mul_right {k = c} (regroup (divisor_under_at n c (X * c) (D * c) (mul-le-mul_right c large) (rough_under n c X x) (rough_over (2 * n) c D d))) pos
+  divisor-under = le_of_mul-le-mul_right {k = c} (regroup (divisor_under_at n c (X * c) (D * c) (mul-le-mul_right c large) (rough_under n c X x) (rough_over (2 * n) c D d))) pos
     where
       regroup : 1000 * (D * c) ≤ 2003 * (X * c) → 1000 * D * c ≤ 2003 * X * c
       regroup h = omega arith
 
   pub divisor-over : 1997 * X ≤ 1000 * D
-  divisor-over = le_of_mul_le_mul_right {k = c} (regroup (divisor_over_at n c (X * c) (D * c) (mul-le-mul_right c large) (rough_over n c X x) (rough_under (2 * n) c D d))) pos
+  divisor-over = le_of_mul-le-mul_right {k = c} (regroup (divisor_over_at n c (X * c) (D * c) (mul-le-mul_right c large) (rough_over n c X x) (rough_under (2 * n) c D d))) pos
     where
       regroup : 1997 * (X * c) ≤ 1000 * (D * c) → 1997 * X * c ≤ 1000 * D * c
       regroup h = omega arith

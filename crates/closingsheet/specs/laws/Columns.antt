@@ -1,6 +1,6 @@
 -- Each field of a line stands in its own columns. Assumes nothing.
 use Rattle.std.specs.Prelude.{ℕ, zero, suc, ◌+◌, ◌-◌, ◌/◌, ◌%◌, ◌^◌, ◌≤◌, ◌<◌, ◌≡◌, refl, ◌⊎◌, Bool, true, false, cond, List, [], ◌∷◌, eqb, ltb, length, get_or, set, take}
-use Rattle.std.proofs.Common.{sym, ap, ◌∙◌, inl, inr, add-zero, add_suc, suc-add, div-lt_iff_lt-mul, mul_comm, lt_of_lt_of_le, le_of_eq, eq-or-lt_of_le, arith, lt-ltb, ne_eqb, length-set, get_or-take, get_or-set_same, get_or-set_other, length-take-le}
+use Rattle.std.proofs.Common.{sym, ap, ◌∙◌, inl, inr, add-zero, add-suc, suc-add, div-lt_iff_lt-mul, mul_comm, lt_of_lt_of_le, le_of_eq, eq-or-lt_of_le, arith, lt-ltb, ne_eqb, length-set, get_or-take, get_or-set_same, get_or-set_other, length-take-le}
 use Rattle.std.proofs.Math.Nat.{pow-succ'}
 use Rattle.std.proofs.lemmas.List.{length-replicate, get_or-replicate}
 use Rattle.floats.specs.declared.Refusal.{Refusal}
@@ -35,13 +35,13 @@ put-there (b ∷ text) line at zero h l =
     ∙ put_other text (set line at b) (suc at) at (inl (omega arith))
     ∙ get_or-set_same line at b 0 (omega arith)
 put-there (b ∷ text) line at (suc i) h l =
-    ap (λ (z : ℕ). get_or (put_at (set line at b) (suc at) text) z 0) (add_suc at i ∙ sym (suc-add at i))
+    ap (λ (z : ℕ). get_or (put_at (set line at b) (suc at) text) z 0) (add-suc at i ∙ sym (suc-add at i))
     ∙ put-there text (set line at b) (suc at) i (omega arith) (omega (arith, length-set line at b))
 
-put_length : (text line : List ℕ) (at : ℕ) → length (put_at line at text) ≡ length line
+put-length : (text line : List ℕ) (at : ℕ) → length (put_at line at text) ≡ length line
 unfolding put_at
-put_length [] line at = refl
-put_length (b ∷ text) line at = put_length text (set line at b) (suc at) ∙ length-set line at b
+put-length [] line at = refl
+put-length (b ∷ text) line at = put-length text (set line at b) (suc at) ∙ length-set line at b
 
 -- ---- and so do digits
 
@@ -70,13 +70,13 @@ digits-other (suc count) (suc end) line n i (inr h) =
     ∙ digits-other count end (set line end (48 + n % 10)) (n / 10) i (inr (omega arith))
     ∙ get_or-set_other line end i (48 + n % 10) 0 (λ e. omega arith)
 
-digits_length : (count end : ℕ) (line : List ℕ) (n : ℕ) → length (digits_left count (before line end) n).line ≡ length line
+digits-length : (count end : ℕ) (line : List ℕ) (n : ℕ) → length (digits_left count (before line end) n).line ≡ length line
 unfolding digits_left byte_left
-digits_length zero end line n = refl
-digits_length (suc count) zero line n = digits_length count zero line (n / 10)
-digits_length (suc count) (suc end) line n =
+digits-length zero end line n = refl
+digits-length (suc count) zero line n = digits-length count zero line (n / 10)
+digits-length (suc count) (suc end) line n =
     ap (λ (z : Leftward). length z.line) (digit_is count end line n)
-    ∙ digits_length count end (set line end (48 + n % 10)) (n / 10)
+    ∙ digits-length count end (set line end (48 + n % 10)) (n / 10)
     ∙ length-set line end (48 + n % 10)
 
 -- A column after the digits depends on that column before them.
@@ -140,7 +140,7 @@ whole-other line end n i h = digits-other (width_of n) end line n i h
 
 pub whole_length : (line : List ℕ) (end n : ℕ) → length (put_whole line end n) ≡ length line
 unfolding whole_left
-whole_length line end n = digits_length (width_of n) end line n
+whole_length line end n = digits-length (width_of n) end line n
 
 whole-alike : (a b : List ℕ) (end n i : ℕ) → length a ≡ length b → i < length a → get_or a i 0 ≡ get_or b i 0 → get_or (put_whole a end n) i 0 ≡ get_or (put_whole b end n) i 0
 unfolding whole_left
@@ -148,12 +148,12 @@ whole-alike a b end n i l h e = digits-alike (width_of n) end a b n i l h e
 
 -- ---- the bond number and the newline
 
-blank_length : length blank_line ≡ 80
-blank_length = length-replicate {A = ℕ} 80 32
+blank-length : length blank_line ≡ 80
+blank-length = length-replicate {A = ℕ} 80 32
 
 module _ (bond : ℕ) where
-  numbered_length : length (numbered bond) ≡ 80
-  numbered_length = put_length (10 ∷ []) (put_whole blank_line 6 bond) 34 ∙ whole_length blank_line 6 bond ∙ blank_length
+  numbered-length : length (numbered bond) ≡ 80
+  numbered-length = put-length (10 ∷ []) (put_whole blank_line 6 bond) 34 ∙ whole_length blank_line 6 bond ∙ blank-length
 
   numbered-bond : (i : ℕ) → i < 34 → get_or (numbered bond) i 0 ≡ get_or (put_whole blank_line 6 bond) i 0
   numbered-bond i h = put_other (10 ∷ []) (put_whole blank_line 6 bond) 34 i (inl h)
@@ -162,21 +162,21 @@ module _ (bond : ℕ) where
   numbered_as_blank i g h = numbered-bond i h ∙ whole-other blank_line 6 bond i (inr g)
 
   numbered-newline : get_or (numbered bond) 34 0 ≡ 10
-  numbered-newline = put-there (10 ∷ []) (put_whole blank_line 6 bond) 34 0 (omega arith) (omega (arith, whole_length blank_line 6 bond, blank_length))
+  numbered-newline = put-there (10 ∷ []) (put_whole blank_line 6 bond) 34 0 (omega arith) (omega (arith, whole_length blank_line 6 bond, blank-length))
 
 -- ---- the line
 
 pub value_columns_lem : (bond count : ℕ) (cell : List ℕ) → count ≤ 99999999 → length cell ≡ 16 → ValueColumns bond count cell (shown_sheet bond count cell).line
 value_columns_lem bond count cell h l =
     record {
-      size = length-take-le 35 filled (omega (arith, filled_length));
+      size = length-take-le 35 filled (omega (arith, filled-length));
       number = λ i p. cut i (omega arith) ∙ put_other cell counted 6 i (inl p) ∙ whole-other (numbered bond) 30 count i (inl (omega (arith, eight-digits count h))) ∙ numbered-bond bond i (omega arith);
-      value = λ i p. cut (6 + i) (omega arith) ∙ put-there cell counted 6 i (omega arith) (omega (arith, counted_length));
+      value = λ i p. cut (6 + i) (omega arith) ∙ put-there cell counted 6 i (omega arith) (omega (arith, counted-length));
       counted =
           λ i p q.
           cut i (omega arith)
           ∙ put_other cell counted 6 i (inr (omega arith))
-          ∙ whole-alike (numbered bond) blank_line 30 count i (numbered_length bond ∙ sym (blank_length)) (omega (arith, numbered_length bond)) (numbered_as_blank bond i (omega arith) (omega arith));
+          ∙ whole-alike (numbered bond) blank_line 30 count i (numbered-length bond ∙ sym (blank-length)) (omega (arith, numbered-length bond)) (numbered_as_blank bond i (omega arith) (omega arith));
       blank = λ i p q. behind i p (omega arith) ∙ numbered_as_blank bond i (omega arith) q ∙ get_or-replicate {A = ℕ} 80 i 32 0 (omega arith);
       newline = behind 34 (omega arith) (omega arith) ∙ numbered-newline bond;
     }
@@ -187,11 +187,11 @@ value_columns_lem bond count cell h l =
     filled : List ℕ
     filled = put_at counted 6 cell
 
-    counted_length : length counted ≡ 80
-    counted_length = whole_length (numbered bond) 30 count ∙ numbered_length bond
+    counted-length : length counted ≡ 80
+    counted-length = whole_length (numbered bond) 30 count ∙ numbered-length bond
 
-    filled_length : length filled ≡ 80
-    filled_length = put_length cell counted 6 ∙ counted_length
+    filled-length : length filled ≡ 80
+    filled-length = put-length cell counted 6 ∙ counted-length
 
     cut : (i : ℕ) → i < 35 → get_or (take 35 filled) i 0 ≡ get_or filled i 0
     cut i p = get_or-take 35 filled i 0 p
@@ -202,58 +202,58 @@ value_columns_lem bond count cell h l =
 pub refused-columns : (bond : ℕ) (q : Refusal) → q.number ≤ 9999 → RefusedColumns bond q.number (refused_sheet bond q).line
 refused-columns bond q h =
     record {
-      size = length-take-le 35 filled (omega (arith, filled_length));
+      size = length-take-le 35 filled (omega (arith, filled-length));
       number = λ i p. front i (omega arith) ∙ numbered-bond bond i (omega arith);
       blank = λ i p r. front i r ∙ numbered_as_blank bond i p (omega arith) ∙ get_or-replicate {A = ℕ} 80 i 32 0 (omega arith);
       refusal =
           λ i p r.
           get_or-take 35 filled i 0 (omega arith)
-          ∙ whole-alike (numbered bond) blank_line 34 q.number i (numbered_length bond ∙ sym (blank_length)) (omega (arith, numbered_length bond)) (numbered_as_blank bond i (omega arith) r);
+          ∙ whole-alike (numbered bond) blank_line 34 q.number i (numbered-length bond ∙ sym (blank-length)) (omega (arith, numbered-length bond)) (numbered_as_blank bond i (omega arith) r);
       newline = get_or-take 35 filled 34 0 (omega arith) ∙ whole-other (numbered bond) 34 q.number 34 (inr (omega arith)) ∙ numbered-newline bond;
     }
   where
     filled : List ℕ
     filled = put_whole (numbered bond) 34 q.number
 
-    filled_length : length filled ≡ 80
-    filled_length = whole_length (numbered bond) 34 q.number ∙ numbered_length bond
+    filled-length : length filled ≡ 80
+    filled-length = whole_length (numbered bond) 34 q.number ∙ numbered-length bond
 
     front : (i : ℕ) → i < 30 → get_or (take 35 filled) i 0 ≡ get_or (numbered bond) i 0
     front i p = get_or-take 35 filled i 0 (omega arith) ∙ whole-other (numbered bond) 34 q.number i (inl (omega (arith, four-digits q.number h)))
 
 -- ---- the value's cell
 
-pub byte_length : (c : Leftward) (b : ℕ) → length (byte_left c b).line ≡ length c.line
+pub byte-length : (c : Leftward) (b : ℕ) → length (byte_left c b).line ≡ length c.line
 unfolding byte_left
-byte_length c b = go (eqb c.end 0)
+byte-length c b = go (eqb c.end 0)
   where
     go : (t : Bool) → length (cond t c (before (set c.line (c.end - 1) b) (c.end - 1))).line ≡ length c.line
     go true = refl
     go false = length-set c.line (c.end - 1) b
 
-minus_length : (c : Leftward) (v : Rounded) → length (minus_left c v).line ≡ length c.line
+minus-length : (c : Leftward) (v : Rounded) → length (minus_left c v).line ≡ length c.line
 unfolding minus_left
-minus_length c v = go v.negative (ltb 0 v.whole) (ltb 0 v.part)
+minus-length c v = go v.negative (ltb 0 v.whole) (ltb 0 v.part)
   where
     go : (t u w : Bool) → length (cond t (cond u (byte_left c 45) (cond w (byte_left c 45) c)) c).line ≡ length c.line
-    go true true w = byte_length c 45
-    go true false true = byte_length c 45
+    go true true w = byte-length c 45
+    go true false true = byte-length c 45
     go true false false = refl
     go false u w = refl
 
-written_length : (v : Rounded) → length (decimals_left (before blank_line 16) 2 v).line ≡ 80
+written-length : (v : Rounded) → length (decimals_left (before blank_line 16) 2 v).line ≡ 80
 unfolding point_left
-written_length v =
-    minus_length (whole_left pointed v.whole) v
+written-length v =
+    minus-length (whole_left pointed v.whole) v
     ∙ whole_length pointed.line pointed.end v.whole
-    ∙ byte_length (digits_left 2 (before blank_line 16) v.part) 46
-    ∙ digits_length 2 16 blank_line v.part
-    ∙ blank_length
+    ∙ byte-length (digits_left 2 (before blank_line 16) v.part) 46
+    ∙ digits-length 2 16 blank_line v.part
+    ∙ blank-length
   where
     pointed : Leftward
     pointed = byte_left (digits_left 2 (before blank_line 16) v.part) 46
 
-pub cell_length : (d : Decimals) → length (cell_of d).cell ≡ 16
+pub cell-length : (d : Decimals) → length (cell_of d).cell ≡ 16
 unfolding on_decimals
-cell_length (Shown v) = length-take-le 16 (decimals_left (before blank_line 16) 2 v).line (omega (arith, written_length v))
-cell_length Beyond = length-replicate {A = ℕ} 16 32
+cell-length (Shown v) = length-take-le 16 (decimals_left (before blank_line 16) 2 v).line (omega (arith, written-length v))
+cell-length Beyond = length-replicate {A = ℕ} 16 32

@@ -1,6 +1,6 @@
 -- A number's digits as they are put, and as they are read back. Assumes nothing.
 use Rattle.std.specs.Prelude.{ℕ, zero, suc, ◌+◌, ◌-◌, ◌*◌, ◌/◌, ◌%◌, ◌^◌, ◌≤◌, ◌<◌, ◌≡◌, refl, ◌⊎◌, Bool, true, false, cond, List, [], ◌∷◌, ◌++◌, eqb, ltb, length, set, replicate}
-use Rattle.std.proofs.Common.{sym, ap, subst, ◌∙◌, inl, inr, add-zero, add_suc, suc-add, lt_of_lt_of_le, le_of_eq, mul_comm, div-lt_iff_lt-mul, arith, lt-ltb, le-ltb, ne_eqb, length-append}
+use Rattle.std.proofs.Common.{sym, ap, subst, ◌∙◌, inl, inr, add-zero, add-suc, suc-add, lt_of_lt_of_le, le_of_eq, mul_comm, div-lt_iff_lt-mul, arith, lt-ltb, le-ltb, ne_eqb, length-append}
 use Rattle.std.proofs.Math.Nat.{pow-succ'}
 use Rattle.std.proofs.Math.Seq.{append_snoc}
 use Rattle.rounded.specs.laws.RoundToOdd.{ordered}
@@ -15,10 +15,10 @@ unfoldable pub numerals : ℕ → ℕ → List ℕ
 numerals zero n = []
 numerals (suc k) n = numerals k (n / 10) ++ ((48 + n % 10) ∷ [])
 
-pub numerals_length : (k n : ℕ) → length (numerals k n) ≡ k
+pub numerals-length : (k n : ℕ) → length (numerals k n) ≡ k
 unfolding numerals
-numerals_length zero n = refl
-numerals_length (suc k) n = length-append (numerals k (n / 10)) ((48 + n % 10) ∷ []) ∙ ap (λ (z : ℕ). z + 1) (numerals_length k (n / 10)) ∙ omega arith
+numerals-length zero n = refl
+numerals-length (suc k) n = length-append (numerals k (n / 10)) ((48 + n % 10) ∷ []) ∙ ap (λ (z : ℕ). z + 1) (numerals-length k (n / 10)) ∙ omega arith
 
 -- ---- as they are put
 
@@ -37,7 +37,7 @@ pub digits_on : (k f n : ℕ) (text : List ℕ) → digits_left k (left (f + k) 
 unfolding digits_left numerals
 digits_on zero f n text = ap (λ (z : ℕ). left z text) (add-zero f)
 digits_on (suc k) f n text =
-    ap (λ (z : ℕ). digits_left k (byte_left (left z text) (48 + n % 10)) (n / 10)) (add_suc f k)
+    ap (λ (z : ℕ). digits_left k (byte_left (left z text) (48 + n % 10)) (n / 10)) (add-suc f k)
     ∙ ap (λ (z : Leftward). digits_left k z (n / 10)) (byte_on (f + k) text (48 + n % 10))
     ∙ digits_on k f (n / 10) ((48 + n % 10) ∷ text)
     ∙ ap (λ (z : List ℕ). left f z) (sym (append_snoc (numerals k (n / 10)) (48 + n % 10) text))
@@ -67,7 +67,7 @@ counted (suc room) count n h = go (ordered 10 n) (counted room (suc count) (n / 
     go (inl g) further =
         record {
           more = suc further.more;
-          is = ap (λ (b : Bool). cond b count (width_from room (suc count) (n / 10))) (le-ltb n 10 g) ∙ further.is ∙ suc-add count further.more ∙ sym (add_suc count further.more);
+          is = ap (λ (b : Bool). cond b count (width_from room (suc count) (n / 10))) (le-ltb n 10 g) ∙ further.is ∙ suc-add count further.more ∙ sym (add-suc count further.more);
           under =
               lt_of_lt_of_le
               ((div-lt_iff_lt-mul {k = 10} {x = n} {y = 10 ^ suc further.more} (omega arith)).0 further.under)

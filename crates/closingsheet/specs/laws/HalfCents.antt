@@ -1,12 +1,12 @@
 -- What is printed of a value lies within half a cent of it, and in the order of the values. Assumes nothing.
 use Rattle.std.specs.Prelude.{ℕ, ◌+◌, ◌-◌, ◌*◌, ◌/◌, ◌%◌, ◌≤◌, ◌<◌, ◌≡◌, refl, ◌⊎◌, Bool, true, false, cond, T, ℤ, Float}
-use Rattle.std.proofs.Common.{sym, ap, subst, ◌∙◌, inl, inr, le_trans, le_of_eq, mul_assoc, add-mul, mul-le-mul_left, le_of_mul_le_mul_right, eq-or-lt_of_le, div-add-mod', mod-lt, arith, lt-ltb, le-ltb}
+use Rattle.std.proofs.Common.{sym, ap, subst, ◌∙◌, inl, inr, le_trans, le_of_eq, mul_assoc, add-mul, mul-le-mul_left, le_of_mul-le-mul_right, eq-or-lt_of_le, div-add-mod', mod-lt, arith, lt-ltb, le-ltb}
 use Rattle.std.specs.Float.{nan, inf, fin}
 use Rattle.std.specs.Float.Ieee.{up, down, le}
 use Rattle.std.specs.Float.Ieee.Fits.{down_pos}
 use Rattle.std.specs.Float.Ieee.Nearest.{closest, closest_mono}
 use Rattle.floats.specs.laws.Fractions.{Leq, leq_of_le}
-use Rattle.rounded.specs.laws.RoundToOdd.{ordered, closest_down, closest_up, closest_tie}
+use Rattle.rounded.specs.laws.RoundToOdd.{ordered, closest_down, closest_up, closest-tie}
 use Rattle.decimal.specs.declared.Decimals.{Decimals}
 use Rattle.decimal.specs.declared.Decimals.TheVariants.{Shown, Beyond}
 use Rattle.decimal.specs.Writing.{in_units}
@@ -66,7 +66,7 @@ module _ (round : ℕ → ℕ → ℕ) (nearest : Nearest round) where
       none : (k : ℕ) (i j : ℤ) → k * up i * down j ≤ 0 → cents k i ≤ 0
       none k i j z =
           le_trans
-          (nearest.mono (100 * (k * up i)) (down i) 0 1 (down_pos i) (omega arith) (omega (arith, le_of_mul_le_mul_right {m = k * up i} {n = 0} {k = down j} (omega arith) (down_pos j))))
+          (nearest.mono (100 * (k * up i)) (down i) 0 1 (down_pos i) (omega arith) (omega (arith, le_of_mul-le-mul_right {m = k * up i} {n = 0} {k = down j} (omega arith) (down_pos j))))
           (omega (arith, nearest.not_above_lem 0 1 (omega arith)))
 
       go : (s t : Bool) → Leq (fin s m e) (fin t n f) → cond s 0 (cents m e) + cond t (cents n f) 0 ≤ cond t 0 (cents n f) + cond s (cents m e) 0
@@ -77,8 +77,8 @@ module _ (round : ℕ → ℕ → ℕ) (nearest : Nearest round) where
 
 -- ---- a half to even
 
-closest_nearest : Nearest closest
-closest_nearest = record { not_above_lem = λ a c C. (near a c C).0; not_below_lem = λ a c C. (near a c C).1; mono = closest_mono }
+closest-nearest : Nearest closest
+closest-nearest = record { not_above_lem = λ a c C. (near a c C).0; not_below_lem = λ a c C. (near a c C).1; mono = closest_mono }
   where
     near : (a c : ℕ) → 0 < c → (2 * (closest a c * c) ≤ 2 * a + c) × (2 * a ≤ 2 * (closest a c * c) + c)
     near a c C = go (ordered c (a % c * 2))
@@ -101,7 +101,7 @@ closest_nearest = record { not_above_lem = λ a c C. (near a c C).0; not_below_l
         go : (c ≤ a % c * 2) ⊎ (a % c * 2 < c) → (2 * (closest a c * c) ≤ 2 * a + c) × (2 * a ≤ 2 * (closest a c * c) + c)
         go (inr h) = by (a / c) (closest_down a c (a / c) (a % c) (sym parts) h) ((omega (arith, parts)), (omega (arith, parts)))
         go (inl h) = elim (eq-or-lt_of_le h) [
-          | inl e ↦ by (a / c + a / c % 2) (closest_tie a c (a / c) (a % c) (sym parts) (sym e) C) (even (a / c % 2) (omega arith) (sym e))
+          | inl e ↦ by (a / c + a / c % 2) (closest-tie a c (a / c) (a % c) (sym parts) (sym e) C) (even (a / c % 2) (omega arith) (sym e))
           | inr l ↦
               by (a / c + 1) (closest_up a c (a / c) (a % c) (sym parts) l (mod-lt a C))
               (rw one_more_lem ((omega (arith, parts)), (omega (arith, parts, mod-lt a C))))
@@ -144,21 +144,21 @@ printed (fin s m e) w = record { sign = s; size = m; power = e; is = refl; shown
 pub within_half_a_cent : (x : Float) → (value_cell x).wide ≡ false → HalfCent x (read_back (value_cell x).cell)
 within_half_a_cent x w =
     let p = printed x w in
-    subst (λ (y : Float). HalfCent y (read_back (value_cell x).cell)) (sym p.is) (half_cent closest closest_nearest p.sign p.size p.power (read_back (value_cell x).cell) p.shown)
+    subst (λ (y : Float). HalfCent y (read_back (value_cell x).cell)) (sym p.is) (half_cent closest closest-nearest p.sign p.size p.power (read_back (value_cell x).cell) p.shown)
 
 -- A value no lower is printed no lower.
 pub printed-no_lower : (x y : Float) → (value_cell x).wide ≡ false → (value_cell y).wide ≡ false → T (le x y) → NoLower (read_back (value_cell x).cell) (read_back (value_cell y).cell)
 printed-no_lower x y w v h =
     let p = printed x w in
     let q = printed y v in
-    in_order closest closest_nearest p.sign p.size p.power q.sign q.size q.power (read_back (value_cell x).cell) (read_back (value_cell y).cell) p.shown q.shown
+    in_order closest closest-nearest p.sign p.size p.power q.sign q.size q.power (read_back (value_cell x).cell) (read_back (value_cell y).cell) p.shown q.shown
     (subst (λ (z : Float). T (le z (fin q.sign q.size q.power))) p.is (subst (λ (z : Float). T (le x z)) q.is h))
 
 -- ---- an exact half
 
 -- k and a half cents are the even one of k and k + 1.
 even_cent : (a c k : ℕ) → 0 < c → 2 * a ≡ (2 * k + 1) * c → closest a c ≡ k + k % 2
-even_cent a c k C h = closest_tie a c k (a - k * c) (omega (arith, twice)) (omega (arith, twice)) C
+even_cent a c k C h = closest-tie a c k (a - k * c) (omega (arith, twice)) (omega (arith, twice)) C
   where
     twice : (2 * k + 1) * c ≡ 2 * (k * c) + c
     twice = add-mul (2 * k) 1 c ∙ ap (λ (z : ℕ). z + 1 * c) (mul_assoc 2 k c) ∙ omega arith

@@ -8,7 +8,7 @@ use Rattle.std.specs.Float.{nan, inf, fin}
 use Rattle.std.specs.Float.Ieee.{up, down}
 use Rattle.std.specs.Float.Ieee.Fits.{down_pos}
 use Rattle.std.specs.Float.Ieee.Nearest.{closest}
-use Rattle.rounded.specs.laws.RoundToOdd.{ordered, closest_down, closest_up, closest_tie}
+use Rattle.rounded.specs.laws.RoundToOdd.{ordered, closest_down, closest_up, closest-tie}
 use Rattle.decimal.specs.declared.Decimals.{Decimals}
 use Rattle.decimal.specs.declared.Decimals.TheVariants.{Shown, Beyond}
 use Rattle.decimal.specs.Writing.{in_units}
@@ -17,7 +17,7 @@ use Rattle.bondreport.specs.Figures.{put_whole, on_decimals}
 use Rattle.treebasedbondpricer.specs.declared.TreeValue.{TreeValue}
 use Rattle.treebasedbondpricer.specs.declared.TreeValue.TheVariants.{Value, Refused}
 use Rattle.closingsheet.specs.declared.ClosingLine.{ClosingLine}
-use Rattle.closingsheet.specs.laws.Columns.{cell_length}
+use Rattle.closingsheet.specs.laws.Columns.{cell-length}
 use Rattle.closingsheet.specs.declared.ValueCell.{ValueCell}
 use Rattle.closingsheet.specs.Cells.{printed_of, cell_of, value_cell}
 use Rattle.closingsheet.specs.Sheet.{at, numbered, refused_sheet, shown_sheet, value_sheet, no_sheet, answer_sheet, sheet_by, sheet_of}
@@ -64,7 +64,7 @@ module _ (a c : ℕ) (C : 0 < c) where
       go (inl h) = elim (eq-or-lt_of_le h) [
         | inl e ↦
             below _ _ (away_up h) ∙ even_or_next (a / c)
-            ∙ below _ _ (sym (closest_tie a c (a / c) (a % c) (sym parts) (sym e) C))
+            ∙ below _ _ (sym (closest-tie a c (a / c) (a % c) (sym parts) (sym e) C))
         | inr l ↦ below _ _ (away_up h ∙ sym (closest_up a c (a / c) (a % c) (sym parts) l (mod-lt a C)))
       ]
 
@@ -102,15 +102,15 @@ unfolding put_at
 take_put [] line n at h = refl
 take_put (b ∷ text) line n at h = take_put text (set line at b) n (suc at) (omega arith) ∙ take-set-le n line at b h
 
-drop_put : (text line : List ℕ) (n at : ℕ) → at + length text ≤ n → drop n (put_at line at text) ≡ drop n line
+drop-put : (text line : List ℕ) (n at : ℕ) → at + length text ≤ n → drop n (put_at line at text) ≡ drop n line
 unfolding put_at
-drop_put [] line n at h = refl
-drop_put (b ∷ text) line n at h = drop_put text (set line at b) n (suc at) (omega arith) ∙ drop-set-lt n line at b (omega arith)
+drop-put [] line n at h = refl
+drop-put (b ∷ text) line n at h = drop-put text (set line at b) n (suc at) (omega arith) ∙ drop-set-lt n line at b (omega arith)
 
-drop_take : (n m : ℕ) (line : List ℕ) → drop n (take (n + m) line) ≡ take m (drop n line)
-drop_take zero m line = ap (λ (z : ℕ). take z line) (zero-add m)
-drop_take (suc n) m [] = ap (λ (z : ℕ). drop (suc n) (take z [])) (suc-add n m) ∙ sym (take-nil m)
-drop_take (suc n) m (b ∷ line) = ap (λ (z : ℕ). drop (suc n) (take z (b ∷ line))) (suc-add n m) ∙ drop_take n m line
+drop-take : (n m : ℕ) (line : List ℕ) → drop n (take (n + m) line) ≡ take m (drop n line)
+drop-take zero m line = ap (λ (z : ℕ). take z line) (zero-add m)
+drop-take (suc n) m [] = ap (λ (z : ℕ). drop (suc n) (take z [])) (suc-add n m) ∙ sym (take-nil m)
+drop-take (suc n) m (b ∷ line) = ap (λ (z : ℕ). drop (suc n) (take z (b ∷ line))) (suc-add n m) ∙ drop-take n m line
 
 alike : (a : ClosingLine) → Alike a a
 alike a = record { refusal = refl; before = refl; behind = refl }
@@ -123,7 +123,7 @@ module _ (bond count : ℕ) where
   front cell = take-take 6 35 (put_at counted 6 cell) (omega arith) ∙ take_put cell counted 6 6 (omega arith)
 
   back : (cell : List ℕ) → length cell ≤ 16 → drop 22 (shown_sheet bond count cell).line ≡ take 13 (drop 22 counted)
-  back cell h = drop_take 22 13 (put_at counted 6 cell) ∙ ap (λ (z : List ℕ). take 13 z) (drop_put cell counted 22 6 (omega arith))
+  back cell h = drop-take 22 13 (put_at counted 6 cell) ∙ ap (λ (z : List ℕ). take 13 z) (drop-put cell counted 22 6 (omega arith))
 
   cells : (a b : List ℕ) → length a ≤ 16 → length b ≤ 16 → Alike (shown_sheet bond count a) (shown_sheet bond count b)
   cells a b p q = record { refusal = refl; before = front a ∙ sym (front b); behind = back a p ∙ sym (back b q) }
@@ -145,7 +145,7 @@ module _ (bond count : ℕ) where
 
 answers : (bond : ℕ) (answer : TreeValue) → Alike (answer_sheet away_cell bond answer) (answer_sheet value_cell bond answer)
 unfolding answer_sheet
-answers bond (Value x count) = values bond count (away_cell x) (value_cell x) (same_width x) (le_of_eq (cell_length (printed_away x))) (le_of_eq (cell_length (printed_of x)))
+answers bond (Value x count) = values bond count (away_cell x) (value_cell x) (same_width x) (le_of_eq (cell-length (printed_away x))) (le_of_eq (cell-length (printed_of x)))
 answers bond (Refused q) = alike (refused_sheet bond q)
 
 -- For every bond number and every answer of the tree value.

@@ -15,7 +15,7 @@ use Rattle.bondreport.specs.Numbers.{byte_left, digits_left, width_of, whole_lef
 use Rattle.bondreport.specs.Figures.{before, point_left, minus_left, decimals_left}
 use Rattle.closingsheet.specs.Shown.{Decimal, decimal, one_more, read_on, read_back, above, below}
 use Rattle.closingsheet.specs.laws.Columns.{few-digits}
-use Rattle.closingsheet.specs.laws.Digits.{numerals, numerals_length, left, byte_on, digits_on, whole_on, width-under, read-append, read_blanks, one_digit, read_whole}
+use Rattle.closingsheet.specs.laws.Digits.{numerals, numerals-length, left, byte_on, digits_on, whole_on, width-under, read-append, read_blanks, one_digit, read_whole}
 
 -- ---- the columns
 
@@ -69,7 +69,7 @@ module _ (whole part : ℕ) (h : whole ≤ 999999999999) where
       sixteen =
           length-append (replicate k 32) (sign ++ text)
           ∙ ap (λ (z : ℕ). z + length (sign ++ text)) (length-replicate {A = ℕ} k 32)
-          ∙ ap (λ (z : ℕ). k + z) (length-append sign text ∙ ap (λ (z : ℕ). length sign + z) (length-append digits (pointed part []) ∙ ap (λ (z : ℕ). z + 3) (numerals_length (width_of whole) whole)))
+          ∙ ap (λ (z : ℕ). k + z) (length-append sign text ∙ ap (λ (z : ℕ). length sign + z) (length-append digits (pointed part []) ∙ ap (λ (z : ℕ). z + 3) (numerals-length (width_of whole) whole)))
           ∙ e
 
   module _ (g : part < 100) where

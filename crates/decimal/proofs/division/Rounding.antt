@@ -11,12 +11,12 @@ use lib.Ieee.Scale.{round_same}
 use Rattle.rounded.specs.laws.Packing.{Stuck, scale, scale_is}
 use Rattle.rounded.specs.laws.RoundToOdd.{round-odd}
 use Rattle.rounded.proofs.pack.Numbers.{odd_stuck, stuck_ge}
-use Rattle.decimal.specs.laws.Division.{Divided, five_pos, ten_pos, ten_is}
+use Rattle.decimal.specs.laws.Division.{Divided, five_pos, ten-pos, ten_is}
 
 rounds : (s : Bool) (n k whole rest t w : ℕ) → k ≤ 22 → Divided n (5 ^ k) whole rest t → Stuck whole rest w → round binary64 s (w * 2 ^ (2336 - t - k)) (2 ^ scale) ≡ round binary64 s n (10 ^ k)
 rounds s n k whole rest t w h d o =
     sym (round-odd binary64 s (n * 2 ^ t) (5 ^ k) w e scale (five_pos k) (odd_stuck (n * 2 ^ t) (5 ^ k) whole rest w d.reached.same d.reached.less o) (inr (le_trans (omega (arith, d.long)) (stuck_ge whole rest w o))))
-    ∙ round_same binary64 s (n * 2 ^ t * 2 ^ e) (5 ^ k * 2 ^ scale) n (10 ^ k) (mul-pos (five_pos k) (pow_pos scale)) (ten_pos k) same
+    ∙ round_same binary64 s (n * 2 ^ t * 2 ^ e) (5 ^ k * 2 ^ scale) n (10 ^ k) (mul-pos (five_pos k) (pow_pos scale)) (ten-pos k) same
   where
     e : ℕ
     e = 2336 - t - k
@@ -37,4 +37,4 @@ pub rounded : {x : Float} {d whole rest t w : ℕ} (s : Bool) (n k : ℕ) → k 
 rounded {x} {d} {whole} {rest} {t} {w} s n k h e a o r = r ∙ rounds s n k whole rest t w h (subst (λ (z : ℕ). Divided n z whole rest t) e a) o
 
 pub nothing : {x : Float} (s : Bool) (n k : ℕ) → n ≡ 0 → x ≡ round binary64 s (0 * 2 ^ 64) (2 ^ scale) → x ≡ round binary64 s n (10 ^ k)
-nothing s n k z r = r ∙ round_same binary64 s (0 * 2 ^ 64) (2 ^ scale) n (10 ^ k) (pow_pos scale) (ten_pos k) (zero-mul (10 ^ k) ∙ sym (ap (λ (x : ℕ). x * 2 ^ scale) z ∙ zero-mul (2 ^ scale)))
+nothing s n k z r = r ∙ round_same binary64 s (0 * 2 ^ 64) (2 ^ scale) n (10 ^ k) (pow_pos scale) (ten-pos k) (zero-mul (10 ^ k) ∙ sym (ap (λ (x : ℕ). x * 2 ^ scale) z ∙ zero-mul (2 ^ scale)))

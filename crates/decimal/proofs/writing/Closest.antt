@@ -5,7 +5,7 @@ use native.Mathlib.Nat.{mul-one, mul-le-mul_left, div-add-mod', mod-lt}
 use native.Mathlib.Omega.{arith}
 use lib.Pow.{pow_pos, pow_mono}
 use lib.Ieee.Nearest.{closest}
-use Rattle.rounded.specs.laws.RoundToOdd.{closest_down, closest_up, closest_tie}
+use Rattle.rounded.specs.laws.RoundToOdd.{closest_down, closest_up, closest-tie}
 use Rattle.rounded.proofs.pack.Numbers.{unit, unit-is}
 
 module _ (v b : ℕ) (B : 0 < b) where
@@ -16,7 +16,7 @@ module _ (v b : ℕ) (B : 0 < b) where
   up_at h = sym (closest_up v b (v / b) (v % b) (sym (div-add-mod' v b)) (omega arith) (mod-lt v B))
 
   tie_at : 2 * (v % b) ≡ b → v / b + v / b % 2 ≡ closest v b
-  tie_at h = sym (closest_tie v b (v / b) (v % b) (sym (div-add-mod' v b)) (omega arith) B)
+  tie_at h = sym (closest-tie v b (v / b) (v % b) (sym (div-add-mod' v b)) (omega arith) B)
 
   room_at : b ≤ 2 * (v % b) → v / b + 1 ≤ v
   room_at h =

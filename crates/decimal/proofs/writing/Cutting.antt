@@ -1,12 +1,12 @@
 -- A product with a power of five, cut to its sixteenth and made odd where something was cut off, is as near to a whole number as it was. Assumes nothing.
 use Prim.Native.Nat.{ℕ, ◌+◌, ◌-◌, ◌*◌, ◌/◌, ◌%◌, ◌^◌, ◌≤◌}
 use mathlib.Core.Path.{◌≡◌, sym, ap, ◌∙◌}
-use native.Mathlib.Nat.{le_trans, le_of_eq, mul-add, mul_assoc, mul_le_mul, div-add-mod', pow-le-pow_right}
+use native.Mathlib.Nat.{le_trans, le_of_eq, mul-add, mul_assoc, mul-le-mul, div-add-mod', pow-le-pow_right}
 use native.Mathlib.Omega.{arith}
 use lib.Pow.{pow-add, pow_pos}
 use lib.Ieee.Nearest.{closest}
 use Rattle.rounded.specs.laws.Packing.{Stuck}
-use Rattle.rounded.specs.laws.RoundToOdd.{closest_odd}
+use Rattle.rounded.specs.laws.RoundToOdd.{closest-odd}
 use Rattle.rounded.proofs.pack.Numbers.{odd_stuck}
 
 pub five_most : (k : ℕ) → k ≤ 6 → 5 ^ k ≤ 15625
@@ -16,13 +16,13 @@ pub five_few : (k : ℕ) → k ≤ 4 → 5 ^ k ≤ 625
 five_few k h = pow-le-pow_right {n = 5} (omega arith) h
 
 pub whole-product : (k d : ℕ) {five : ℕ} → k ≤ 4 → five ≡ 5 ^ k → d ≤ 2 ^ 53 → five * d ≤ 625 * 2 ^ 53
-whole-product k d h e l = mul_le_mul (le_trans (le_of_eq e) (five_few k h)) l
+whole-product k d h e l = mul-le-mul (le_trans (le_of_eq e) (five_few k h)) l
 
 pub low_product : (k d : ℕ) {five : ℕ} → k ≤ 6 → five ≡ 5 ^ k → five * (d % 16) ≤ 15625 * 16
-low_product k d h e = mul_le_mul {m₂ = 16} (le_trans (le_of_eq e) (five_most k h)) (omega arith)
+low_product k d h e = mul-le-mul {m₂ = 16} (le_trans (le_of_eq e) (five_most k h)) (omega arith)
 
 pub high_product : (k d : ℕ) {five : ℕ} → k ≤ 6 → five ≡ 5 ^ k → d ≤ 2 ^ 53 → five * (d / 16) ≤ 15625 * 2 ^ 49
-high_product k d h e l = mul_le_mul {m₂ = 2 ^ 49} (le_trans (le_of_eq e) (five_most k h)) (omega arith)
+high_product k d h e l = mul-le-mul {m₂ = 2 ^ 49} (le_trans (le_of_eq e) (five_most k h)) (omega arith)
 
 cut : (five d : ℕ) → five * d ≡ (five * (d / 16) + five * (d % 16) / 16) * 16 + five * (d % 16) % 16
 cut five d =
@@ -51,7 +51,7 @@ pub cut-nearest : {r five w : ℕ} (k d shift : ℕ) → five ≡ 5 ^ k → 6 �
 cut-nearest {r} {five} {w} k d shift e h s g =
     g
     ∙ ap (closest w) (four shift h)
-    ∙ sym (closest_odd (five * d) 16 w (2 ^ (shift - 6)) (omega arith) (pow_pos (shift - 6)) (odd_stuck (five * d) 16 (five * (d / 16) + five * (d % 16) / 16) (five * (d % 16) % 16) w (cut five d) (omega arith) s))
+    ∙ sym (closest-odd (five * d) 16 w (2 ^ (shift - 6)) (omega arith) (pow_pos (shift - 6)) (odd_stuck (five * d) 16 (five * (d / 16) + five * (d % 16) / 16) (five * (d % 16) % 16) w (cut five d) (omega arith) s))
     ∙ ap (closest (five * d)) (sym (sixteen shift h))
     ∙ ap (λ (z : ℕ). closest (z * d) (2 ^ shift)) e
 

@@ -3,7 +3,7 @@ use Prim.Native.Nat.{ℕ, ◌+◌, ◌-◌, ◌*◌, ◌^◌, ◌≤◌, ◌<◌
 use mathlib.Core.Path.{◌≡◌, refl, sym, ap, subst, ◌∙◌}
 use mathlib.Core.Logic.{◌⊎◌, inl, inr}
 use mathlib.Core.Bool.{Bool, true, false}
-use native.Mathlib.Nat.{lt_of_lt_of_le, le_trans, le_of_eq, le-add_right, zero-mul, zero-add, add_comm, mul_comm, mul_assoc, mul_left_comm, mul_le_mul, mul-le-mul_right, mul-lt-mul_of_pos_right, pow-le-pow_right}
+use native.Mathlib.Nat.{lt_of_lt_of_le, le_trans, le_of_eq, le-add_right, zero-mul, zero-add, add_comm, mul_comm, mul_assoc, mul_left_comm, mul-le-mul, mul-le-mul_right, mul-lt-mul_of_pos_right, pow-le-pow_right}
 use native.Mathlib.Omega.{arith}
 use lib.Dec.{T}
 use lib.Pow.{pow-add, pow_pos, pow_mono}
@@ -103,7 +103,7 @@ module _ (places : ℕ) (few : places ≤ 6) (x : Float) (p : T (fits binary64 x
           (subst (λ (z : ℕ). 2 ^ z * 2 ^ (1075 - field_of x) ≤ 2 ^ 52 + digits_of x) e (above (digits_of x) n (1075 - field_of x) (omega arith))))
       go (inr l) =
           sym (hidden places x (sign_of x) ((2 ^ 52 + digits_of x) * 2 ^ (field_of x - 1075)) 1 (omega arith) (large-value x p q l)
-          (mul_le_mul (subst (λ (z : ℕ). 2 ^ z ≤ 2 ^ 52 + digits_of x) e (least (digits_of x) n (omega (arith, most-digits places e)))) (pow_pos (field_of x - 1075))))
+          (mul-le-mul (subst (λ (z : ℕ). 2 ^ z ≤ 2 ^ 52 + digits_of x) e (least (digits_of x) n (omega (arith, most-digits places e)))) (pow_pos (field_of x - 1075))))
 
   pub small : {r : Rounded} → field_of x < 1008 - places → r ≡ in_units (sign_of x) places 0 → Shown r ≡ decimals_of places x
   small h f =

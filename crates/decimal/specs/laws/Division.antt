@@ -1,6 +1,6 @@
 -- Long division in binary: a quotient and its rest, doubled. Assumes nothing.
 use Rattle.std.specs.Prelude.{ℕ, zero, suc, ◌+◌, ◌*◌, ◌/◌, ◌%◌, ◌^◌, ◌≤◌, ◌<◌, ◌≡◌, refl}
-use Rattle.std.proofs.Common.{sym, ap, ◌∙◌, lt_of_not_le_lem, mul-one, one-mul, mul_assoc, mul_comm, mul_left_comm, add-mul, mul-le-mul_right, div-add-mod', mod-lt, div-lt_iff_lt-mul, add-one, arith, pow_mono}
+use Rattle.std.proofs.Common.{sym, ap, ◌∙◌, lt_of_not-le, mul-one, one-mul, mul_assoc, mul_comm, mul_left_comm, add-mul, mul-le-mul_right, div-add-mod', mod-lt, div-lt_iff_lt-mul, add-one, arith, pow_mono}
 use Rattle.std.proofs.Math.Nat.{pow-succ', pow-le-pow_right}
 
 -- n * 2^doublings is whole * d and the rest.
@@ -20,7 +20,7 @@ start n d h = record { same = mul-one n ∙ sym (div-add-mod' n d); less = mod-l
 -- How many doublings there were, while the quotient is short.
 pub short : (n d whole rest t : ℕ) → Dividing n d whole rest t → 1 ≤ n → d < 2 ^ 52 → whole < 4611686018427387904 → t < 114
 short n d whole rest t h p s l =
-    lt_of_not_le_lem λ (g : 114 ≤ t).
+    lt_of_not-le λ (g : 114 ≤ t).
     let a : 2 ^ 114 ≤ 2 ^ t = pow_mono g in
     let b : 1 * 2 ^ t ≤ n * 2 ^ t = mul-le-mul_right (2 ^ t) p in
     let c : (whole + 1) * d ≤ 4611686018427387904 * d = mul-le-mul_right d (omega arith) in
@@ -51,8 +51,8 @@ five_more k = sym (ap (λ (z : ℕ). 5 ^ z) (add-one k) ∙ pow-succ' 5 k ∙ mu
 pub five_pos : (k : ℕ) → 1 ≤ 5 ^ k
 five_pos k = pow-le-pow_right {n = 5} (omega arith) {i = 0} {j = k} (omega arith)
 
-pub ten_pos : (k : ℕ) → 1 ≤ 10 ^ k
-ten_pos k = pow-le-pow_right {n = 10} (omega arith) {i = 0} {j = k} (omega arith)
+pub ten-pos : (k : ℕ) → 1 ≤ 10 ^ k
+ten-pos k = pow-le-pow_right {n = 10} (omega arith) {i = 0} {j = k} (omega arith)
 
 pub ten_is : (k : ℕ) → 10 ^ k ≡ 2 ^ k * 5 ^ k
 ten_is zero = refl

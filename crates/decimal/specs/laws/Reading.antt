@@ -1,7 +1,7 @@
 -- A word is read byte by byte: what is left to read gives what the whole gives. Assumes nothing.
 use Rattle.std.specs.Prelude.{ℕ, ◌+◌, ◌-◌, ◌*◌, ◌≤◌, ◌<◌, ◌≡◌, refl, Bool, true, false, cond, List, [], ◌∷◌, eqb, leb, ltb, length, get_or, drop}
 use Rattle.std.proofs.Math.Path.{sym, ap, subst}
-use Rattle.std.proofs.Common.{◌∙◌, add-one, arith, leb-false, eq-eqb, ne_eqb, drop_of_length-le, drop_cons}
+use Rattle.std.proofs.Common.{◌∙◌, add-one, arith, leb-false, eq-eqb, ne_eqb, drop_of_length-le, drop-cons}
 use Rattle.decimal.specs.declared.ReadDecimal.{ReadDecimal}
 use Rattle.decimal.specs.declared.ReadDecimal.TheVariants.{Malformed, TooLong}
 use Rattle.decimal.specs.declared.reading.Reading.{Reading}
@@ -56,7 +56,7 @@ module _ (text : List ℕ) (negative : Bool) (start : ℕ) (s : Reading) (i : �
   onward : i < length text → read_from negative s i (drop i text) ≡ on_step (step s (get_or text i 0)) i (λ t. read_from negative t (i + 1) (drop (i + 1) text))
   unfolding read_from
   onward h =
-      ap (read_from negative s i) (drop_cons text i 0 h)
+      ap (read_from negative s i) (drop-cons text i 0 h)
       ∙ ap (λ (z : ℕ). on_step (step s (get_or text i 0)) i (λ t. read_from negative t (i + 1) (drop z text))) (sym (add-one i))
 
   pub turn : {next : Step} {t : Reading} → ReadTo text negative start s i → i < length text → next ≡ step s (get_or text i 0) → next ≡ Taken t → ReadTo text negative start t (i + 1)

@@ -1,6 +1,6 @@
 -- A number to a few decimals by its exact value. Assumes nothing.
 use Rattle.std.specs.Prelude.{ℕ, ◌*◌, ◌^◌, ◌≤◌, ◌<◌, ◌≡◌, refl, Bool, true, false, cond, ◌||◌, ltb, leb, Float}
-use Rattle.std.proofs.Common.{sym, ap, ◌∙◌, le_trans, le_of_eq, lt_of_lt_of_le, lt_of_le_of_lt, mul_assoc, mul_right_comm, mul-le-mul_right, mul-lt-mul_of_pos_right, lt_of_mul_lt_mul_right, le_of_mul_le_mul_right, lt-ltb, le-ltb, le-leb}
+use Rattle.std.proofs.Common.{sym, ap, ◌∙◌, le_trans, le_of_eq, lt_of_lt_of_le, lt_of_le_of_lt, mul_assoc, mul_right_comm, mul-le-mul_right, mul-lt-mul_of_pos_right, lt_of_mul-lt-mul_right, le_of_mul-le-mul_right, lt-ltb, le-ltb, le-leb}
 use Rattle.std.proofs.lemmas.Bool.{lt-leb}
 use Rattle.std.specs.Float.{nan, inf, fin}
 use Rattle.std.specs.Float.Ieee.{up, down}
@@ -41,7 +41,7 @@ unfolding decimals_of
 shown places g nan s a c C v h = absurd v
 shown places g (inf t) s a c C v h = absurd v
 shown places g (fin t m e) s a c C v h =
-    let less : m * up e < 2 ^ whole_digits places * down e = lt_of_mul_lt_mul_right c (lt_of_le_of_lt (le_of_eq v.1) (lt_of_lt_of_le (mul-lt-mul_of_pos_right h (down_pos e)) (le_of_eq (mul_right_comm (2 ^ whole_digits places) c (down e))))) in
+    let less : m * up e < 2 ^ whole_digits places * down e = lt_of_mul-lt-mul_right c (lt_of_le_of_lt (le_of_eq v.1) (lt_of_lt_of_le (mul-lt-mul_of_pos_right h (down_pos e)) (le_of_eq (mul_right_comm (2 ^ whole_digits places) c (down e))))) in
     let same : closest (10 ^ places * (m * up e)) (down e) ≡ closest (10 ^ places * a) c =
     closest_same (10 ^ places * (m * up e)) (down e) (10 ^ places * a) c (down_pos e) C (mul_assoc (10 ^ places) (m * up e) c ∙ ap (λ (z : ℕ). 10 ^ places * z) v.1 ∙ sym (mul_assoc (10 ^ places) a (down e))) in
     neither _ (le-ltb 6 places g) (lt-leb (2 ^ whole_digits places * down e) (m * up e) less)
@@ -53,5 +53,5 @@ unfolding decimals_of
 hidden places nan s a c C v h = refl
 hidden places (inf t) s a c C v h = refl
 hidden places (fin t m e) s a c C v h =
-    let more : 2 ^ whole_digits places * down e ≤ m * up e = le_of_mul_le_mul_right (le_trans (le_of_eq (mul_right_comm (2 ^ whole_digits places) (down e) c)) (le_trans (mul-le-mul_right (down e) h) (le_of_eq (sym v.1)))) C in
+    let more : 2 ^ whole_digits places * down e ≤ m * up e = le_of_mul-le-mul_right (le_trans (le_of_eq (mul_right_comm (2 ^ whole_digits places) (down e) c)) (le_trans (mul-le-mul_right (down e) h) (le_of_eq (sym v.1)))) C in
     second (ltb 6 places) (Shown (in_units t places (closest (10 ^ places * (m * up e)) (down e)))) (le-leb (2 ^ whole_digits places * down e) (m * up e) more)

@@ -12,8 +12,8 @@ use Rattle.floats.specs.Answers.{plus_zero, one}
 use Rattle.floats.specs.laws.Fractions.{decide, le_of_leq}
 use Rattle.floats.specs.laws.Order as order
 use Rattle.floats.specs.laws.Arithmetic.{add_mono_right, mul_mono_left, mul_anti_right, div_mono_left}
-use Rattle.floats.specs.laws.Bounds.{mul_lower}
-use Rattle.floats.specs.laws.Signs.{add_above, mul_above, div_above}
+use Rattle.floats.specs.laws.Bounds.{mul-lower}
+use Rattle.floats.specs.laws.Signs.{add-above, mul-above, div-above}
 use Rattle.floats.specs.laws.Propagation.{finite-back, finite-clash, add_right, div_left}
 use Rattle.elementary.specs.laws.Exponential.{plain_term, plain_series, series_spoils}
 
@@ -69,7 +69,7 @@ module _ (n a b lo hi r p : Float)
     (fr : T (finite r)) (ra : T (le a r)) (rb : T (le r b))
     (fp : T (finite p)) (pl : T (le lo p)) (ph : T (le p hi)) where
   product-low : T (le (mul binary64 a hi) (mul binary64 r p))
-  product-low = mul_lower binary64 r a p hi fr fa fp fh za ra (order.le_trans plus_zero lo p zl pl) ph
+  product-low = mul-lower binary64 r a p hi fr fa fp fh za ra (order.le_trans plus_zero lo p zl pl) ph
 
   product_high : T (le (mul binary64 r p) (mul binary64 b lo))
   product_high =
@@ -146,8 +146,8 @@ upwards (suc c) r p d zr fr zp fp f =
     let fs = finite-back (add binary64 one q) (λ h. finite-clash (plain_series 0 c r (add binary64 one q)) f (series_spoils 0 c r (add binary64 one q) h)) in
     let fq = finite-back q (λ h. finite-clash (add binary64 one q) fs (add_right binary64 one q h)) in
     let ft = finite-back t (λ h. finite-clash q fq (div_left binary64 t n h)) in
-    let zq = div_above binary64 t n ft (and_r x y (and_l (x && y) (divisors c) d)) (mul_above binary64 r p fr fp zr zp) (and_l x y (and_l (x && y) (divisors c) d)) in
-    upwards c r (add binary64 one q) (and_r (x && y) (divisors c) d) zr fr (add_above binary64 one q tt fq (unfold le in tt) zq) fs f
+    let zq = div-above binary64 t n ft (and_r x y (and_l (x && y) (divisors c) d)) (mul-above binary64 r p fr fp zr zp) (and_l x y (and_l (x && y) (divisors c) d)) in
+    upwards c r (add binary64 one q) (and_r (x && y) (divisors c) d) zr fr (add-above binary64 one q tt fq (unfold le in tt) zq) fs f
 
 -- ---- the cells of r, an eighth wide
 
@@ -164,13 +164,13 @@ eighth-below : (j : ℕ) → T (le (eighth j) plus_zero)
 unfolding eighth of_bits
 eighth-below j = le_of_leq (fin true j (negsuc 2)) plus_zero tt tt (record { holds = omega arith })
 
-zero_below : T (le plus_zero (eighth 0))
+zero-below : T (le plus_zero (eighth 0))
 unfolding eighth of_bits le
-zero_below = tt
+zero-below = tt
 
 in_cell : (j : ℕ) (r : Float) → T (cells j) → T (finite r) → T (le (eighth j) r) → T (finite (plain_series 0 13 r one)) → T (le plus_zero (plain_series 0 13 r one))
 unfolding cells eighth of_bits
-in_cell zero r h fr l f = upwards 13 r one divisors_hold (order.le_trans plus_zero (eighth 0) r zero_below l) fr (unfold le in tt) tt f
+in_cell zero r h fr l f = upwards 13 r one divisors_hold (order.le_trans plus_zero (eighth 0) r zero-below l) fr (unfold le in tt) tt f
 in_cell (suc j) r h fr l f =
     elim (decide (le (eighth j) r)) [
       | inl m ↦ in_cell j r (and_r (bounded 13 (eighth (suc j)) (eighth j) one one) (cells j) h) fr m f

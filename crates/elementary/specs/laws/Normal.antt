@@ -1,6 +1,6 @@
 -- A finite double that is not below 2^-1022 has a clear sign bit and an exponent's field from 1 to 2046. Assumes nothing.
 use Rattle.std.specs.Prelude.{ℕ, zero, suc, ◌+◌, ◌*◌, ◌/◌, ◌%◌, ◌^◌, ◌≤◌, ◌<◌, ◌≡◌, Bool, true, false, not, cond, T, leb, eqb, Float}
-use Rattle.std.proofs.Common.{sym, subst, mul-one, mul-lt-mul_of_pos_right, not_le_of_lt_lem, arith, eq-eqb, leb→le, pow_pos}
+use Rattle.std.proofs.Common.{sym, subst, mul-one, mul-lt-mul_of_pos_right, not-le_of_lt, arith, eq-eqb, leb→le, pow_pos}
 use Rattle.std.proofs.Math.Dec.{nleb→lt}
 use Rattle.std.specs.Float.{nan, inf, fin, binary64}
 use Rattle.std.specs.Float.Ieee.{odd, of_fields, of_bits, to_bits, fits, lt, le}
@@ -58,7 +58,7 @@ field_below (suc f) t h e = special (eqb t 0) false (subst (λ (b : Bool). T (po
 field-above : (t : ℕ) → t < 2 ^ 52 → T (positive (of_fields binary64 false 0 t)) → T (le smallest_normal (of_fields binary64 false 0 t)) → ⊥
 unfolding of_fields of_bits
 field-above t l p h =
-    not_le_of_lt_lem (subst (λ (z : ℕ). z * 2 ^ 1022 < 2 ^ 1074) (sym (mul-one t)) (mul-lt-mul_of_pos_right l (pow_pos 1022)))
+    not-le_of_lt (subst (λ (z : ℕ). z * 2 ^ 1022 < 2 ^ 1074) (sym (mul-one t)) (mul-lt-mul_of_pos_right l (pow_pos 1022)))
     (values_of_le smallest_normal (odd 53 false t 0 1074) 1 (2 ^ 1022) (t * 2 ^ 0) (2 ^ 1074) tt p (own_value smallest_normal tt) (odd_sign 53 false t 0 1074) h)
 
 pub normal_range : (b : ℕ) → b < 2 ^ 64 → T (finite (of_bits binary64 b)) → T (le smallest_normal (of_bits binary64 b)) → Normal b

@@ -1,7 +1,7 @@
 -- exp's reduced argument is not below -2: by one computed test over cells of x from -700 on, each one and a half wide, and by the order of every step. Assumes nothing.
 use Prim.Native.Nat.{ℕ, zero, suc, ◌+◌, ◌*◌}
 use Rattle.std.proofs.Math.Path.{sym}
-use Rattle.std.proofs.Common.{◌∙◌, subst, add-zero, add_suc, suc-add}
+use Rattle.std.proofs.Common.{◌∙◌, subst, add-zero, add-suc, suc-add}
 use Rattle.std.proofs.Math.Logic.{inl, inr}
 use Rattle.std.proofs.Math.Bool.{Bool}
 use Rattle.std.specs.Prelude.{true, false, ◌&&◌, ℤ, pos, negsuc, Float}
@@ -15,7 +15,7 @@ use Rattle.floats.specs.Whole.{rounded, whole_of}
 use Rattle.elementary.specs.Exponential.{inverse_ln2, ln2_high, ln2_low, seven_hundred}
 use Rattle.floats.specs.laws.Fractions.{decide}
 use Rattle.floats.specs.laws.Order as order
-use Rattle.floats.specs.laws.Arithmetic.{mul_mono_left, sub_mono}
+use Rattle.floats.specs.laws.Arithmetic.{mul_mono_left, sub-mono}
 use Rattle.floats.specs.laws.Whole.{rounded-mono}
 use Rattle.elementary.specs.laws.Exponential.{plain_remainder, steps}
 use Rattle.elementary.specs.laws.Intervals.{minus_two}
@@ -111,7 +111,7 @@ module _ (x : Float) (d : Reducible x) where
       let fx = reducible-finite x d in
       let o = rounded-mono (mul binary64 x inverse_ln2) y (quotient-finite x d) fy (mul_mono_left binary64 x b inverse_ln2 fx fb tt (unfold le in tt) h) in
       order.le_trans floor (sub binary64 a g) (sub binary64 x (mul binary64 (steps x) ln2_high)) (and_r (p && q && r) s t)
-      (sub_mono binary64 a x g (mul binary64 (steps x) ln2_high) fa fx fg high-finite l (mul_mono_left binary64 (steps x) k ln2_high steps-finite fk tt (unfold le in tt) o))
+      (sub-mono binary64 a x g (mul binary64 (steps x) ln2_high) fa fx fg high-finite l (mul_mono_left binary64 (steps x) k ln2_high steps-finite fk tt (unfold le in tt) o))
 
   find : (c g : ℕ) → T (cells g c) → T (le (grid g) x) → T (lt x (grid (g + c))) → T (le floor (sub binary64 x (mul binary64 (steps x) ln2_high)))
   unfolding cells
@@ -123,7 +123,7 @@ module _ (x : Float) (d : Reducible x) where
         | inl m ↦ in_cell (grid g) (grid (suc g)) (grid-finite g) (grid-finite (suc g)) (and_l p q t) l (order.le_of_lt x (grid (suc g)) m)
         | inr m ↦
             find c (suc g) (and_r p q t) (order.le_of_not_lt x (grid (suc g)) (order.number_of-finite x (reducible-finite x d)) (order.number_of-finite (grid (suc g)) (grid-finite (suc g))) m)
-            (subst (λ (n : ℕ). T (lt x (grid n))) (add_suc g c ∙ sym (suc-add g c)) h)
+            (subst (λ (n : ℕ). T (lt x (grid n))) (add-suc g c ∙ sym (suc-add g c)) h)
       ]
 
   difference_low : T (le floor (sub binary64 x (mul binary64 (steps x) ln2_high)))
@@ -134,10 +134,10 @@ module _ (x : Float) (d : Reducible x) where
   unfolding of_bits neg mul sub le
   difference-finite =
       order.between floor (sub binary64 x (mul binary64 (steps x) ln2_high)) (sub binary64 seven_hundred (mul binary64 (neg limit) ln2_high)) tt tt difference_low
-      (sub_mono binary64 x seven_hundred (mul binary64 (steps x) ln2_high) (mul binary64 (neg limit) ln2_high) (reducible-finite x d) tt high-finite tt d.high (times-low ln2_high tt tt))
+      (sub-mono binary64 x seven_hundred (mul binary64 (steps x) ln2_high) (mul binary64 (neg limit) ln2_high) (reducible-finite x d) tt high-finite tt d.high (times-low ln2_high tt tt))
 
   pub remainder-low : T (le minus_two (plain_remainder x (steps x)))
   unfolding of_bits neg mul sub le
   remainder-low =
       order.le_trans minus_two (sub binary64 floor (mul binary64 limit ln2_low)) (plain_remainder x (steps x)) tt
-      (sub_mono binary64 floor (sub binary64 x (mul binary64 (steps x) ln2_high)) (mul binary64 limit ln2_low) (mul binary64 (steps x) ln2_low) tt difference-finite tt low-finite difference_low (times-high ln2_low tt tt))
+      (sub-mono binary64 floor (sub binary64 x (mul binary64 (steps x) ln2_high)) (mul binary64 limit ln2_low) (mul binary64 (steps x) ln2_low) tt difference-finite tt low-finite difference_low (times-high ln2_low tt tt))

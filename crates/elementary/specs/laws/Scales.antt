@@ -2,9 +2,9 @@
 use Prim.Native.Nat.{ℕ, zero, suc, ◌+◌, ◌-◌, ◌*◌, ◌/◌, ◌%◌, ◌^◌, ◌≤◌, ◌<◌, zero-le}
 use Rattle.std.specs.Prelude.{◌≡◌, refl, Bool, true, T, leb, ℤ, negsuc, ◌+ℤ◌, Float}
 use Rattle.std.proofs.Math.Path.{sym, ap}
-use Rattle.std.proofs.Common.{◌∙◌, subst, le_trans, le_of_eq, le_of_suc_le_suc, lt_irrefl, zero-mul, one-mul, lt_of_lt_of_le, lt_of_not_le_lem, not_le_of_lt_lem, le_antisymm, mul_assoc, mul-one, mul_le_mul, mul-le-mul_right, le-leb, lt-ltb, le-ltb, lit<, pow-add, pow_pos, pow_mono}
+use Rattle.std.proofs.Common.{◌∙◌, subst, le_trans, le_of_eq, le_of_suc-le-suc, lt_irrefl, zero-mul, one-mul, lt_of_lt_of_le, lt_of_not-le, not-le_of_lt, le_antisymm, mul_assoc, mul-one, mul-le-mul, mul-le-mul_right, le-leb, lt-ltb, le-ltb, lit<, pow-add, pow_pos, pow_mono}
 use Rattle.std.proofs.Math.Bool.{false, cond}
-use Rattle.std.proofs.Math.Nat.{pow-succ', le_of_mul_le_mul_right, lt_of_mul_lt_mul_right}
+use Rattle.std.proofs.Math.Nat.{pow-succ', le_of_mul-le-mul_right, lt_of_mul-lt-mul_right}
 use native.Mathlib.Omega.{arith}
 use Rattle.std.proofs.lemmas.Bool.{lt-leb}
 use Rattle.std.specs.Int.Count.{count_trailing_zeros}
@@ -20,7 +20,7 @@ use Rattle.floats.specs.Answers.{one, two, plus_zero}
 use Rattle.elementary.specs.Logarithm.{scale, fraction, exponent}
 use Rattle.floats.specs.laws.Order as order
 use Rattle.floats.specs.laws.Arithmetic.{add_mono_left}
-use Rattle.floats.specs.laws.Integers.{Gap, over, under, gap, minus_pos, minus_neg, minus_same, add-whole}
+use Rattle.floats.specs.laws.Integers.{Gap, over, under, gap, minus_pos, minus-neg, minus_same, add-whole}
 use Rattle.floats.specs.laws.Patterns.{normal-bits}
 use Rattle.elementary.specs.laws.Normal.{Normal}
 use Rattle.elementary.specs.laws.Steps.{bias}
@@ -29,7 +29,7 @@ use Rattle.elementary.specs.laws.Steps.{bias}
 
 odd_is : (d : ℕ) (s : Bool) (q k l : ℕ) → 0 < q → odd d s q k l ≡ fin s (q / 2 ^ count_trailing_zeros d q) (minus (k + count_trailing_zeros d q) l)
 unfolding odd
-odd_is d s zero k l h = absurd (not_le_of_lt_lem h (omega arith))
+odd_is d s zero k l h = absurd (not-le_of_lt h (omega arith))
 odd_is d s (suc q) k l h = refl
 
 zeros-out : (d q : ℕ) → 0 < q → q / 2 ^ count_trailing_zeros d q * 2 ^ count_trailing_zeros d q ≡ q
@@ -42,12 +42,12 @@ few-zeros : (n z q : ℕ) → n * 2 ^ z ≡ q → 0 < q → q < 2 ^ 53 → z ≤
 few-zeros zero z q e h l = absurd (lt_irrefl 0 (subst (λ (x : ℕ). 0 < x) (sym e ∙ zero-mul (2 ^ z)) h))
 few-zeros (suc n) z q e h l =
     let p : 2 ^ z ≤ q = le_trans (le_of_eq (sym (one-mul (2 ^ z)))) (le_trans (mul-le-mul_right (2 ^ z) (omega arith)) (le_of_eq e)) in
-    le_of_suc_le_suc (lt_of_not_le_lem (λ (g : 53 ≤ z). not_le_of_lt_lem l (le_trans (pow_mono g) p)))
+    le_of_suc-le-suc (lt_of_not-le (λ (g : 53 ≤ z). not-le_of_lt l (le_trans (pow_mono g) p)))
 
 -- ---- how many digits, and the scale
 
 size_is : (n j : ℕ) → 2 ^ j ≤ n → n < 2 ^ suc j → size n ≡ suc j
-size_is n j a b = le_antisymm (size-le n (suc j) b) (lt_of_not_le_lem (λ (g : size n ≤ j). not_le_of_lt_lem (lt_of_lt_of_le (size-lt n) (pow_mono g)) a))
+size_is n j a b = le_antisymm (size-le n (suc j) b) (lt_of_not-le (λ (g : size n ≤ j). not-le_of_lt (lt_of_lt_of_le (size-lt n) (pow_mono g)) a))
 
 -- n has c + 1 digits, and with z zeros more it is 2^52 + t
 module _ (n c z t : ℕ) (e : n * 2 ^ z ≡ 2 ^ 52 + t) (l : t < 2 ^ 52) (g : c + z ≡ 52) where
@@ -60,8 +60,8 @@ module _ (n c z t : ℕ) (e : n * 2 ^ z ≡ 2 ^ 52 + t) (l : t < 2 ^ 52) (g : c 
   digits : size n ≡ suc c
   digits =
       size_is n c
-      (subst (λ (x : ℕ). x ≤ n) (one-mul (2 ^ c)) (le_of_mul_le_mul_right (let w = widened 1 in omega arith) (pow_pos z)))
-      (subst (λ (x : ℕ). n < x) (sym (pow-succ' 2 c)) (lt_of_mul_lt_mul_right (2 ^ z) (let w = widened 2 in omega arith)))
+      (subst (λ (x : ℕ). x ≤ n) (one-mul (2 ^ c)) (le_of_mul-le-mul_right (let w = widened 1 in omega arith) (pow_pos z)))
+      (subst (λ (x : ℕ). n < x) (sym (pow-succ' 2 c)) (lt_of_mul-lt-mul_right (2 ^ z) (let w = widened 2 in omega arith)))
 
   scale_is : scale n ≡ c + t / 2 ^ 51
   unfolding scale
@@ -71,11 +71,11 @@ module _ (n c z t : ℕ) (e : n * 2 ^ z ≡ 2 ^ 52 + t) (l : t < 2 ^ 52) (g : c 
       ∙ ap (λ (s : ℕ). cond (leb (3 * 2 ^ s) (2 * n)) (suc c) s) o
       ∙ elim (gap t (2 ^ 51)) [
         | over d h ↦
-            let k : 3 * 2 ^ c ≤ 2 * n = le_of_mul_le_mul_right (let w = widened 3 in let v = doubled in omega arith) (pow_pos z) in
+            let k : 3 * 2 ^ c ≤ 2 * n = le_of_mul-le-mul_right (let w = widened 3 in let v = doubled in omega arith) (pow_pos z) in
             let r : suc c ≡ c + t / 2 ^ 51 = omega arith in
             ap (λ (b : Bool). cond b (suc c) c) (le-leb (3 * 2 ^ c) (2 * n) k) ∙ r
         | under d h ↦
-            let k : 2 * n < 3 * 2 ^ c = lt_of_mul_lt_mul_right (2 ^ z) (let w = widened 3 in let v = doubled in omega arith) in
+            let k : 2 * n < 3 * 2 ^ c = lt_of_mul-lt-mul_right (2 ^ z) (let w = widened 3 in let v = doubled in omega arith) in
             let r : c ≡ c + t / 2 ^ 51 = omega arith in
             ap (λ (b : Bool). cond b (suc c) c) (lt-leb (3 * 2 ^ c) (2 * n) k) ∙ r
       ]
@@ -86,12 +86,12 @@ minus_plus : (a b c : ℕ) → minus a b +ℤ pos c ≡ minus (a + c) b
 minus_plus a b c =
     elim (gap a b) [
       | over d h ↦ ap (λ (y : ℤ). y +ℤ pos c) (minus_pos a b d h) ∙ sym (minus_pos (a + c) b (d + c) (omega arith))
-      | under d h ↦ ap (λ (y : ℤ). y +ℤ pos c) (minus_neg a b d h) ∙ down_by d h (gap c (suc d))
+      | under d h ↦ ap (λ (y : ℤ). y +ℤ pos c) (minus-neg a b d h) ∙ down_by d h (gap c (suc d))
     ]
   where
     down_by : (d : ℕ) → b ≡ a + suc d → Gap c (suc d) → sub_ℕ c (suc d) ≡ minus (a + c) b
     down_by d h (over e k) = let r : c - suc d ≡ e = omega arith in rw (le-ltb c (suc d) (omega arith)) (ap pos r ∙ sym (minus_pos (a + c) b e (omega arith)))
-    down_by d h (under e k) = let r : suc d - suc c ≡ e = omega arith in rw (lt-ltb c (suc d) (omega arith)) (ap negsuc r ∙ sym (minus_neg (a + c) b e (omega arith)))
+    down_by d h (under e k) = let r : suc d - suc c ≡ e = omega arith in rw (lt-ltb c (suc d) (omega arith)) (ap negsuc r ∙ sym (minus-neg (a + c) b e (omega arith)))
 
 module _ (j t : ℕ) (l : t < 2 ^ 52) where
   zeros : ℕ
@@ -136,7 +136,7 @@ less_bias a h =
       | over c e ↦ let r : a - 1023 ≡ c = omega arith in
           rw (le-ltb a 1023 (omega arith)) (ap (λ (n : ℕ). round binary64 false n 1) r ∙ ap (of_int binary64) (sym (minus_pos a 1023 c e)))
       | under c e ↦ let r : 1023 - a ≡ suc c = omega arith in
-          rw (lt-ltb a 1023 (omega arith)) (ap (λ (n : ℕ). round binary64 true n 1) r ∙ ap (of_int binary64) (sym (minus_neg a 1023 c e)))
+          rw (lt-ltb a 1023 (omega arith)) (ap (λ (n : ℕ). round binary64 true n 1) r ∙ ap (of_int binary64) (sym (minus-neg a 1023 c e)))
     ]
 
 -- m + 1 is at most 3
@@ -147,7 +147,7 @@ ratio-finite t k l h =
     let v = odd_sign 53 false (2 ^ 52 + t) k 1074 in
     let a : T (le plus_zero m) = le_of_values plus_zero m 0 1 ((2 ^ 52 + t) * 2 ^ k) (2 ^ 1074) (lit< tt) (pow_pos 1074) (refl, refl) v zero-le in
     let b : T (le m two) = le_of_values m two ((2 ^ 52 + t) * 2 ^ k) (2 ^ 1074) 2 1 (pow_pos 1074) (lit< tt) v (refl, refl)
-    (le_trans (le_of_eq (mul-one ((2 ^ 52 + t) * 2 ^ k))) (let c : 2 ^ 52 + t ≤ 2 ^ 53 = omega arith in mul_le_mul c (pow_mono h))) in
+    (le_trans (le_of_eq (mul-one ((2 ^ 52 + t) * 2 ^ k))) (let c : 2 ^ 52 + t ≤ 2 ^ 53 = omega arith in mul-le-mul c (pow_mono h))) in
     let f : T (finite m) = order.between plus_zero m two tt tt a b in
     order.between (add binary64 plus_zero one) (add binary64 m one) (add binary64 two one) tt tt
     (add_mono_left binary64 plus_zero m one tt f tt a)

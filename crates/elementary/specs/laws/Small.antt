@@ -19,8 +19,8 @@ use Rattle.floats.specs.Whole.{rounded, whole_of}
 use Rattle.floats.specs.laws.Fractions.{decide, or_l, leq_of_le}
 use Rattle.floats.specs.laws.Order as order
 use Rattle.floats.specs.laws.Arithmetic.{add_mono_right, mul_mono_left, div_mono_left}
-use Rattle.floats.specs.laws.Bounds.{mul_upper, mul_lower}
-use Rattle.floats.specs.laws.Rounding.{round-signed, round_zero}
+use Rattle.floats.specs.laws.Bounds.{mul-upper, mul-lower}
+use Rattle.floats.specs.laws.Rounding.{round-signed, round-zero}
 use Rattle.floats.specs.laws.SameNumber.{same_of_eq}
 use Rattle.floats.specs.laws.Cuts.{whole-nil}
 use Rattle.elementary.specs.Exponential.{inverse_ln2, seven_hundred, power_of_two}
@@ -92,7 +92,7 @@ own f s m e t = same_of_eq f s (round f s (m * up e) (down e)) (fin s m e) (roun
   where
     go : (m : ℕ) → T (fits f (fin s m e)) → HasValue (round f s (m * up e) (down e)) s (m * up e) (down e)
     go zero t =
-        subst (λ (x : Float). HasValue x s (zero * up e) (down e)) (sym (ap (λ (z : ℕ). round f s z (down e)) (zero-mul (up e)) ∙ round_zero f s (down e) (down_pos e)))
+        subst (λ (x : Float). HasValue x s (zero * up e) (down e)) (sym (ap (λ (z : ℕ). round f s z (down e)) (zero-mul (up e)) ∙ round-zero f s (down e) (down_pos e)))
         (refl, ap (λ (z : ℕ). z) (zero-mul (down e)) ∙ sym (ap (λ (z : ℕ). z * 1) (zero-mul (up e))))
     go (suc m) t = exact f s m e t
 
@@ -115,16 +115,16 @@ less_nil (fin s m e) t h =
     ∙ sum-nil binary64 s (m * up e) (down e)
     ∙ own binary64 s m e t
 
-unlike_false : (s : Bool) → unlike s false ≡ s
-unlike_false false = refl
-unlike_false true = refl
+unlike-false : (s : Bool) → unlike s false ≡ s
+unlike-false false = refl
+unlike-false true = refl
 
 times_one : (x : Float) → T (fits binary64 x) → mul binary64 x (fin false 1 (pos 0)) ≡ x
 unfolding mul
 times_one nan t = refl
-times_one (inf s) t = ap inf (unlike_false s)
+times_one (inf s) t = ap inf (unlike-false s)
 times_one (fin s m e) t =
-    ap (λ (b : Bool). round binary64 b (m * up e * 1) (down e * 1)) (unlike_false s)
+    ap (λ (b : Bool). round binary64 b (m * up e * 1) (down e * 1)) (unlike-false s)
     ∙ ap (λ (a : ℕ). round binary64 s a (down e * 1)) (mul-one (m * up e))
     ∙ ap (λ (c : ℕ). round binary64 s (m * up e) c) (mul-one (down e))
     ∙ own binary64 s m e t
@@ -208,8 +208,8 @@ module _ (x : Float) (h : Small x) where
       let fx = small-finite x h in
       let fu : T (finite u) = unfold of_bits neg mul in tt in
       let fv : T (finite v) = unfold of_bits neg mul in tt in
-      let ml : T (le u m) = mul_lower binary64 x (neg small_limit) p two fx (unfold of_bits neg in tt) fp (unfold of_bits in tt) (unfold of_bits neg le in tt) h.low_end zp tp in
-      let mh : T (le m v) = mul_upper binary64 x small_limit p two fx (unfold of_bits in tt) fp (unfold of_bits in tt) (unfold of_bits le in tt) h.high_end zp tp in
+      let ml : T (le u m) = mul-lower binary64 x (neg small_limit) p two fx (unfold of_bits neg in tt) fp (unfold of_bits in tt) (unfold of_bits neg le in tt) h.low_end zp tp in
+      let mh : T (le m v) = mul-upper binary64 x small_limit p two fx (unfold of_bits in tt) fp (unfold of_bits in tt) (unfold of_bits le in tt) h.high_end zp tp in
       let fm = order.between u m v fu fv ml mh in
       let ql = div_mono_left binary64 u m n fu fm k.1 k.0 ml in
       let qh = div_mono_left binary64 m v n fm fv k.1 k.0 mh in

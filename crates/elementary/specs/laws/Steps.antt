@@ -15,7 +15,7 @@ use Rattle.elementary.specs.Exponential.{inverse_ln2, seven_hundred, power_of_tw
 use Rattle.floats.specs.laws.Fractions.{leq_of_le}
 use Rattle.floats.specs.laws.Order as order
 use Rattle.floats.specs.laws.Arithmetic.{mul_mono_left}
-use Rattle.floats.specs.laws.Integers.{over, under, gap, minus_pos, minus_neg, minus_same, add-whole}
+use Rattle.floats.specs.laws.Integers.{over, under, gap, minus_pos, minus-neg, minus_same, add-whole}
 use Rattle.floats.specs.laws.Patterns.{power-bits}
 use Rattle.elementary.specs.laws.Exponential.{steps}
 
@@ -48,7 +48,7 @@ whole-step false (suc n) h = record {
 whole-step true (suc n) h = record {
   index = 1010 - suc n;
   within = omega arith;
-  same = whole_is true n ∙ sym (ap (of_int binary64) (minus_neg (1010 - suc n) 1010 n (omega arith)));
+  same = whole_is true n ∙ sym (ap (of_int binary64) (minus-neg (1010 - suc n) 1010 n (omega arith)));
 }
 
 pub rounded-step : (y : Float) → T (le (neg limit) y) → T (le y limit) → Step (rounded y)
@@ -118,7 +118,7 @@ field-sum i h =
           ∙ ap (λ (n : ℕ). round binary64 false n 1) g
       | under c e ↦
           let g : 1023 - suc c ≡ i + 13 = omega arith in
-          ap (λ (z : ℤ). add binary64 (of_int binary64 z) bias) (minus_neg i 1010 c e)
+          ap (λ (z : ℤ). add binary64 (of_int binary64 z) bias) (minus-neg i 1010 c e)
           ∙ add-whole binary64 (round binary64 true (suc c) 1) bias true (suc c) false 1023 (round_whole binary64 true (suc c) (omega arith)) bias_val
           ∙ (rw (lt-ltb (suc c) 1023 (omega arith)) (ap (λ (n : ℕ). round binary64 false n 1) g))
     ]
@@ -127,15 +127,15 @@ small : (n : ℕ) → n ≤ 2 ^ 53 → T (in_float binary64 (pos n))
 unfolding in_float
 small n h = le→leb n (2 ^ 53) h
 
-small_neg : (n : ℕ) → n < 2 ^ 53 → T (in_float binary64 (negsuc n))
+small-neg : (n : ℕ) → n < 2 ^ 53 → T (in_float binary64 (negsuc n))
 unfolding in_float
-small_neg n h = lt→ltb n (2 ^ 53) h
+small-neg n h = lt→ltb n (2 ^ 53) h
 
 exponent_of_lem : (i : ℕ) → i ≤ 2020 → to_signed 31 (of_int binary64 (minus i 1010)) ≡ minus i 1010
 exponent_of_lem i h =
     elim (gap i 1010) [
       | over c e ↦ rw (minus_pos i 1010 c e) (positive_back binary64 31 c (small c (omega arith)) (omega arith)).1
-      | under c e ↦ rw (minus_neg i 1010 c e) (negative_back binary64 31 c (small_neg c (omega arith)) (omega arith)).1
+      | under c e ↦ rw (minus-neg i 1010 c e) (negative_back binary64 31 c (small-neg c (omega arith)) (omega arith)).1
     ]
 
 -- the code's cast of k + 1023 is exact, and the field with no digits is 2^k

@@ -11,7 +11,7 @@ use Rattle.elementary.specs.Exponential.{half, seven_hundred, series, power_of_t
 use Rattle.elementary.specs.Logarithm.{smallest_normal, fraction, exponent, ratio, log_series, log_sum, ln_of, ln_at}
 use Rattle.elementary.specs.Power.{powf_at}
 use Rattle.floats.specs.laws.Fractions.{le_of_leq}
-use Rattle.floats.specs.laws.Signs.{mul_above}
+use Rattle.floats.specs.laws.Signs.{mul-above}
 use Rattle.floats.specs.laws.Propagation.{finite-back, finite-clash, mul_left}
 use Rattle.elementary.specs.laws.Exponential.{plain_series, plain_remainder, plain_exp, steps, argument_spoils, exp-straight}
 use Rattle.elementary.specs.laws.Intervals.{minus_two, series-above}
@@ -60,7 +60,7 @@ above_of_plain x r k h f =
     let p = plain_series 0 13 r one in
     let fp = finite-back p (λ b. finite-clash (mul binary64 p (power_of_two k)) f (mul_left binary64 p (power_of_two k) b)) in
     let fr = finite-back r (λ b. finite-clash p fp (argument_spoils 0 12 r one b)) in
-    mul_above binary64 p (power_of_two k) fp tt (series-above r fr h fp) (power-above (to_signed 31 k))
+    mul-above binary64 p (power_of_two k) fp tt (series-above r fr h fp) (power-above (to_signed 31 k))
 
 -- a finite number, not below 0
 pub record Above (y : Float) : Type 0 where
@@ -76,9 +76,9 @@ reduced-value x place y f a b e =
       above = above_of_plain x (plain_remainder x (steps x)) (steps x) (remainder-low x (reducible x f a b)) v.0;
     })
 
-zero_above : Above plus_zero
+zero-above : Above plus_zero
 unfolding of_bits le
-zero_above = record { is_finite = tt; above = tt }
+zero-above = record { is_finite = tt; above = tt }
 
 pub exp-value : (x : Float) (place : ℕ) (y : Float) → exp_at x place ≡ Value y → Above y
 unfolding exp_at
@@ -89,7 +89,7 @@ exp-value x place y e =
     go (lt x (neg seven_hundred)) refl (finite-passed x p.0) q.0 q.1
   where
     go : (b : Bool) → lt x (neg seven_hundred) ≡ b → T (finite x) → lt seven_hundred x ≡ false → cond b (Value plus_zero) (exp_reduced x place) ≡ Value y → Above y
-    go true l f h e = let z : plus_zero ≡ y = cc in subst Above z zero_above
+    go true l f h e = let z : plus_zero ≡ y = cc in subst Above z zero-above
     go false l f h e = reduced-value x place y f h l e
 
 pub exp_m1_value : (x : Float) (place : ℕ) (y : Float) → exp_m1_at x place ≡ Value y → T (finite y)

@@ -7,7 +7,7 @@ use Rattle.std.specs.Float.Ieee.Scale.{finite}
 use Rattle.floats.specs.declared.Answer.TheVariants as answer
 use Rattle.floats.specs.Answers.{plus_zero, refusal, not_finite, on_answer}
 use Rattle.floats.specs.laws.Propagation.{sub-left, sub_right, finite-back}
-use Rattle.floats.specs.laws.Signs.{sub_above}
+use Rattle.floats.specs.laws.Signs.{sub-above}
 use Rattle.terms.specs.Terms.{CallSchedule, Market}
 use Rattle.terms.specs.CallLists.{MadeFrom}
 use Rattle.lattice.specs.Layers.{Room}
@@ -43,7 +43,7 @@ module _ (x : Float) (n : ℕ) where
   -- A difference that is finite has finite parts.
   rising : (y : Float) → T (le x y) → T (not (not_finite (sub binary64 y x))) → T (le plus_zero (sub binary64 y x))
   rising y h k =
-      sub_above binary64 y x (finite-back y (λ (b : T (not_finite y)). T_not (not_finite (sub binary64 y x)) k (sub-left binary64 y x b)))
+      sub-above binary64 y x (finite-back y (λ (b : T (not_finite y)). T_not (not_finite (sub binary64 y x)) k (sub-left binary64 y x b)))
       (finite-back x (λ (b : T (not_finite x)). T_not (not_finite (sub binary64 y x)) k (sub_right binary64 y x b)))
       h
 

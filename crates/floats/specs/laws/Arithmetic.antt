@@ -9,7 +9,7 @@ use Rattle.floats.specs.laws.Fractions.{pl, mi, leq_of_le}
 use Rattle.floats.specs.Answers.{plus_zero}
 use Rattle.floats.specs.laws.Order.{number_of-finite, le_refl, le_trans, neg_anti}
 use Rattle.floats.specs.laws.Rounding.{rounds-mono}
-use Rattle.floats.specs.laws.Exactly.{add_rounds, mul_rounds, div_rounds, mi_of_above, pl_of_below, pl_of_positive}
+use Rattle.floats.specs.laws.Exactly.{add_rounds, mul-rounds, div-rounds, mi_of_above, pl_of_below, pl_of_positive}
 
 -- ---- the sum
 sum-cross : (p m a p' m' a' q n b q' n' b' : ℕ) → p * a' + m' * a ≤ p' * a + m * a' → q * b' + n' * b ≤ q' * b + n * b'
@@ -19,33 +19,33 @@ sum-cross p m a p' m' a' q n b q' n' b' h k =
     let k' = simp (add-mul, mul_assoc, times-comm, mul_left_comm) at (mul-le-mul_right (a * a') k) in
     simp (add-mul, mul_assoc, times-comm, mul_left_comm) (omega arith)
 
-pub add_mono : (f : Format) (x x' y y' : Float) → T (finite x) → T (finite x') → T (finite y) → T (finite y') → T (le x x') → T (le y y') → T (le (add f x y) (add f x' y'))
-add_mono f x x' y y' p p' q q' h k =
+pub add-mono : (f : Format) (x x' y y' : Float) → T (finite x) → T (finite x') → T (finite y) → T (finite y') → T (le x x') → T (le y y') → T (le (add f x y) (add f x' y'))
+add-mono f x x' y y' p p' q q' h k =
     rounds-mono (mul-pos (den_pos x) (den_pos y)) (mul-pos (den_pos x') (den_pos y')) (add_rounds f x y p q) (add_rounds f x' y' p' q')
     (sum-cross (pl x) (mi x) (den x) (pl x') (mi x') (den x') (pl y) (mi y) (den y) (pl y') (mi y') (den y') (leq_of_le x x' p p' h).holds (leq_of_le y y' q q' k).holds)
 
 pub add_mono_left : (f : Format) (x x' y : Float) → T (finite x) → T (finite x') → T (finite y) → T (le x x') → T (le (add f x y) (add f x' y))
-add_mono_left f x x' y p p' q h = add_mono f x x' y y p p' q q h (le_refl y (number_of-finite y q))
+add_mono_left f x x' y p p' q h = add-mono f x x' y y p p' q q h (le_refl y (number_of-finite y q))
 
 pub add_mono_right : (f : Format) (x y y' : Float) → T (finite x) → T (finite y) → T (finite y') → T (le y y') → T (le (add f x y) (add f x y'))
-add_mono_right f x y y' p q q' k = add_mono f x x y y' p p q q' (le_refl x (number_of-finite x p)) k
+add_mono_right f x y y' p q q' k = add-mono f x x y y' p p q q' (le_refl x (number_of-finite x p)) k
 
 -- ---- the difference: it grows with x and falls as y grows
-pub neg_finite : (x : Float) → T (finite x) → T (finite (neg x))
+pub neg-finite : (x : Float) → T (finite x) → T (finite (neg x))
 unfolding neg
-neg_finite nan h = h
-neg_finite (inf s) h = h
-neg_finite (fin s m e) h = tt
+neg-finite nan h = h
+neg-finite (inf s) h = h
+neg-finite (fin s m e) h = tt
 
-pub sub_mono : (f : Format) (x x' y y' : Float) → T (finite x) → T (finite x') → T (finite y) → T (finite y') → T (le x x') → T (le y' y) → T (le (sub f x y) (sub f x' y'))
+pub sub-mono : (f : Format) (x x' y y' : Float) → T (finite x) → T (finite x') → T (finite y) → T (finite y') → T (le x x') → T (le y' y) → T (le (sub f x y) (sub f x' y'))
 unfolding sub
-sub_mono f x x' y y' p p' q q' h k = add_mono f x x' (neg y) (neg y') p p' (neg_finite y q) (neg_finite y' q') h (neg_anti y' y k)
+sub-mono f x x' y y' p p' q q' h k = add-mono f x x' (neg y) (neg y') p p' (neg-finite y q) (neg-finite y' q') h (neg_anti y' y k)
 
 pub sub_mono_left : (f : Format) (x x' y : Float) → T (finite x) → T (finite x') → T (finite y) → T (le x x') → T (le (sub f x y) (sub f x' y))
-sub_mono_left f x x' y p p' q h = sub_mono f x x' y y p p' q q h (le_refl y (number_of-finite y q))
+sub_mono_left f x x' y p p' q h = sub-mono f x x' y y p p' q q h (le_refl y (number_of-finite y q))
 
 pub sub_anti_right : (f : Format) (x y y' : Float) → T (finite x) → T (finite y) → T (finite y') → T (le y y') → T (le (sub f x y') (sub f x y))
-sub_anti_right f x y y' p q q' k = sub_mono f x x y' y p p q' q (le_refl x (number_of-finite x p)) k
+sub_anti_right f x y y' p q q' k = sub-mono f x x y' y p p q' q (le_refl x (number_of-finite x p)) k
 
 -- ---- the product, by a factor that is not negative, and by one that is not positive
 -- the factor y is q / b, and -n / b
@@ -63,12 +63,12 @@ times_cross' p m a p' m' a' q n b e h =
 
 pub mul_mono_left : (f : Format) (x x' y : Float) → T (finite x) → T (finite x') → T (finite y) → T (le plus_zero y) → T (le x x') → T (le (mul f x y) (mul f x' y))
 mul_mono_left f x x' y p p' q z h =
-    rounds-mono (mul-pos (den_pos x) (den_pos y)) (mul-pos (den_pos x') (den_pos y)) (mul_rounds f x y p q) (mul_rounds f x' y p' q)
+    rounds-mono (mul-pos (den_pos x) (den_pos y)) (mul-pos (den_pos x') (den_pos y)) (mul-rounds f x y p q) (mul-rounds f x' y p' q)
     (times-cross (pl x) (mi x) (den x) (pl x') (mi x') (den x') (pl y) (mi y) (den y) (mi_of_above y q z) (leq_of_le x x' p p' h).holds)
 
 pub mul_anti_left : (f : Format) (x x' y : Float) → T (finite x) → T (finite x') → T (finite y) → T (le y plus_zero) → T (le x x') → T (le (mul f x' y) (mul f x y))
 mul_anti_left f x x' y p p' q z h =
-    rounds-mono (mul-pos (den_pos x') (den_pos y)) (mul-pos (den_pos x) (den_pos y)) (mul_rounds f x' y p' q) (mul_rounds f x y p q)
+    rounds-mono (mul-pos (den_pos x') (den_pos y)) (mul-pos (den_pos x) (den_pos y)) (mul-rounds f x' y p' q) (mul-rounds f x y p q)
     (times_cross' (pl x) (mi x) (den x) (pl x') (mi x') (den x') (pl y) (mi y) (den y) (pl_of_below y q z) (leq_of_le x x' p p' h).holds)
 
 unlike_comm : (s t : Bool) → unlike s t ≡ unlike t s
@@ -109,5 +109,5 @@ over-cross p m a p' m' a' q b h =
 pub div_mono_left : (f : Format) (x x' y : Float) → T (finite x) → T (finite x') → T (finite y) → T (lt plus_zero y) → T (le x x') → T (le (div f x y) (div f x' y))
 div_mono_left f x x' y p p' q z h =
     let Y = pl_of_positive y q z in
-    rounds-mono (mul-pos Y (den_pos x)) (mul-pos Y (den_pos x')) (div_rounds f x y p q z) (div_rounds f x' y p' q z)
+    rounds-mono (mul-pos Y (den_pos x)) (mul-pos Y (den_pos x')) (div-rounds f x y p q z) (div-rounds f x' y p' q z)
     (over-cross (pl x) (mi x) (den x) (pl x') (mi x') (den x') (pl y) (den y) (leq_of_le x x' p p' h).holds)

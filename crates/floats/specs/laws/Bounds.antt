@@ -12,14 +12,14 @@ use Rattle.floats.specs.laws.Order.{le_trans, between}
 use Rattle.floats.specs.laws.Arithmetic.{mul_mono_left, mul_mono_right, mul_anti_right}
 
 -- ---- x is at most a, and y is between 0 and b
-pub mul_upper : (f : Format) (x a y b : Float) → T (finite x) → T (finite a) → T (finite y) → T (finite b)
+pub mul-upper : (f : Format) (x a y b : Float) → T (finite x) → T (finite a) → T (finite y) → T (finite b)
     → T (le plus_zero a) → T (le x a) → T (le plus_zero y) → T (le y b) → T (le (mul f x y) (mul f a b))
-mul_upper f x a y b p p' q q' z h w k = le_trans (mul f x y) (mul f a y) (mul f a b) (mul_mono_left f x a y p p' q w h) (mul_mono_right f a y b p' q q' z k)
+mul-upper f x a y b p p' q q' z h w k = le_trans (mul f x y) (mul f a y) (mul f a b) (mul_mono_left f x a y p p' q w h) (mul_mono_right f a y b p' q q' z k)
 
 -- ---- x is at least a, and y is between 0 and b
-pub mul_lower : (f : Format) (x a y b : Float) → T (finite x) → T (finite a) → T (finite y) → T (finite b)
+pub mul-lower : (f : Format) (x a y b : Float) → T (finite x) → T (finite a) → T (finite y) → T (finite b)
     → T (le a plus_zero) → T (le a x) → T (le plus_zero y) → T (le y b) → T (le (mul f a b) (mul f x y))
-mul_lower f x a y b p p' q q' z h w k = le_trans (mul f a b) (mul f a y) (mul f x y) (mul_anti_right f a y b p' q q' z k) (mul_mono_left f a x y p' p q w h)
+mul-lower f x a y b p p' q q' z h w k = le_trans (mul f a b) (mul f a y) (mul f x y) (mul_anti_right f a y b p' q q' z k) (mul_mono_left f a x y p' p q w h)
 
 -- ---- an example: for x between -700 and 700, x / ln 2 is between -1010 and 1010, so it is finite
 abbrev least : Float

@@ -1,6 +1,6 @@
 -- A whole number between two that a cast to an integer takes is taken too: what `as i32`, `as u64` and the like ask of a rounded float. Assumes nothing.
 use Rattle.std.specs.Prelude.{ℕ, zero, suc, ◌*◌, ◌/◌, ◌%◌, ◌^◌, ◌≤◌, ◌<◌, ◌≡◌, refl, Bool, true, false, cond, not, ◌&&◌, ℤ, pos, negsuc, T, eqb, ltb, leb, Float}
-use Rattle.std.proofs.Common.{zero-le, le_trans, le_of_eq, lt_of_le_of_lt, lt_irrefl, zero-lt-suc, mul-one, mul_right_comm, mul-pos, le-div_iff_mul-le, le_of_mul_le_mul_right, arith, sym, ap, subst, ◌∙◌, ltb→lt, lt→ltb, leb→le, le→leb, pow_pos}
+use Rattle.std.proofs.Common.{zero-le, le_trans, le_of_eq, lt_of_le_of_lt, lt_irrefl, zero-lt-suc, mul-one, mul_right_comm, mul-pos, le-div_iff_mul-le, le_of_mul-le-mul_right, arith, sym, ap, subst, ◌∙◌, ltb→lt, lt→ltb, leb→le, le→leb, pow_pos}
 use Rattle.std.specs.Float.{nan, inf, fin, binary64}
 use Rattle.std.specs.Float.Ieee.{up, down, le, of_int, of_bits, whole, in_signed, in_unsigned, in_float}
 use Rattle.std.specs.Float.Ieee.Fits.{down_pos, and_l, and_r, of_int-fits}
@@ -16,7 +16,7 @@ use Rattle.floats.specs.laws.Cuts.{IsWhole}
 cut_le : (n a b x d : ℕ) → 0 < b → 0 < d → x * 1 ≡ n * d → x * b ≤ a * d → n ≤ a / b
 cut_le n a b x d B D e h =
     let g : n * b * d ≤ a * d = le_trans (le_of_eq (mul_right_comm n b d ∙ ap (λ (z : ℕ). z * b) (sym e ∙ mul-one x))) h in
-    (le-div_iff_mul-le B).1 (le_of_mul_le_mul_right g D)
+    (le-div_iff_mul-le B).1 (le_of_mul-le-mul_right g D)
 
 nil : (n x d b : ℕ) → 0 < b → 0 < d → x * 1 ≡ n * d → x * b ≤ 0 → n ≡ 0
 nil zero x d b B D e h = refl

@@ -18,7 +18,7 @@ use Rattle.floats.specs.declared.Answer.TheVariants.{Value}
 use Rattle.floats.specs.Answers.{plus_zero, tested}
 use Rattle.floats.specs.Whole.{whole_of}
 use Rattle.floats.specs.laws.Fractions.{leq_of_le, on_finite}
-use Rattle.floats.specs.laws.Rounding.{Rounds, above, under, rounds-mono, round_zero}
+use Rattle.floats.specs.laws.Rounding.{Rounds, above, under, rounds-mono, round-zero}
 
 pub record Cut (N : Bool → ℕ → ℕ → ℕ) : Type 0 where
   pub mono : (s : Bool) (a b c d : ℕ) → 0 < b → 0 < d → a * d ≤ c * b → N s a b ≤ N s c d
@@ -42,11 +42,11 @@ whole_pos s zero h = absurd (lt_irrefl 0 h)
 whole_pos s (suc n) h = ap (λ (b : Bool). cond b plus_zero (round binary64 s (suc n) 1)) (eqb-suc-zero n)
 
 plus-rounds : (n : ℕ) → Rounds binary64 (whole_of false n) n 0 1
-plus-rounds zero = unfold of_bits in above zero-le (whole-nil false ∙ sym (round_zero binary64 false 1 (lit< tt)))
+plus-rounds zero = unfold of_bits in above zero-le (whole-nil false ∙ sym (round-zero binary64 false 1 (lit< tt)))
 plus-rounds (suc n) = above zero-le (whole_pos false (suc n) (zero-lt-suc n) ∙ ap (λ (z : ℕ). round binary64 false z 1) (sym (sub-zero (suc n))))
 
 minus-rounds : (n : ℕ) → Rounds binary64 (whole_of true n) 0 n 1
-minus-rounds zero = unfold of_bits in above zero-le (whole-nil true ∙ sym (round_zero binary64 false 1 (lit< tt)))
+minus-rounds zero = unfold of_bits in above zero-le (whole-nil true ∙ sym (round-zero binary64 false 1 (lit< tt)))
 minus-rounds (suc n) = under zero-le (whole_pos true (suc n) (zero-lt-suc n) ∙ ap (λ (z : ℕ). round binary64 true z 1) (sym (sub-zero (suc n))))
 
 -- ---- a float that is a whole number: its exact value is ±size, it is no -0, and the format holds it
@@ -108,8 +108,8 @@ exact-whole f (fin t (suc m) (negsuc a)) s n p v =
     round_whole f s n (le_trans (le-mul_of_pos_right n (pow_pos (suc a))) (le_trans (le_of_eq e) (le_of_lt (small f t m (negsuc a) p))))
 
 module _ (N : Bool → ℕ → ℕ → ℕ) (k : Cut N) where
-  cut_zero : (s : Bool) (c : ℕ) → 0 < c → N s 0 c ≡ 0
-  cut_zero s c h = le_antisymm (subst (λ (z : ℕ). N s 0 c ≤ z) (k.own s 0) (k.mono s 0 c 0 1 h (lit< tt) (le_of_eq (zero-mul 1 ∙ sym (zero-mul c))))) zero-le
+  cut-zero : (s : Bool) (c : ℕ) → 0 < c → N s 0 c ≡ 0
+  cut-zero s c h = le_antisymm (subst (λ (z : ℕ). N s 0 c ≤ z) (k.own s 0) (k.mono s 0 c 0 1 h (lit< tt) (le_of_eq (zero-mul 1 ∙ sym (zero-mul c))))) zero-le
 
   cut_same : (s : Bool) (a b c d : ℕ) → 0 < b → 0 < d → a * d ≡ c * b → N s a b ≡ N s c d
   cut_same s a b c d B D e = le_antisymm (k.mono s a b c d B D (le_of_eq e)) (k.mono s c d a b D B (le_of_eq (sym e)))
@@ -124,28 +124,28 @@ module _ (N : Bool → ℕ → ℕ → ℕ) (k : Cut N) where
 
   -- ---- the order
   none : (a b c d : ℕ) → 0 < b → 0 < d → a * d + c * b ≤ 0 → (s : Bool) → N s a b ≡ 0
-  none zero b c d B D h s = cut_zero s b B
+  none zero b c d B D h s = cut-zero s b B
   none (suc a) b c d B D h s = let z = mul-pos (zero-lt-suc a) D in absurd (lt_irrefl 0 (omega arith))
 
-  cut_fin : (s : Bool) (m : ℕ) (e : ℤ) (t : Bool) (n : ℕ) (d : ℤ) → T (le (fin s m e) (fin t n d)) → T (le (cut_to N (fin s m e)) (cut_to N (fin t n d)))
-  cut_fin false m e false n d h =
+  cut-fin : (s : Bool) (m : ℕ) (e : ℤ) (t : Bool) (n : ℕ) (d : ℤ) → T (le (fin s m e) (fin t n d)) → T (le (cut_to N (fin s m e)) (cut_to N (fin t n d)))
+  cut-fin false m e false n d h =
       let l = (leq_of_le (fin false m e) (fin false n d) tt tt h).holds in
       let o = k.mono false (m * up e) (down e) (n * up d) (down d) (down_pos e) (down_pos d) (omega arith) in
       rounds-mono (lit< tt) (lit< tt) (plus-rounds (N false (m * up e) (down e))) (plus-rounds (N false (n * up d) (down d))) (omega arith)
-  cut_fin false m e true n d h =
+  cut-fin false m e true n d h =
       let l = (leq_of_le (fin false m e) (fin true n d) tt tt h).holds in
       let o = none (m * up e) (down e) (n * up d) (down d) (down_pos e) (down_pos d) (omega arith) false in
       let q = none (n * up d) (down d) (m * up e) (down e) (down_pos d) (down_pos e) (omega arith) true in
       rounds-mono (lit< tt) (lit< tt) (plus-rounds (N false (m * up e) (down e))) (minus-rounds (N true (n * up d) (down d))) (omega arith)
-  cut_fin true m e false n d h =
+  cut-fin true m e false n d h =
       rounds-mono (lit< tt) (lit< tt) (minus-rounds (N true (m * up e) (down e))) (plus-rounds (N false (n * up d) (down d))) (omega arith)
-  cut_fin true m e true n d h =
+  cut-fin true m e true n d h =
       let l = (leq_of_le (fin true m e) (fin true n d) tt tt h).holds in
       let o = k.mono true (n * up d) (down d) (m * up e) (down e) (down_pos d) (down_pos e) (omega arith) in
       rounds-mono (lit< tt) (lit< tt) (minus-rounds (N true (m * up e) (down e))) (minus-rounds (N true (n * up d) (down d))) (omega arith)
 
   pub cut-mono : (x y : Float) → T (finite x) → T (finite y) → T (le x y) → T (le (cut_to N x) (cut_to N y))
-  cut-mono = on_finite (λ (x y : Float). T (le x y) → T (le (cut_to N x) (cut_to N y))) cut_fin
+  cut-mono = on_finite (λ (x y : Float). T (le x y) → T (le (cut_to N x) (cut_to N y))) cut-fin
 
   -- ---- a whole number is itself
   pub cut_self : (x : Float) (s : Bool) (n : ℕ) → T (fits binary64 x) → 0 < n → HasValue x s n 1 → cut_to N x ≡ x
@@ -157,7 +157,7 @@ module _ (N : Bool → ℕ → ℕ → ℕ) (k : Cut N) where
   size-whole : (s : Bool) (m : ℕ) (e : ℤ) → T (fits binary64 (fin s m e)) → HasValue (round binary64 s (N s (m * up e) (down e)) 1) s (N s (m * up e) (down e)) 1
   size-whole s m (pos a) p =
       subst (λ (n : ℕ). HasValue (round binary64 s n 1) s n 1) (sym (k.own s (m * 2 ^ a))) (exact-whole binary64 (fin s m (pos a)) s (m * 2 ^ a) p (refl, refl))
-  size-whole s zero (negsuc a) p = round_whole binary64 s (N s 0 (2 ^ suc a)) (le_trans (le_of_eq (cut_zero s (2 ^ suc a) (pow_pos (suc a)))) zero-le)
+  size-whole s zero (negsuc a) p = round_whole binary64 s (N s 0 (2 ^ suc a)) (le_trans (le_of_eq (cut-zero s (2 ^ suc a) (pow_pos (suc a)))) zero-le)
   size-whole s (suc m) (negsuc a) p =
       let h : N s (suc m * 1) (2 ^ suc a) ≤ N s (suc m * 1) 1 = k.mono s (suc m * 1) (2 ^ suc a) (suc m * 1) 1 (pow_pos (suc a)) (lit< tt) (le_trans (le_of_eq (mul-one (suc m * 1))) (le-mul_of_pos_right (suc m * 1) (pow_pos (suc a)))) in
       round_whole binary64 s (N s (suc m * 1) (2 ^ suc a)) (le_trans h (le_trans (le_of_eq (k.own s (suc m * 1) ∙ mul-one (suc m))) (le_of_lt (small binary64 s m (negsuc a) p))))

@@ -44,43 +44,43 @@ difference' f a b c p n e g = go (ltb a b) (ltb b a) (ltb→lt a b) (nltb→le a
 abbrev pub IsSum : Format → Float → Float → Float → Type 0
 IsSum f x y z = Rounds f z (pl x * den y + pl y * den x) (mi x * den y + mi y * den x) (den x * den y)
 
-add_fin : (f : Format) (s : Bool) (m : ℕ) (e : ℤ) (t : Bool) (n : ℕ) (d : ℤ) → IsSum f (fin s m e) (fin t n d) (add f (fin s m e) (fin t n d))
+add-fin : (f : Format) (s : Bool) (m : ℕ) (e : ℤ) (t : Bool) (n : ℕ) (d : ℤ) → IsSum f (fin s m e) (fin t n d) (add f (fin s m e) (fin t n d))
 unfolding add
-add_fin f false m e false n d = unfold sum in rounds_up f (m * up e * down d + n * up d * down e) _ _ _ (omega arith)
-add_fin f false m e true n d = difference f (m * up e * down d) (n * up d * down e) _ _ _ (omega arith) (omega arith)
-add_fin f true m e false n d = difference' f (m * up e * down d) (n * up d * down e) _ _ _ (omega arith) (omega arith)
-add_fin f true m e true n d = unfold sum in rounds_down f (m * up e * down d + n * up d * down e) _ _ _ (omega arith)
+add-fin f false m e false n d = unfold sum in rounds_up f (m * up e * down d + n * up d * down e) _ _ _ (omega arith)
+add-fin f false m e true n d = difference f (m * up e * down d) (n * up d * down e) _ _ _ (omega arith) (omega arith)
+add-fin f true m e false n d = difference' f (m * up e * down d) (n * up d * down e) _ _ _ (omega arith) (omega arith)
+add-fin f true m e true n d = unfold sum in rounds_down f (m * up e * down d + n * up d * down e) _ _ _ (omega arith)
 
 pub add_rounds : (f : Format) (x y : Float) → T (finite x) → T (finite y) → IsSum f x y (add f x y)
-add_rounds f = on_finite (λ (x y : Float). IsSum f x y (add f x y)) (add_fin f)
+add_rounds f = on_finite (λ (x y : Float). IsSum f x y (add f x y)) (add-fin f)
 
 -- ---- the difference
 -- z is x - y, rounded
 abbrev pub IsDifference : Format → Float → Float → Float → Type 0
 IsDifference f x y z = Rounds f z (pl x * den y + mi y * den x) (mi x * den y + pl y * den x) (den x * den y)
 
-sub_fin : (f : Format) (s : Bool) (m : ℕ) (e : ℤ) (t : Bool) (n : ℕ) (d : ℤ) → IsDifference f (fin s m e) (fin t n d) (sub f (fin s m e) (fin t n d))
+sub-fin : (f : Format) (s : Bool) (m : ℕ) (e : ℤ) (t : Bool) (n : ℕ) (d : ℤ) → IsDifference f (fin s m e) (fin t n d) (sub f (fin s m e) (fin t n d))
 unfolding sub neg
-sub_fin f s m e false n d = add_fin f s m e true n d
-sub_fin f s m e true n d = add_fin f s m e false n d
+sub-fin f s m e false n d = add-fin f s m e true n d
+sub-fin f s m e true n d = add-fin f s m e false n d
 
-pub sub_rounds : (f : Format) (x y : Float) → T (finite x) → T (finite y) → IsDifference f x y (sub f x y)
-sub_rounds f = on_finite (λ (x y : Float). IsDifference f x y (sub f x y)) (sub_fin f)
+pub sub-rounds : (f : Format) (x y : Float) → T (finite x) → T (finite y) → IsDifference f x y (sub f x y)
+sub-rounds f = on_finite (λ (x y : Float). IsDifference f x y (sub f x y)) (sub-fin f)
 
 -- ---- the product
 -- z is x * y, rounded
 abbrev pub IsProduct : Format → Float → Float → Float → Type 0
 IsProduct f x y z = Rounds f z (pl x * pl y + mi x * mi y) (pl x * mi y + mi x * pl y) (den x * den y)
 
-mul_fin : (f : Format) (s : Bool) (m : ℕ) (e : ℤ) (t : Bool) (n : ℕ) (d : ℤ) → IsProduct f (fin s m e) (fin t n d) (mul f (fin s m e) (fin t n d))
+mul-fin : (f : Format) (s : Bool) (m : ℕ) (e : ℤ) (t : Bool) (n : ℕ) (d : ℤ) → IsProduct f (fin s m e) (fin t n d) (mul f (fin s m e) (fin t n d))
 unfolding mul
-mul_fin f false m e false n d = rounds_up f (m * up e * (n * up d)) _ _ _ (omega arith)
-mul_fin f false m e true n d = rounds_down f (m * up e * (n * up d)) _ _ _ (omega arith)
-mul_fin f true m e false n d = rounds_down f (m * up e * (n * up d)) _ _ _ (omega arith)
-mul_fin f true m e true n d = rounds_up f (m * up e * (n * up d)) _ _ _ (omega arith)
+mul-fin f false m e false n d = rounds_up f (m * up e * (n * up d)) _ _ _ (omega arith)
+mul-fin f false m e true n d = rounds_down f (m * up e * (n * up d)) _ _ _ (omega arith)
+mul-fin f true m e false n d = rounds_down f (m * up e * (n * up d)) _ _ _ (omega arith)
+mul-fin f true m e true n d = rounds_up f (m * up e * (n * up d)) _ _ _ (omega arith)
 
-pub mul_rounds : (f : Format) (x y : Float) → T (finite x) → T (finite y) → IsProduct f x y (mul f x y)
-mul_rounds f = on_finite (λ (x y : Float). IsProduct f x y (mul f x y)) (mul_fin f)
+pub mul-rounds : (f : Format) (x y : Float) → T (finite x) → T (finite y) → IsProduct f x y (mul f x y)
+mul-rounds f = on_finite (λ (x y : Float). IsProduct f x y (mul f x y)) (mul-fin f)
 
 -- ---- the sign of a finite number
 pub mi_of_above : (y : Float) → T (finite y) → T (le plus_zero y) → mi y ≡ 0
@@ -117,13 +117,13 @@ left false w c h = refl
 not_zero : (n u : ℕ) → 0 < n * u → T (eqb n 0) → ⊥
 not_zero n u h t = lt_irrefl 0 (subst (λ (k : ℕ). 0 < k) (ap (λ (k : ℕ). k * u) (eqb→eq n 0 t) ∙ zero-mul u) h)
 
-div_fin : (f : Format) (s : Bool) (m : ℕ) (e : ℤ) (t : Bool) (n : ℕ) (d : ℤ) → 0 < pl (fin t n d) → IsQuotient f (fin s m e) (fin t n d) (div f (fin s m e) (fin t n d))
+div-fin : (f : Format) (s : Bool) (m : ℕ) (e : ℤ) (t : Bool) (n : ℕ) (d : ℤ) → 0 < pl (fin t n d) → IsQuotient f (fin s m e) (fin t n d) (div f (fin s m e) (fin t n d))
 unfolding div
-div_fin f s m e true n d h = absurd (lt_irrefl 0 h)
-div_fin f false m e false n d h =
+div-fin f s m e true n d h = absurd (lt_irrefl 0 h)
+div-fin f false m e false n d h =
     rw (left (eqb n 0) (cond (eqb m 0) nan (inf false)) (round f false (m * up e * down d) (n * up d * down e)) (not_zero n (up d) h)) (rounds_up f (m * up e * down d) _ _ _ (omega arith))
-div_fin f true m e false n d h =
+div-fin f true m e false n d h =
     rw (left (eqb n 0) (cond (eqb m 0) nan (inf true)) (round f true (m * up e * down d) (n * up d * down e)) (not_zero n (up d) h)) (rounds_down f (m * up e * down d) _ _ _ (omega arith))
 
-pub div_rounds : (f : Format) (x y : Float) → T (finite x) → T (finite y) → T (lt plus_zero y) → IsQuotient f x y (div f x y)
-div_rounds f x y p q h = on_finite (λ (a b : Float). 0 < pl b → IsQuotient f a b (div f a b)) (div_fin f) x y p q (pl_of_positive y q h)
+pub div-rounds : (f : Format) (x y : Float) → T (finite x) → T (finite y) → T (lt plus_zero y) → IsQuotient f x y (div f x y)
+div-rounds f x y p q h = on_finite (λ (a b : Float). 0 < pl b → IsQuotient f a b (div f a b)) (div-fin f) x y p q (pl_of_positive y q h)

@@ -35,14 +35,14 @@ unfolding min_of
 min_le_right a b p q = chosen (λ (x : Float). T (le x b)) (lt b a) b a (λ _. le_refl b q) (le_of_not_lt b a q p)
 
 -- a bound below both is below it
-pub le_min : (x a b : Float) → T (le x a) → T (le x b) → T (le x (min_of a b))
-le_min x a b h k = min-keeps (λ (y : Float). T (le x y)) a b h k
+pub le-min : (x a b : Float) → T (le x a) → T (le x b) → T (le x (min_of a b))
+le-min x a b h k = min-keeps (λ (y : Float). T (le x y)) a b h k
 
 pub min-mono : (a a' b b' : Float) → T (le a a') → T (le b b') → T (le (min_of a b) (min_of a' b'))
 min-mono a a' b b' h k =
     let p = (number_of_le a a' h).0 in
     let q = (number_of_le b b' k).0 in
-    le_min (min_of a b) a' b' (le_trans (min_of a b) a a' (min_le_left a b p q) h) (le_trans (min_of a b) b b' (min_le_right a b p q) k)
+    le-min (min_of a b) a' b' (le_trans (min_of a b) a a' (min_le_left a b p q) h) (le_trans (min_of a b) b b' (min_le_right a b p q) k)
 
 -- ---- the greater
 pub max-keeps : (P : Float → Type 0) (a b : Float) → P a → P b → P (max_of a b)
@@ -64,11 +64,11 @@ unfolding max_of
 le_max_right a b p q = chosen (λ (x : Float). T (le b x)) (lt a b) b a (λ _. le_refl b q) (le_of_not_lt a b p q)
 
 -- a bound above both is above it
-pub max_le : (a b x : Float) → T (le a x) → T (le b x) → T (le (max_of a b) x)
-max_le a b x h k = max-keeps (λ (y : Float). T (le y x)) a b h k
+pub max-le : (a b x : Float) → T (le a x) → T (le b x) → T (le (max_of a b) x)
+max-le a b x h k = max-keeps (λ (y : Float). T (le y x)) a b h k
 
 pub max-mono : (a a' b b' : Float) → T (le a a') → T (le b b') → T (le (max_of a b) (max_of a' b'))
 max-mono a a' b b' h k =
     let p = (number_of_le a a' h).1 in
     let q = (number_of_le b b' k).1 in
-    max_le a b (max_of a' b') (le_trans a a' (max_of a' b') h (le_max_left a' b' p q)) (le_trans b b' (max_of a' b') k (le_max_right a' b' p q))
+    max-le a b (max_of a' b') (le_trans a a' (max_of a' b') h (le_max_left a' b' p q)) (le_trans b b' (max_of a' b') k (le_max_right a' b' p q))

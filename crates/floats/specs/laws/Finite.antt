@@ -41,13 +41,13 @@ nonzero : (n : ℕ) (d : ℤ) → suc n * up d ≡ 0 → ⊥
 nonzero n d e = let p : 0 < suc n * up d = mul-pos (zero-lt-suc n) (up_pos d) in omega arith
 
 -- a divisor that is not below 0 is above 0
-pub positive_of_div : (f : Format) (x y : Float) → T (finite y) → T (le plus_zero y) → T (finite (div f x y)) → T (lt plus_zero y)
+pub positive_of-div : (f : Format) (x y : Float) → T (finite y) → T (le plus_zero y) → T (finite (div f x y)) → T (lt plus_zero y)
 unfolding of_bits
-positive_of_div f x nan p h k = absurd p
-positive_of_div f x (inf s) p h k = absurd p
-positive_of_div f x (fin s zero d) p h k = absurd (not_by_zero f x s d k)
-positive_of_div f x (fin true (suc n) d) p h k = absurd (nonzero n d (mi_of_above (fin true (suc n) d) tt h))
-positive_of_div f x (fin false (suc n) d) p h k =
+positive_of-div f x nan p h k = absurd p
+positive_of-div f x (inf s) p h k = absurd p
+positive_of-div f x (fin s zero d) p h k = absurd (not_by_zero f x s d k)
+positive_of-div f x (fin true (suc n) d) p h k = absurd (nonzero n d (mi_of_above (fin true (suc n) d) tt h))
+positive_of-div f x (fin false (suc n) d) p h k =
     lt_of_not_le plus_zero (fin false (suc n) d) tt tt
     (not_T (le (fin false (suc n) d) plus_zero) λ (l : T (le (fin false (suc n) d) plus_zero)).
     nonzero n d (pl_of_below (fin false (suc n) d) tt l))

@@ -76,14 +76,14 @@ eq_fin true m e true n d h = let l = eqb→eq (m * up e * down d) (n * up d * do
 same : (a b : ℕ) → a ≡ b → T (eqb a b)
 same a b e = eq→eqb e
 
-level_fin : (s : Bool) (m : ℕ) (e : ℤ) (t : Bool) (n : ℕ) (d : ℤ) → Leq (fin s m e) (fin t n d) → Leq (fin t n d) (fin s m e) → T (eq (fin s m e) (fin t n d))
+level-fin : (s : Bool) (m : ℕ) (e : ℤ) (t : Bool) (n : ℕ) (d : ℤ) → Leq (fin s m e) (fin t n d) → Leq (fin t n d) (fin s m e) → T (eq (fin s m e) (fin t n d))
 unfolding eq
-level_fin false m e false n d h k = and_i (eqb (m * up e * down d) (n * up d * down e)) true (same (m * up e * down d) (n * up d * down e) (omega arith)) tt
-level_fin false m e true n d h k =
+level-fin false m e false n d h k = and_i (eqb (m * up e * down d) (n * up d * down e)) true (same (m * up e * down d) (n * up d * down e) (omega arith)) tt
+level-fin false m e true n d h k =
     and_i (eqb (m * up e * down d) (n * up d * down e)) (eqb (m * up e * down d) 0) (same (m * up e * down d) (n * up d * down e) (omega arith)) (same (m * up e * down d) 0 (omega arith))
-level_fin true m e false n d h k =
+level-fin true m e false n d h k =
     and_i (eqb (m * up e * down d) (n * up d * down e)) (eqb (m * up e * down d) 0) (same (m * up e * down d) (n * up d * down e) (omega arith)) (same (m * up e * down d) 0 (omega arith))
-level_fin true m e true n d h k = and_i (eqb (m * up e * down d) (n * up d * down e)) true (same (m * up e * down d) (n * up d * down e) (omega arith)) tt
+level-fin true m e true n d h k = and_i (eqb (m * up e * down d) (n * up d * down e)) true (same (m * up e * down d) (n * up d * down e) (omega arith)) tt
 
 -- ---- the same for any two that are finite
 pub on_finite : (P : Float → Float → Type 0) → ((s : Bool) (m : ℕ) (e : ℤ) (t : Bool) (n : ℕ) (d : ℤ) → P (fin s m e) (fin t n d)) → (x y : Float) → T (finite x) → T (finite y) → P x y
@@ -104,7 +104,7 @@ module _ (x y : Float) (p : T (finite x)) (q : T (finite y)) where
   leq_of_eq = on_finite (λ (a b : Float). T (eq a b) → Leq a b) eq_fin x y p q
 
   pub eq_of_leq : Leq x y → Leq y x → T (eq x y)
-  eq_of_leq = on_finite (λ (a b : Float). Leq a b → Leq b a → T (eq a b)) level_fin x y p q
+  eq_of_leq = on_finite (λ (a b : Float). Leq a b → Leq b a → T (eq a b)) level-fin x y p q
 
   pub leq_of_le : T (le x y) → Leq x y
   unfolding le

@@ -30,8 +30,8 @@ minus_pos a b c e =
     let f : a - b ≡ c = omega arith in
     rw (le-leb b a (omega arith)) (ap pos f)
 
-pub minus_neg : (a b c : ℕ) → b ≡ a + suc c → minus a b ≡ negsuc c
-minus_neg a b c e =
+pub minus-neg : (a b c : ℕ) → b ≡ a + suc c → minus a b ≡ negsuc c
+minus-neg a b c e =
     let f : b - suc a ≡ c = omega arith in
     rw (lt-leb b a (omega arith)) (ap negsuc f)
 
@@ -40,7 +40,7 @@ pub minus_same : (a b c d : ℕ) → a + d ≡ c + b → minus a b ≡ minus c d
 minus_same a b c d e =
     elim (gap a b) [
       | over g h ↦ minus_pos a b g h ∙ sym (minus_pos c d g (omega arith))
-      | under g h ↦ minus_neg a b g h ∙ sym (minus_neg c d g (omega arith))
+      | under g h ↦ minus-neg a b g h ∙ sym (minus-neg c d g (omega arith))
     ]
 
 -- ---- sums of whole numbers

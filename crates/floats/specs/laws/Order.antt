@@ -1,6 +1,6 @@
 -- The order of floats: `le` and `lt` on numbers, infinities included. A number is any float that is not nan. Assumes nothing.
 use Rattle.std.specs.Prelude.{◌≡◌, refl, ◌⊎◌, Bool, true, false, not, ℕ, ◌+◌, ◌*◌, ◌≤◌, ◌<◌, ℤ, T, Float}
-use Rattle.std.proofs.Common.{sym, subst, inl, inr, mul_comm, mul_assoc, mul_left_comm, add-mul, mul-le-mul_right, le_of_mul_le_mul_right, arith, T_not}
+use Rattle.std.proofs.Common.{sym, subst, inl, inr, mul_comm, mul_assoc, mul_left_comm, add-mul, mul-le-mul_right, le_of_mul-le-mul_right, arith, T_not}
 use Rattle.std.specs.Float.{nan, inf, fin}
 use Rattle.std.specs.Float.Ieee.{lt, eq, le, neg}
 use Rattle.std.specs.Float.Ieee.Scale.{finite}
@@ -46,7 +46,7 @@ cross_trans p p' a q q' b r r' c B h k =
     let h' = simp (add-mul, mul_assoc, mul_comm) at (mul-le-mul_right c h) in
     let k' = simp (add-mul, mul_assoc, mul_comm, mul_left_comm) at (mul-le-mul_right a k) in
     let g : (p * c + r' * a) * b ≤ (r * a + p' * c) * b = simp (add-mul, mul_assoc, mul_comm) (omega arith) in
-    le_of_mul_le_mul_right g B
+    le_of_mul-le-mul_right g B
 
 pub leq_trans : {x y z : Float} → Leq x y → Leq y z → Leq x z
 leq_trans {x} {y} {z} h k = record { holds = cross_trans (pl x) (mi x) (den x) (pl y) (mi y) (den y) (pl z) (mi z) (den z) (den_pos y) h.holds k.holds }

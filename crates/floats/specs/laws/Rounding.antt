@@ -2,7 +2,7 @@
 -- and leaves the sign of a zero free. Assumes nothing.
 use Rattle.std.specs.Prelude.{◌≡◌, Bool, true, false, not, cond, ℕ, zero, suc, ◌+◌, ◌-◌, ◌*◌, ◌^◌, ◌≤◌, ◌<◌, pos, T, ltb, Float}
 use Rattle.std.proofs.Math.Path.{refl}
-use Rattle.std.proofs.Common.{sym, ap₂, ◌∙◌, subst, true≢false, zero-mul, mul_comm, mul-le-mul_right, le_of_mul_le_mul_right, arith, lit<}
+use Rattle.std.proofs.Common.{sym, ap₂, ◌∙◌, subst, true≢false, zero-mul, mul_comm, mul-le-mul_right, le_of_mul-le-mul_right, arith, lit<}
 use Rattle.std.proofs.Math.Nat.{mul-sub}
 use Rattle.std.specs.Float.{nan, inf, fin, Format, binary32}
 use Rattle.std.specs.Float.Ieee.{binary64, prec, emax, low, odd, units, round, neg, le}
@@ -23,10 +23,10 @@ unfolding odd
 odd-signed d s zero k l = refl
 odd-signed d s (suc q) k l = refl
 
-odd_neg : (d : ℕ) (s : Bool) (q k l : ℕ) → odd d (not s) q k l ≡ neg (odd d s q k l)
+odd-neg : (d : ℕ) (s : Bool) (q k l : ℕ) → odd d (not s) q k l ≡ neg (odd d s q k l)
 unfolding odd neg
-odd_neg d s zero k l = refl
-odd_neg d s (suc q) k l = refl
+odd-neg d s zero k l = refl
+odd-neg d s (suc q) k l = refl
 
 units-signed : (f : Format) (s : Bool) (q k : ℕ) → Signed s (units f s q k)
 unfolding units
@@ -36,21 +36,21 @@ units-signed f s q k = go (ltb (q * 2 ^ k) (2 ^ (low f + suc (emax f))))
     go true = odd-signed (suc (prec f)) s q k (low f)
     go false = refl
 
-units_neg : (f : Format) (s : Bool) (q k : ℕ) → units f (not s) q k ≡ neg (units f s q k)
+units-neg : (f : Format) (s : Bool) (q k : ℕ) → units f (not s) q k ≡ neg (units f s q k)
 unfolding units
-units_neg f s q k = go (ltb (q * 2 ^ k) (2 ^ (low f + suc (emax f))))
+units-neg f s q k = go (ltb (q * 2 ^ k) (2 ^ (low f + suc (emax f))))
   where
     go : (b : Bool) → cond b (odd (suc (prec f)) (not s) q k (low f)) (inf (not s)) ≡ neg (cond b (odd (suc (prec f)) s q k (low f)) (inf s))
-    go true = odd_neg (suc (prec f)) s q k (low f)
+    go true = odd-neg (suc (prec f)) s q k (low f)
     go false = unfold neg in refl
 
 pub round-signed : (f : Format) (s : Bool) (a c : ℕ) → Signed s (round f s a c)
 unfolding round
 round-signed f s a c = units-signed f s _ _
 
-pub round_neg : (f : Format) (s : Bool) (a c : ℕ) → round f (not s) a c ≡ neg (round f s a c)
+pub round-neg : (f : Format) (s : Bool) (a c : ℕ) → round f (not s) a c ≡ neg (round f s a c)
 unfolding round
-round_neg f s a c = units_neg f s _ _
+round-neg f s a c = units-neg f s _ _
 
 pub number_of-signed : (s : Bool) (x : Float) → Signed s x → T (number x)
 number_of-signed s nan h = absurd h
@@ -74,8 +74,8 @@ le_of_signed (fin false m e) (fin t n d) h k = absurd (true≢false (sym h))
 le_of_signed (fin true m e) (fin true n d) h k = absurd (true≢false k)
 
 -- ---- a fraction that is 0
-pub round_zero : (f : Format) (s : Bool) (c : ℕ) → 0 < c → round f s 0 c ≡ fin s 0 (pos 0)
-round_zero f s c C = round_same f s 0 c 0 1 C (lit< tt) (sym (zero-mul c)) ∙ closed f s
+pub round-zero : (f : Format) (s : Bool) (c : ℕ) → 0 < c → round f s 0 c ≡ fin s 0 (pos 0)
+round-zero f s c C = round_same f s 0 c 0 1 C (lit< tt) (sym (zero-mul c)) ∙ closed f s
   where
     closed : (f : Format) (s : Bool) → round f s 0 1 ≡ fin s 0 (pos 0)
     closed binary32 s = unfold round in refl
@@ -103,21 +103,21 @@ none : (p n c q m d : ℕ) → 0 < d → n ≤ p → q ≤ m → p * d + m * c �
 none p n c q m d D h k l =
     let b : q * c ≤ m * c = mul-le-mul_right c k in
     let a : p * d ≤ n * d = omega arith in
-    let e = le_of_mul_le_mul_right a D in
+    let e = le_of_mul-le-mul_right a D in
     omega arith
 
 -- the larger fraction rounds to the larger number
 rounded-mono : (f : Format) (a c b d : ℕ) → 0 < c → 0 < d → a * d ≤ b * c → T (le (round f true b d) (round f true a c))
 rounded-mono f a c b d C D h =
-    subst (λ (z : Float). T (le z (round f true a c))) (sym (round_neg f false b d))
-    (subst (λ (z : Float). T (le (neg (round f false b d)) z)) (sym (round_neg f false a c))
+    subst (λ (z : Float). T (le z (round f true a c))) (sym (round-neg f false b d))
+    (subst (λ (z : Float). T (le (neg (round f false b d)) z)) (sym (round-neg f false a c))
     (neg_anti (round f false a c) (round f false b d) (round_mono f a c b d C D h)))
 
 pub rounds-mono : {f : Format} {x y : Float} {p n c q m d : ℕ} → 0 < c → 0 < d → Rounds f x p n c → Rounds f y q m d → p * d + m * c ≤ q * c + n * d → T (le x y)
 rounds-mono {f} {x} {y} {p} {n} {c} {q} {m} {d} C D (above h e) (above k g) l =
     rw (e, g) (round_mono f (p - n) c (q - m) d C D (gap p n c q m d h k l))
 rounds-mono {f} {x} {y} {p} {n} {c} {q} {m} {d} C D (above h e) (under k g) l =
-    rw (e, g, none p n c q m d D h k l, none m q d n p c C k h (omega arith), round_zero f false c C, round_zero f true d D) (unfold le in tt)
+    rw (e, g, none p n c q m d D h k l, none m q d n p c C k h (omega arith), round-zero f false c C, round-zero f true d D) (unfold le in tt)
 rounds-mono {f} {x} {y} {p} {n} {c} {q} {m} {d} C D (under h e) (above k g) l =
     rw (e, g) (le_of_signed (round f true (n - p) c) (round f false (q - m) d) (round-signed f true (n - p) c) (round-signed f false (q - m) d))
 rounds-mono {f} {x} {y} {p} {n} {c} {q} {m} {d} C D (under h e) (under k g) l =

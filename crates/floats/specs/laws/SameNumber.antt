@@ -46,25 +46,25 @@ signed_of-positive (inf false) h = refl
 signed_of-positive (fin true m e) h = absurd h
 signed_of-positive (fin false m e) h = refl
 
-pub mul_signed : (f : Format) (s t : Bool) (x y : Float) → Signed s x → Signed t y → T (finite (mul f x y)) → Signed (unlike s t) (mul f x y)
+pub mul-signed : (f : Format) (s t : Bool) (x y : Float) → Signed s x → Signed t y → T (finite (mul f x y)) → Signed (unlike s t) (mul f x y)
 unfolding mul
-mul_signed f s t nan y p q h = absurd h
-mul_signed f s t (inf u) nan p q h = absurd h
-mul_signed f s t (inf u) (inf v) p q h = absurd h
-mul_signed f s t (inf u) (fin v n d) p q h = absurd (infinite (eqb n 0) (unlike u v) h)
-mul_signed f s t (fin u m e) nan p q h = absurd h
-mul_signed f s t (fin u m e) (inf v) p q h = absurd (infinite (eqb m 0) (unlike u v) h)
-mul_signed f s t (fin u m e) (fin v n d) p q h = rw (← p, ← q) (round-signed f (unlike u v) (m * up e * (n * up d)) (down e * down d))
+mul-signed f s t nan y p q h = absurd h
+mul-signed f s t (inf u) nan p q h = absurd h
+mul-signed f s t (inf u) (inf v) p q h = absurd h
+mul-signed f s t (inf u) (fin v n d) p q h = absurd (infinite (eqb n 0) (unlike u v) h)
+mul-signed f s t (fin u m e) nan p q h = absurd h
+mul-signed f s t (fin u m e) (inf v) p q h = absurd (infinite (eqb m 0) (unlike u v) h)
+mul-signed f s t (fin u m e) (fin v n d) p q h = rw (← p, ← q) (round-signed f (unlike u v) (m * up e * (n * up d)) (down e * down d))
 
-pub div_signed : (f : Format) (s t : Bool) (x y : Float) → Signed s x → Signed t y → T (finite (div f x y)) → Signed (unlike s t) (div f x y)
+pub div-signed : (f : Format) (s t : Bool) (x y : Float) → Signed s x → Signed t y → T (finite (div f x y)) → Signed (unlike s t) (div f x y)
 unfolding div
-div_signed f s t nan y p q h = absurd h
-div_signed f s t (inf u) nan p q h = absurd h
-div_signed f s t (inf u) (inf v) p q h = absurd h
-div_signed f s t (inf u) (fin v n d) p q h = absurd h
-div_signed f s t (fin u m e) nan p q h = absurd h
-div_signed f s t (fin u m e) (inf v) p q h = rw (p, q)
-div_signed f s t (fin u m e) (fin v n d) p q h = go (eqb n 0) h
+div-signed f s t nan y p q h = absurd h
+div-signed f s t (inf u) nan p q h = absurd h
+div-signed f s t (inf u) (inf v) p q h = absurd h
+div-signed f s t (inf u) (fin v n d) p q h = absurd h
+div-signed f s t (fin u m e) nan p q h = absurd h
+div-signed f s t (fin u m e) (inf v) p q h = rw (p, q)
+div-signed f s t (fin u m e) (fin v n d) p q h = go (eqb n 0) h
   where
     r : Float
     r = round f (unlike u v) (m * up e * down d) (n * up d * down e)

@@ -1,6 +1,6 @@
 -- Laws of round and ceil: they keep the order, and of a finite number they give a finite whole number, never -0. Assumes nothing.
 use Rattle.std.specs.Prelude.{ℕ, ◌+◌, ◌-◌, ◌*◌, ◌/◌, ◌≤◌, ◌<◌, ◌≡◌, refl, Bool, true, false, cond, T, Float}
-use Rattle.std.proofs.Common.{le_trans, le_of_eq, le_of_suc_le_suc, div-one, mul-pos, mul_comm, mul_assoc, mul_left_comm, mul_right_comm, add-mul, suc-mul, mul-le-mul_right, le_of_mul_le_mul_right, div-lt_iff_lt-mul, arith, sym, subst, ◌∙◌, lit<}
+use Rattle.std.proofs.Common.{le_trans, le_of_eq, le_of_suc-le-suc, div-one, mul-pos, mul_comm, mul_assoc, mul_left_comm, mul_right_comm, add-mul, suc-mul, mul-le-mul_right, le_of_mul-le-mul_right, div-lt_iff_lt-mul, arith, sym, subst, ◌∙◌, lit<}
 use Rattle.std.proofs.Math.Nat.{lt-div-mul-add}
 use Rattle.std.specs.Float.{nan, inf, fin, binary64}
 use Rattle.std.specs.Float.Ieee.{fits, le, in_signed, in_unsigned}
@@ -37,7 +37,7 @@ reaches : (c d : ℕ) → 0 < d → c ≤ (c + (d - 1)) / d * d
 reaches c d D = let h = lt-div-mul-add {a = c + (d - 1)} D in omega arith
 
 upper : (a b k : ℕ) → 0 < b → a ≤ k * b → (a + (b - 1)) / b ≤ k
-upper a b k B h = le_of_suc_le_suc ((div-lt_iff_lt-mul B).1 (rw (suc-mul k b) (omega arith)))
+upper a b k B h = le_of_suc-le-suc ((div-lt_iff_lt-mul B).1 (rw (suc-mul k b) (omega arith)))
 
 upwards-cut : Cut upwards
 upwards-cut = record { mono = mono; own = own }
@@ -46,7 +46,7 @@ upwards-cut = record { mono = mono; own = own }
     mono true a b c d B D h = div_mono a b c d B D h
     mono false a b c d B D h =
         upper a b ((c + (d - 1)) / d) B
-        (le_of_mul_le_mul_right
+        (le_of_mul-le-mul_right
         (le_trans h (le_trans (mul-le-mul_right b (reaches c d D)) (le_of_eq (mul_right_comm ((c + (d - 1)) / d) d b)))) D)
 
     own : (s : Bool) (n : ℕ) → upwards s n 1 ≡ n

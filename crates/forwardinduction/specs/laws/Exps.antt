@@ -1,7 +1,7 @@
 -- The exps of a layer, 64 nodes at a time: exp's own test stands for those before it, and what is kept of a part's exps on the way through it. Assumes nothing.
 use Rattle.std.specs.Prelude.{ℕ, ◌+◌, ◌-◌, ◌*◌, ◌/◌, ◌%◌, min, ◌≤◌, ◌<◌, ◌≡◌, refl, Bool, true, cond, List, ◌++◌, T, length, get_or, set, take, ℤ, pos, Float}
 use Rattle.std.proofs.Common.{sym, ap, ◌∙◌, arith, get_or-take, length-take-le}
-use Rattle.std.proofs.Math.ListN.{get_or_append}
+use Rattle.std.proofs.Math.ListN.{get_or-append}
 use Rattle.std.specs.Float.{nan, inf, fin}
 use Rattle.std.specs.Float.Ieee.{binary64, add, mul, neg}
 use Rattle.floats.specs.declared.Answer.{Answer}
@@ -116,6 +116,6 @@ module _ (f : Float → Float) (nodes : List ℤ) (count : ℕ) where
             let t : j - i < n = omega arith in
             let v = x.values g (j - i) place (omega (arith, length-take-le n xs l)) in
             let d : get_or (take n xs) (j - i) nan ≡ f (number_at nodes j) = get_or-take n xs (j - i) nan t ∙ rw p at (a.below (j - i) t) in
-            let y : get_or ys (j - i) nan ≡ get_or (ys ++ rest) (j - i) nan = sym (get_or_append ys rest nan (j - i) (omega arith)) in
+            let y : get_or ys (j - i) nan ≡ get_or (ys ++ rest) (j - i) nan = sym (get_or-append ys rest nan (j - i) (omega arith)) in
             let z : get_or ys (j - i) nan ≡ get_or es (j % 64) nan = rw (q, ← o) y in
             ap (λ (u : Float). exp_at u place) (sym d) ∙ v ∙ ap Value z

@@ -25,11 +25,11 @@ use Rattle.forwardinduction.specs.laws.Advances.{layer_shift, advanced_at, Moved
 use Rattle.lattice.specs.laws.Laid.{front_nodes, front_layer, Stepped}
 
 -- A row's part that is as long as the numbers says all that the row says.
-row_take : (ns : List ℤ) (o : List Float) → row_of ns (take (length ns) o) ≡ row_of ns o
+row-take : (ns : List ℤ) (o : List Float) → row_of ns (take (length ns) o) ≡ row_of ns o
 unfolding row_of
-row_take [] o = refl
-row_take (n ∷ ns) [] = refl
-row_take (n ∷ ns) (x ∷ o) = ap (λ (r : List At). record { node = n; value = x } ∷ r) (row_take ns o)
+row-take [] o = refl
+row-take (n ∷ ns) [] = refl
+row-take (n ∷ ns) (x ∷ o) = ap (λ (r : List At). record { node = n; value = x } ∷ r) (row-take ns o)
 
 odd : (k : ℕ) → (k % 2 ≡ 0 → ⊥) → k % 2 ≡ 1
 odd k h = omega arith
@@ -65,7 +65,7 @@ module _ {flat : Bool} {one two c n : ℕ} {nodes : List ℤ} {probabilities : L
   next_row step rows = row_of (numbers_in (front_nodes n (drop (c * 2) nodes))) (current_part (step + 1) n rows.first rows.second)
 
   next_row_lem : (step : ℕ) (o : List Float) → row_of s.numbers o ≡ row_of (numbers_in (front_nodes n (drop (c * 2) nodes))) (take n o)
-  next_row_lem step o = sym (row_take s.numbers o) ∙ rw (s.counted, s.are_next)
+  next_row_lem step o = sym (row-take s.numbers o) ∙ rw (s.counted, s.are_next)
 
   advance_more : {A : Type 0} (spacing dt shift : Float) (step : ℕ) (rows : Both) (k : List At → Outcome A) → c ≤ length rows.first → c ≤ length rows.second → n ≤ length rows.first → n ≤ length rows.second
       → follow (onward spacing dt shift step (transitions_in flat (front_nodes c nodes) (take (c * 3) probabilities)) (row_of (numbers_in (front_nodes c nodes)) (current_part step c rows.first rows.second)) []) k

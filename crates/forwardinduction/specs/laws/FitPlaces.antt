@@ -29,14 +29,14 @@ use Rattle.forwardinduction.specs.laws.FitSteps.{discounted_of, add_at, share_at
 abbrev Long : List Float → List Float → Type 0
 Long out o = length o ≡ length out
 
-add_length : (place p c : ℕ) (x : Float) (out : List Float) → Gives (Long out) (add_at place p c x out)
+add-length : (place p c : ℕ) (x : Float) (out : List Float) → Gives (Long out) (add_at place p c x out)
 unfolding add_at
-add_length place p c x out =
+add-length place p c x out =
     gives-cond (ltb p c) _ _ (gives-finite (add binary64 (get_or out p nan) x) _ _ (λ h. gives (length-set out p _))) (gives (length-set out p x))
 
-share_length : (place p c : ℕ) (price pr : Float) (out : List Float) → Gives (Long out) (share_at place p c price pr out)
+share-length : (place p c : ℕ) (price pr : Float) (out : List Float) → Gives (Long out) (share_at place p c price pr out)
 unfolding share_at
-share_length place p c price pr out = gives-finite (mul binary64 price pr) _ _ (λ h. add_length place p c _ out)
+share-length place p c price pr out = gives-finite (mul binary64 price pr) _ _ (λ h. add-length place p c _ out)
 
 three_length : (place : ℕ) (flat : Bool) (c count : ℕ) (price d m u : Float) (out : List Float) → Gives (Long out) (add_three place flat c count price d m u out)
 unfolding add_three
@@ -45,9 +45,9 @@ three_length place flat c count price d m u out =
     let p2 : ℕ = spot_at flat count 2 in
     let p1 : ℕ = spot_at flat count 1 in
     let last : List Float → Outcome (List Float) = λ b. share_at place p1 (past (past c p3) p2) price u b in
-    gives-follow (share_at place p3 c price d out) (λ a. follow (share_at place p2 (past c p3) price m a) last) (share_length place p3 c price d out)
-    (λ a la. gives-follow (share_at place p2 (past c p3) price m a) last (share_length place p2 (past c p3) price m a)
-    (λ b lb. longer b (share_length place p1 (past (past c p3) p2) price u b) (lb ∙ la)))
+    gives-follow (share_at place p3 c price d out) (λ a. follow (share_at place p2 (past c p3) price m a) last) (share-length place p3 c price d out)
+    (λ a la. gives-follow (share_at place p2 (past c p3) price m a) last (share-length place p2 (past c p3) price m a)
+    (λ b lb. longer b (share-length place p1 (past (past c p3) p2) price u b) (lb ∙ la)))
   where
     longer : (b : List Float) {o : Outcome (List Float)} → Gives (Long b) o → length b ≡ length out → Gives (Long out) o
     longer b (gives p) e = gives (p ∙ e)
@@ -83,11 +83,11 @@ module _ {t : ℤ} {ns : List ℤ} (climbs : Climbs t ns) (place : ℕ) (price :
       let k2 : List At → Outcome (List At) = λ row. finite_then (mul binary64 price pu) place λ z. contribute place nu z row in
       let k1 : List At → Outcome (List At) = λ row. finite_then (mul binary64 price pm) place λ y. follow (contribute place nm y row) k2 in
       share_then pd out low l k1
-      ∙ follow_where _ _ (share_length place a c price pd out)
+      ∙ follow_where _ _ (share-length place a c price pd out)
       (λ o lo.
       let m : length ns ≤ length o = omega arith in
       share_then pm o mid m k2
-      ∙ follow_where _ _ (share_length place b (past c a) price pm o) (λ q lq. let w : length ns ≤ length q = omega arith in share_last pu q high w))
+      ∙ follow_where _ _ (share-length place b (past c a) price pm o) (λ q lq. let w : length ns ≤ length q = omega arith in share_last pu q high w))
 
   -- a node's three contributions
   three_at : {flat : Bool} {c count : ℕ} {m : ℤ} (d p u : Float) (out : List Float) → Spots ns flat c count m → length ns ≤ length out → contribute_three place (made_of flat m d p u) price (row_of (take c ns) out) ≡ follow (add_three place flat c count price d p u out) λ o. given (row_of (take (after_three flat c count) ns) o)

@@ -44,8 +44,8 @@ module _ (curve : Float → ℕ → Answer) (dt : Float) (step : ℕ) (flat : Bo
       step-moved h = sym (went_on _ _ (rw here at e) v ∙ follow-given _ _ (sym w ∙ ap (λ (z : Check). outcome_of z after) h))
 
 -- The current part is as long as the layer.
-pub current_length : (step count : ℕ) (first second : List Float) → count ≤ length first → count ≤ length second → length (current_part step count first second) ≡ count
-current_length step count first second h k = go (even step)
+pub current-length : (step count : ℕ) (first second : List Float) → count ≤ length first → count ≤ length second → length (current_part step count first second) ≡ count
+current-length step count first second h k = go (even step)
   where
     go : (b : Bool) → length (cond b (take count first) (take count second)) ≡ count
     go true = length-take-le count first h

@@ -56,9 +56,9 @@ value_at_lem (above {x = x} {xs = xs} b c) (suc p) (v ∷ vs) h l =
 
 -- ---- contributing
 
-add_suc : (place p c : ℕ) (x o : Float) (out : List Float) → add_at place (suc p) (suc c) x (o ∷ out) ≡ follow (add_at place p c x out) λ rest. given (o ∷ rest)
+add-suc : (place p c : ℕ) (x o : Float) (out : List Float) → add_at place (suc p) (suc c) x (o ∷ out) ≡ follow (add_at place p c x out) λ rest. given (o ∷ rest)
 unfolding add_at on_outcome
-add_suc place p c x o out = rw (leb-suc-suc (suc p) c) (go (ltb p c) (finite (add binary64 (get_or out p nan) x)))
+add-suc place p c x o out = rw (leb-suc-suc (suc p) c) (go (ltb p c) (finite (add binary64 (get_or out p nan) x)))
   where
     go : (b f : Bool)
         → cond b (cond (not f) (refuse 27 place) (given (o ∷ set out p (add binary64 (get_or out p nan) x)))) (given (o ∷ set out p x))
@@ -75,8 +75,8 @@ add_again : (place c : ℕ) (x o : Float) (out : List Float) → add_at place 0 
 unfolding add_at
 add_again place c x o out = rw (lt-ltb 0 (suc c) (omega arith))
 
-past_suc : (c p : ℕ) → past (suc c) (suc p) ≡ suc (past c p)
-past_suc c p = rw (leb-suc-suc (suc p) c) (go (ltb p c))
+past-suc : (c p : ℕ) → past (suc c) (suc p) ≡ suc (past c p)
+past-suc c p = rw (leb-suc-suc (suc p) c) (go (ltb p c))
   where
     go : (b : Bool) → cond b (suc c) (suc p + 1) ≡ suc (cond b c (p + 1))
     go true = refl
@@ -96,7 +96,7 @@ contribute_at place x (above g r) (suc p) zero (o ∷ out) a b l = absurd (omega
 contribute_at place x (above {x = n} {xs = ns} g r) (suc p) (suc c) (o ∷ out) a b l =
     let k : p < length ns = omega arith in
     let t : below n (get_or ns p (pos 0)) ≡ true = T_true _ (climbs_at r p k) in
-    rw (t, below_asym n (get_or ns p (pos 0)) t, contribute_at place x r p c out (omega arith) k (omega arith), add_suc place p c x o out, past_suc c p)
+    rw (t, below_asym n (get_or ns p (pos 0)) t, contribute_at place x r p c out (omega arith) k (omega arith), add-suc place p c x o out, past-suc c p)
     (follow-follow (λ row. given (record { node = n; value = o } ∷ row)) (add_at place p c x out) _ _ (λ z. follow-given _ _)
     ∙ sym (follow-follow (λ z. given (row_of (take (suc (past c p)) (n ∷ ns)) z)) (add_at place p c x out) _ _ (λ z. follow-given _ _)))
 

@@ -4,7 +4,7 @@ use Rattle.std.proofs.Common.{add-one, arith, ◌∙◌, length-set, take-append
 use Rattle.std.proofs.Math.Path.{◌≡◌, sym, ap}
 use mathlib.Core.List.{List, [], ◌∷◌, ◌++◌, append-nil}
 use Rattle.std.proofs.Math.ListN.{length, take, drop}
-use Rattle.std.proofs.Math.Seq.{take-suc-set, drop-set-lt, append_snoc, drop_drop, length-take-le}
+use Rattle.std.proofs.Math.Seq.{take-suc-set, drop-set-lt, append_snoc, drop-drop, length-take-le}
 use Rattle.floats.specs.declared.Refusal.{Refusal}
 use Rattle.floats.specs.declared.Answer.{Answer}
 use Rattle.floats.specs.declared.Answer.TheVariants as answer
@@ -85,6 +85,6 @@ module _ (whole rest : Outcome (List Float)) (before after : List Float) (k : �
       let b : k < length after = omega (arith, f.kept) in
       record {
         same = rw (add-one k, take-suc-set after k v b, one_onto (take k after) v next) (rw (e, g) at f.same);
-        tail = drop-set-lt (k + 1) after k v (omega arith) ∙ sym (drop_drop 1 k after) ∙ ap (drop 1) f.tail ∙ drop_drop 1 k before;
+        tail = drop-set-lt (k + 1) after k v (omega arith) ∙ sym (drop-drop 1 k after) ∙ ap (drop 1) f.tail ∙ drop-drop 1 k before;
         kept = rw (length-set after k v) f.kept;
       }

@@ -4,7 +4,7 @@ use Rattle.std.proofs.Common.{add-one, arith, sym, ap, ◌∙◌, drop_of_length
 use Rattle.std.proofs.Math.Path.{refl}
 use mathlib.Core.List.{List, [], ◌∷◌}
 use Rattle.std.proofs.Math.ListN.{length, drop}
-use Rattle.std.proofs.Math.Seq.{drop_cons}
+use Rattle.std.proofs.Math.Seq.{drop-cons}
 use Rattle.floats.specs.declared.Answer.{Answer}
 use Rattle.floats.specs.declared.Answer.TheVariants.{Value, Refused}
 use Rattle.floats.specs.declared.Refusal.{Refusal}
@@ -47,7 +47,7 @@ module _ (alpha : Float) (times sigmas : List Float) (start end : Float) (place 
     -- the last entry holds on and on
     pub last : {r : Answer} (d : Float) → r ≡ with_piece alpha lower end end (get_or sigmas i d) total place → i < length sigmas → length times ≤ i + 1 → r ≡ variance_over alpha times sigmas start end place
     unfolding pieces
-    last d e h k = e ∙ final ∙ (rw (drop_of_length-le times k, drop_cons sigmas i d h) at l.same)
+    last d e h k = e ∙ final ∙ (rw (drop_of_length-le times k, drop-cons sigmas i d h) at l.same)
       where
         final : with_piece alpha lower end end (get_or sigmas i d) total place ≡ pieces alpha start end lower [] (get_or sigmas i d ∷ drop (suc i) sigmas) total place
         final = refl
@@ -66,8 +66,8 @@ module _ (alpha : Float) (times sigmas : List Float) (start end : Float) (place 
         → and_then (with_piece alpha lower (min_of end (get_or times (i + 1) d)) end (get_or sigmas i d) total place) (onward (get_or times (i + 1) d))
         ≡ variance_over alpha times sigmas start end place
     turn d h k =
-        let a : drop (i + 1) times ≡ get_or times (i + 1) d ∷ drop (i + 1 + 1) times = rw (add-one (i + 1)) (drop_cons times (i + 1) d k) in
-        let b : drop i sigmas ≡ get_or sigmas i d ∷ drop (i + 1) sigmas = rw (add-one i) (drop_cons sigmas i d h) in
+        let a : drop (i + 1) times ≡ get_or times (i + 1) d ∷ drop (i + 1 + 1) times = rw (add-one (i + 1)) (drop-cons times (i + 1) d k) in
+        let b : drop i sigmas ≡ get_or sigmas i d ∷ drop (i + 1) sigmas = rw (add-one i) (drop-cons sigmas i d h) in
         more (get_or times (i + 1) d) (get_or sigmas i d) (drop (i + 1 + 1) times) (drop (i + 1) sigmas) ∙ (rw (a, b) at l.same)
 
     -- the piece of entry i, its upper end being u

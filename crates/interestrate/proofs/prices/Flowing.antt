@@ -8,7 +8,7 @@ use native.Mathlib.Numerals.{add-one}
 use borrow.Author.Tests.{lt-ltb, le-ltb}
 use lib.Dec.{ltb}
 use lib.ListN.{length, get_or, take, drop, length-drop, take-append-drop, drop_of_length-le}
-use lib.Seq.{drop_cons, drop_drop, length-take-le}
+use lib.Seq.{drop-cons, drop-drop, length-take-le}
 use lib.Ieee.{Float, nan}
 use Rattle.floats.specs.declared.Refusal.{Refusal}
 use Rattle.terms.specs.declared.Epoch.{Epoch}
@@ -38,7 +38,7 @@ module _ (y : Float) (compounding : Compounding) (settlement : Epoch) (days : Li
     unfolding flows
     turn h =
         let a : i < length amounts = omega arith in
-        rw (add-one i, drop_cons days i 0 h, drop_cons amounts i nan a)
+        rw (add-one i, drop-cons days i 0 h, drop-cons amounts i nan a)
 
     -- The same where the flow's own outcome is known.
     follows : {s : YieldPrice}
@@ -107,7 +107,7 @@ module _ {A : Type 0} (xs : List A) (i end : ℕ) (within : PartEnd i (length xs
   part-rest : part i end xs ++ drop end xs ≡ drop i xs
   part-rest =
       let e : i + (end - i) ≡ end = omega arith in
-      ap (λ (n : ℕ). part i end xs ++ drop n xs) (sym e) ∙ ap (λ (zs : List A). part i end xs ++ zs) (sym (drop_drop (end - i) i xs)) ∙ take-append-drop (end - i) (drop i xs)
+      ap (λ (n : ℕ). part i end xs ++ drop n xs) (sym e) ∙ ap (λ (zs : List A). part i end xs ++ zs) (sym (drop-drop (end - i) i xs)) ∙ take-append-drop (end - i) (drop i xs)
 
 pub part-fits : (days : List ℕ) (amounts : List Float) (i end : ℕ) → length amounts ≡ length days → PartEnd i (length days) end
     → (length (part i end amounts) ≡ length (part i end days)) × (length (part i end days) ≤ 64)

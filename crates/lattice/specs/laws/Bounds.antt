@@ -33,8 +33,8 @@ mag_pred (negsuc n) = omega arith
 pub within-numbered : {m : ℤ} → Within m → Numbered m
 within-numbered {m} w = let h = w.within in record { numbered = omega arith }
 
-pub numbered_suc : {m : ℤ} → Within m → Numbered (suc_ℤ m)
-numbered_suc {m} w = let h = w.within in let k = mag_suc m in record { numbered = omega arith }
+pub numbered-suc : {m : ℤ} → Within m → Numbered (suc_ℤ m)
+numbered-suc {m} w = let h = w.within in let k = mag_suc m in record { numbered = omega arith }
 
 pub numbered_pred : {m : ℤ} → Within m → Numbered (pred_ℤ m)
 numbered_pred {m} w = let h = w.within in let k = mag_pred m in record { numbered = omega arith }

@@ -1,7 +1,7 @@
 -- A cast to a signed integer keeps the order of finite floats: it cuts off what is behind the point. Assumes nothing.
 use Rattle.std.specs.Prelude.{ℕ, zero, suc, ◌+◌, ◌-◌, ◌*◌, ◌/◌, ◌^◌, ◌≤◌, ◌<◌, min, ◌≡◌, refl, Bool, true, false, T, leb, ℤ, pos, negsuc, neg_ℤ, Float}
-use Rattle.std.proofs.Common.{le_trans, le-div_iff_mul-le, div-mul-le_self, mul-le-mul_right, le_of_mul_le_mul_right, mul_right_comm, arith, sym, ap, subst, ◌∙◌, le→leb, leb→le}
-use Rattle.std.proofs.Math.Nat.{zero-div, le_min, min-le_left, min-le_right}
+use Rattle.std.proofs.Common.{le_trans, le-div_iff_mul-le, div-mul-le_self, mul-le-mul_right, le_of_mul-le-mul_right, mul_right_comm, arith, sym, ap, subst, ◌∙◌, le→leb, leb→le}
+use Rattle.std.proofs.Math.Nat.{zero-div, le-min, min-le_left, min-le_right}
 use Rattle.std.proofs.Math.IntN.{suc_ℤ}
 use Rattle.std.specs.Int.Signed.{le_z, mag}
 use Rattle.std.specs.Float.{nan, inf, fin, binary64}
@@ -21,10 +21,10 @@ cut-mono a b c d C D h =
     let q : a / c * c ≤ a = div-mul-le_self a c in
     let r : a / c * c * d ≤ a * d = mul-le-mul_right d q in
     let s : a / c * d * c ≤ b * c = rw (mul_right_comm (a / c) d c) (le_trans r h) in
-    (le-div_iff_mul-le D).1 (le_of_mul_le_mul_right s C)
+    (le-div_iff_mul-le D).1 (le_of_mul-le-mul_right s C)
 
 min-mono : (a b k : ℕ) → a ≤ b → min a k ≤ min b k
-min-mono a b k h = le_min (le_trans (min-le_left a k) h) (min-le_right a k)
+min-mono a b k h = le-min (le_trans (min-le_left a k) h) (min-le_right a k)
 
 minus-mono : (a b : ℕ) → b ≤ a → T (le_z (neg_ℤ (pos a)) (neg_ℤ (pos b)))
 minus-mono zero zero h = tt

@@ -1,6 +1,6 @@
 -- A node number that is not below another lies some steps above it; and node numbers as doubles keep their order. Assumes nothing.
 use Rattle.std.specs.Prelude.{ℕ, zero, suc, ◌+◌, ◌-◌, ◌*◌, ◌≤◌, ◌<◌, ◌≡◌, refl, Bool, true, false, T, leb, ℤ, pos, negsuc, Float}
-use Rattle.std.proofs.Common.{add_suc, arith, sym, ap, subst, ◌∙◌, leb→le, ltb→lt, lit<}
+use Rattle.std.proofs.Common.{add-suc, arith, sym, ap, subst, ◌∙◌, leb→le, ltb→lt, lit<}
 use Rattle.std.proofs.Math.Nat.{sub-zero}
 use Rattle.std.proofs.Math.IntN.{suc_ℤ, pred_ℤ}
 use Rattle.std.specs.Int.Signed.{le_z}
@@ -18,11 +18,11 @@ pub record Gap (a b : ℤ) : Type 0 where
 up_pos : (m g : ℕ) → up (pos m) g ≡ pos (m + g)
 unfolding up
 up_pos m zero = let e : m ≡ m + 0 = omega arith in ap pos e
-up_pos m (suc g) = ap suc_ℤ (up_pos m g) ∙ ap pos (sym (add_suc m g))
+up_pos m (suc g) = ap suc_ℤ (up_pos m g) ∙ ap pos (sym (add-suc m g))
 
-up_to_pos : (m n : ℕ) → up (negsuc m) (suc m + n) ≡ pos n
-up_to_pos zero n = let e : 1 + n ≡ suc n = omega arith in rw e (sym (up_shift (negsuc 0) n) ∙ up_pos 0 n ∙ (let z : 0 + n ≡ n = omega arith in ap pos z))
-up_to_pos (suc m) n = let e : suc (suc m) + n ≡ suc (suc m + n) = omega arith in rw e (sym (up_shift (negsuc (suc m)) (suc m + n)) ∙ up_to_pos m n)
+up_to-pos : (m n : ℕ) → up (negsuc m) (suc m + n) ≡ pos n
+up_to-pos zero n = let e : 1 + n ≡ suc n = omega arith in rw e (sym (up_shift (negsuc 0) n) ∙ up_pos 0 n ∙ (let z : 0 + n ≡ n = omega arith in ap pos z))
+up_to-pos (suc m) n = let e : suc (suc m) + n ≡ suc (suc m + n) = omega arith in rw e (sym (up_shift (negsuc (suc m)) (suc m + n)) ∙ up_to-pos m n)
 
 up_negsuc : (n g : ℕ) → up (negsuc (n + g)) g ≡ negsuc n
 unfolding up
@@ -35,7 +35,7 @@ gap_of (pos m) (pos n) h =
     let e : m + (n - m) ≡ n = omega arith in
     record { size = n - m; is = sym (up_pos m (n - m) ∙ ap pos e) }
 gap_of (pos m) (negsuc n) h = absurd h
-gap_of (negsuc m) (pos n) h = record { size = suc m + n; is = sym (up_to_pos m n) }
+gap_of (negsuc m) (pos n) h = record { size = suc m + n; is = sym (up_to-pos m n) }
 gap_of (negsuc m) (negsuc n) h =
     let k = leb→le n m h in
     let e : n + (m - n) ≡ m = omega arith in

@@ -1,6 +1,6 @@
 -- A layer that is filled, and the next one laid behind it: together what growing promises. Assumes nothing.
 use Prim.Native.Nat.{ℕ, zero, suc, ◌+◌, ◌*◌, ◌≤◌, ◌<◌}
-use Rattle.std.proofs.Common.{arith, sym, ap, ◌∙◌, append_assoc, drop_drop}
+use Rattle.std.proofs.Common.{arith, sym, ap, ◌∙◌, append_assoc, drop-drop}
 use Rattle.std.specs.Prelude.{◌≡◌, refl, Bool, true, false, cond, List, ◌∷◌, ◌++◌, drop, ℤ, pos, Float}
 use Rattle.std.proofs.Math.ListN.{length, get_or}
 use Rattle.std.proofs.Math.Seq.{drop-append-add}
@@ -114,7 +114,7 @@ module _ {s : Step} {c : ℕ} {before mid : List ℤ} {beforeP midP : List Float
       let l = front_long in
       let e : 2 * (c + n) ≡ length p + n * 2 = omega arith in
       let g : c * 2 + n * 2 ≡ (c + n) * 2 = omega arith in
-      ap (λ (z : List ℤ). drop (2 * (c + n)) z) f.slice ∙ (rw (e, drop-append-add p (drop (c * 2) before) (n * 2), drop_drop (n * 2) (c * 2) before, g))
+      ap (λ (z : List ℤ). drop (2 * (c + n)) z) f.slice ∙ (rw (e, drop-append-add p (drop (c * 2) before) (n * 2), drop-drop (n * 2) (c * 2) before, g))
 
   pushed_is : 2 * (c + length (destinations f.made)) ≤ length mid
       → pushed_all c (nothing_below (get_or mid 1 (pos 0))) (middles_from mid 0 c) mid

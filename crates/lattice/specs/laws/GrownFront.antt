@@ -17,9 +17,9 @@ use Rattle.lattice.specs.laws.Middles.{Along, transitions-along}
 use Rattle.lattice.specs.laws.NextLayer.{NextLayer, next_layer, step-sound, upright}
 use Rattle.lattice.specs.laws.Growing.{Grew, grown_next}
 
-gives_true : {A : Type 0} {P : A → Type 0} (b : Bool) (o : Outcome A) (r : Refusal) → (b ≡ true → Gives P o) → Gives P (cond b o (refused r))
-gives_true true o r h = h refl
-gives_true false o r h = nothing
+gives-true : {A : Type 0} {P : A → Type 0} (b : Bool) (o : Outcome A) (r : Refusal) → (b ≡ true → Gives P o) → Gives P (cond b o (refused r))
+gives-true true o r h = h refl
+gives-true false o r h = nothing
 
 -- ---- one step
 
@@ -37,7 +37,7 @@ grown_next_lem room decay spacing low (n ∷ ns) k v h c a b =
     gives-follow _ _ (step-sound spacing decay v k) λ s sound.
     gives-follow _ _ (transitions-along s (n ∷ ns)) λ ts along.
     let d = length (destinations ts) in
-    gives_true (fits room (length (n ∷ ns) + d) d) _ _ λ e.
+    gives-true (fits room (length (n ∷ ns) + d) d) _ _ λ e.
     gives (record { step = s; along = along; next = next_layer (upright sound a b) c along; new = sound.new; fit = fitting room (length (n ∷ ns) + d) d e })
 
 -- The next layer has nodes.

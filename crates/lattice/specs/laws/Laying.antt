@@ -34,9 +34,9 @@ pub pushed-old : (from : ℕ) (r : Reach) (n : ℤ) (l : List ℤ) → below r.t
 unfolding pushed
 pushed-old from r n l e = ap (λ (b : Bool). cond b (set (set l (2 * (from + r.count)) n) (2 * (from + r.count) + 1) (pos 0)) l) e
 
-pub pushed_length : (from : ℕ) (r : Reach) (n : ℤ) (l : List ℤ) → length (pushed from r n l) ≡ length l
+pub pushed-length : (from : ℕ) (r : Reach) (n : ℤ) (l : List ℤ) → length (pushed from r n l) ≡ length l
 unfolding pushed
-pushed_length from r n l = go (below r.top n)
+pushed-length from r n l = go (below r.top n)
   where
     go : (b : Bool) → length (cond b (set (set l (2 * (from + r.count)) n) (2 * (from + r.count) + 1) (pos 0)) l) ≡ length l
     go true = length-set (set l (2 * (from + r.count)) n) (2 * (from + r.count) + 1) (pos 0) ∙ length-set l (2 * (from + r.count)) n
@@ -47,7 +47,7 @@ unfolding pushed_three
 three_length from r m l =
     let a = pushed from r (pred_ℤ m) l in
     let b = pushed from (reach_one r (pred_ℤ m)) m a in
-    pushed_length from (reach_one (reach_one r (pred_ℤ m)) m) (suc_ℤ m) b ∙ pushed_length from (reach_one r (pred_ℤ m)) m a ∙ pushed_length from r (pred_ℤ m) l
+    pushed-length from (reach_one (reach_one r (pred_ℤ m)) m) (suc_ℤ m) b ∙ pushed-length from (reach_one r (pred_ℤ m)) m a ∙ pushed-length from r (pred_ℤ m) l
 
 pub all_length : (from : ℕ) (r : Reach) (ms l : List ℤ) → length (pushed_all from r ms l) ≡ length l
 unfolding pushed_all

@@ -22,7 +22,7 @@ use Rattle.lattice.specs.declared.node.MadeMiddle.TheVariants as made
 use Rattle.lattice.specs.Layers.{below, node_float, insert}
 use Rattle.lattice.specs.Transitions.{Step, too_low, too_far, clamped, middle_of, from_middle, transition_of}
 use Rattle.lattice.specs.Lattice.{transitions_of, destinations}
-use Rattle.floats.specs.laws.Finite.{finite_of_mul, positive_of_div}
+use Rattle.floats.specs.laws.Finite.{finite_of_mul, positive_of-div}
 use Rattle.terms.specs.laws.Outcomes.{Gives, gives, nothing, given_of, gives-follow, gives-finite, gives-cond}
 use Rattle.lattice.specs.laws.Bounds.{Within}
 use Rattle.lattice.specs.laws.IntegerOrder.{up}
@@ -77,9 +77,9 @@ module _ {B : Type 0} {Q : B → Type 0} where
   gives-neither false false q n k h = h refl refl
 
 module _ {A : Type 0} {P Q : A → Type 0} where
-  gives_map : {o : Outcome A} → ((x : A) → P x → Q x) → Gives P o → Gives Q o
-  gives_map f (gives {x = x} p) = gives (f x p)
-  gives_map f nothing = nothing
+  gives-map : {o : Outcome A} → ((x : A) → P x → Q x) → Gives P o → Gives Q o
+  gives-map f (gives {x = x} p) = gives (f x p)
+  gives-map f nothing = nothing
 
 -- What is known of a node's middle.
 pub record MiddleFrom (s : Step) (n : ℤ) (m : Middle) : Type 0 where
@@ -146,7 +146,7 @@ module _ (s : Step) (n : ℤ) where
 
   pub transition_from : Gives (FromNode s n) (transition_of s n)
   unfolding transition_of
-  transition_from = gives-follow _ _ middle_from λ m f. gives_map (from_node m f) (from_middle-spread m)
+  transition_from = gives-follow _ _ middle_from λ m f. gives-map (from_node m f) (from_middle-spread m)
 
 -- What the code makes of a node's middle.
 module _ (s : Step) (n : ℤ) (found : MadeMiddle) (ensured : middle_outcome found ≡ middle_of s.spacing s.decay s.new_spacing s.place n) where
@@ -201,7 +201,7 @@ middle-mono s r a b t u h f g =
     let x = finite_of_mul binary64 s.spacing (node_float a) f.state-finite in
     let y = finite_of_mul binary64 s.spacing (node_float b) g.state-finite in
     let d = finite_of_mul binary64 (state_of s a) s.decay f.expectation-finite in
-    let p = positive_of_div binary64 (expectation_of s a) s.new_spacing r.new-finite r.new-above f.quotient-finite in
+    let p = positive_of-div binary64 (expectation_of s a) s.new_spacing r.new-finite r.new-above f.quotient-finite in
     rw (f.spread.middle, g.spread.middle)
     (cast_mono 31 (rounded (quotient_of s a)) (rounded (quotient_of s b))
     (whole-finite _ (rounded-whole (quotient_of s a) (q_fits s a) f.quotient-finite))

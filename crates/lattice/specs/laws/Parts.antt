@@ -25,12 +25,12 @@ module _ {A : Type 0} where
       rw (drop_of_length-le (drop a xs) h, append-nil)
 
   -- The same from the second element on, the first one written.
-  pub rest_length : (xs : List A) (x : A) → length (part_from 1 (set xs 0 x)) ≡ length xs - 1
-  rest_length xs x = part_length 1 (set xs 0 x) ∙ ap (λ (n : ℕ). n - 1) (length-set xs 0 x)
+  pub rest-length : (xs : List A) (x : A) → length (part_from 1 (set xs 0 x)) ≡ length xs - 1
+  rest-length xs x = part_length 1 (set xs 0 x) ∙ ap (λ (n : ℕ). n - 1) (length-set xs 0 x)
 
   pub with_rest : (xs : List A) (x : A) (ys : List A) → 0 < length xs → with_part 1 (set xs 0 x) ys ≡ x ∷ ys
   with_rest [] x ys h = absurd (omega arith)
   with_rest (z ∷ xs) x ys h = with_part_lem 1 (x ∷ xs) ys
 
-  pub with_rest_length : (xs : List A) (x : A) (ys : List A) → 0 < length xs → length ys ≡ length (part_from 1 (set xs 0 x)) → length (with_part 1 (set xs 0 x) ys) ≡ length xs
-  with_rest_length xs x ys h e = rw (with_rest xs x ys h) (omega (arith, e, rest_length xs x))
+  pub with_rest-length : (xs : List A) (x : A) (ys : List A) → 0 < length xs → length ys ≡ length (part_from 1 (set xs 0 x)) → length (with_part 1 (set xs 0 x) ys) ≡ length xs
+  with_rest-length xs x ys h e = rw (with_rest xs x ys h) (omega (arith, e, rest-length xs x))

@@ -7,11 +7,11 @@ use Rattle.std.specs.Float.Ieee.Bits.{of_bits-fits}
 use Rattle.std.specs.Float.Ieee.Fits.{add-fits, sub-fits}
 use Rattle.std.specs.Float.Ieee.Scale.{finite}
 use Rattle.floats.specs.laws.Order.{number_of-finite, le_trans}
-use Rattle.floats.specs.laws.Signs.{div_above}
+use Rattle.floats.specs.laws.Signs.{div-above}
 use Rattle.floats.specs.laws.Extremes.{max-keeps, max-finite, le_max_right}
 use Rattle.floats.specs.Extremes.{max_of}
 use Rattle.floats.specs.Answers.{plus_zero, one, two}
-use Rattle.floats.specs.laws.Finite.{positive_of_div}
+use Rattle.floats.specs.laws.Finite.{positive_of-div}
 use Rattle.elementary.specs.laws.Values.{Above}
 use Rattle.terms.specs.Outcomes.{given}
 use Rattle.terms.specs.laws.Outcomes.{Gives, gives, nothing, given_of, gives-follow, gives-valued, gives-finite, gives-cond, gives-known}
@@ -54,8 +54,8 @@ share-weight x y p q h =
     record {
       is_finite = h;
       above =
-          div_above binary64 x y p.is_finite q.is_finite p.above
-          (positive_of_div binary64 x y q.is_finite q.above h);
+          div-above binary64 x y p.is_finite q.is_finite p.above
+          (positive_of-div binary64 x y q.is_finite q.above h);
     }
 
 clamped-weighted : (n : ℤ) (down mid up : Float) (place : ℕ) → T (finite down) → T (finite mid) → T (finite up) → T (fits binary64 down) → T (fits binary64 mid) → T (fits binary64 up) → Gives Weighted (clamped n down mid up place)
@@ -150,10 +150,10 @@ grown-proper room decay spacing before nodes k (v ∷ vs) =
 
 flat-weighted : Each Weighted flat_layer.transitions
 unfolding of_bits le
-flat-weighted = more (record { down = zero_weight; middle = one_weight; up = zero_weight; down_most = tt; middle-most = tt; up_most = tt }) none
+flat-weighted = more (record { down = zero-weight; middle = one_weight; up = zero-weight; down_most = tt; middle-most = tt; up_most = tt }) none
   where
-    zero_weight : Above plus_zero
-    zero_weight = record { is_finite = tt; above = tt }
+    zero-weight : Above plus_zero
+    zero-weight = record { is_finite = tt; above = tt }
 
     one_weight : Above one
     one_weight = record { is_finite = tt; above = tt }

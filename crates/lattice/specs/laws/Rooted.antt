@@ -50,13 +50,13 @@ root-numbers [] h = absurd (omega arith)
 root-numbers (n ∷ []) h = absurd (omega arith)
 root-numbers (n ∷ m ∷ nodes) h = refl
 
-pub root_length : (nodes : List ℤ) → length (with_root nodes) ≡ length nodes
-root_length nodes = length-set (set nodes 0 (pos 0)) 1 (pos 0) ∙ length-set nodes 0 (pos 0)
+pub root-length : (nodes : List ℤ) → length (with_root nodes) ≡ length nodes
+root-length nodes = length-set (set nodes 0 (pos 0)) 1 (pos 0) ∙ length-set nodes 0 (pos 0)
 
 pub root-front : (decay spacing : Float) (nodes : List ℤ) (probabilities : List Float) → 2 ≤ length nodes → 3 ≤ length probabilities → T (le plus_zero decay) → T (le plus_zero spacing) → Front 1 spacing decay (with_root nodes) probabilities
 root-front decay spacing nodes probabilities h i d s =
     record {
-      pairs = rw (root_length nodes) h;
+      pairs = rw (root-length nodes) h;
       threes = i;
       some-node = omega arith;
       low = negsuc 0;
@@ -84,7 +84,7 @@ module _ (one two : ℕ) (decay spacing : Float) (nodes : List ℤ) (probabiliti
 
   root-there : fits lent 1 1 ≡ true → from_root lent decay spacing variances ≡ grown (room_left (with_root nodes) probabilities one two) decay spacing 0 (numbers_in (front_nodes 1 (with_root nodes))) 0 variances
   unfolding from_root
-  root-there e = rw (e, root_length nodes, root-numbers nodes (fitting lent 1 1 e).pairs)
+  root-there e = rw (e, root-length nodes, root-numbers nodes (fitting lent 1 1 e).pairs)
 
   pub root-laid : {r : Check} {counts : List ℕ} {spacings : List Float} {after : List ℤ} {afterP : List Float} → fits lent 1 1 ≡ true
       → LaysTree false one two 1 (numbers_in (front_nodes 1 (with_root nodes))) (grown (room_left (with_root nodes) probabilities one two) decay spacing 0 (numbers_in (front_nodes 1 (with_root nodes))) 0 variances) r counts spacings after afterP

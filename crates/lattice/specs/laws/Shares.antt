@@ -12,9 +12,9 @@ use Rattle.floats.specs.Answers.{plus_zero, one}
 use Rattle.floats.specs.laws.Fractions.{pl, mi, leq_of_le, le_of_leq}
 use Rattle.floats.specs.laws.Order.{le_trans}
 use Rattle.floats.specs.laws.Rounding.{Rounds, above, rounds-mono}
-use Rattle.floats.specs.laws.Exactly.{add_rounds, div_rounds, mi_of_above, pl_of_positive}
-use Rattle.floats.specs.laws.Finite.{positive_of_div}
-use Rattle.floats.specs.laws.Signs.{add_above}
+use Rattle.floats.specs.laws.Exactly.{add_rounds, div-rounds, mi_of_above, pl_of_positive}
+use Rattle.floats.specs.laws.Finite.{positive_of-div}
+use Rattle.floats.specs.laws.Signs.{add-above}
 use Rattle.rounded.specs.laws.Sized.{sized}
 use Rattle.elementary.specs.laws.Values.{Above}
 
@@ -42,7 +42,7 @@ pub record Amount (x : Float) : Type 0 where
 pub sum_amount : (x y : Float) → Amount x → Amount y → T (finite (add binary64 x y)) → Amount (add binary64 x y)
 sum_amount x y a b f =
     record {
-      weight = record { is_finite = f; above = add_above binary64 x y a.weight.is_finite b.weight.is_finite a.weight.above b.weight.above };
+      weight = record { is_finite = f; above = add-above binary64 x y a.weight.is_finite b.weight.is_finite a.weight.above b.weight.above };
       held = add-fits binary64 x y;
     }
 
@@ -105,10 +105,10 @@ one_rounds = above zero-le refl
 
 pub share_at_most_one : (x w : Float) → Above x → Above w → T (le x w) → T (finite (div binary64 x w)) → T (le (div binary64 x w) one)
 share_at_most_one x w a b h f =
-    let z = positive_of_div binary64 x w b.is_finite b.above f in
+    let z = positive_of-div binary64 x w b.is_finite b.above f in
     let m = none_below x a in
     let l = (leq_of_le x w a.is_finite b.is_finite h).holds in
-    rounds-mono (mul-pos (pl_of_positive w b.is_finite z) (den_pos x)) (lit< tt) (div_rounds binary64 x w a.is_finite b.is_finite z) one_rounds
+    rounds-mono (mul-pos (pl_of_positive w b.is_finite z) (den_pos x)) (lit< tt) (div-rounds binary64 x w a.is_finite b.is_finite z) one_rounds
     (rw m (go (pl x) (den x) (pl w) (mi w) (den w) (mi x) m l))
   where
     go : (p d q m e n : ℕ) → n ≡ 0 → p * e + m * d ≤ q * d + n * e → p * e * 1 + 0 * (q * d) ≤ 1 * (q * d) + 0 * e * 1

@@ -9,7 +9,7 @@ use Rattle.lattice.specs.Layers.{below}
 use Rattle.lattice.specs.laws.Bounds.{Within, AllWithin, held_both}
 use Rattle.lattice.specs.laws.Reaching.{reach_one, reach, reach_all, nothing_below, reach_one-count}
 use Rattle.lattice.specs.laws.Counting.{middles_from, left_over}
-use Rattle.lattice.specs.laws.Laying.{Pushed, pushed, pushed_three, pushed_all, pushed_length, three_length, reach_all-count}
+use Rattle.lattice.specs.laws.Laying.{Pushed, pushed, pushed_three, pushed_all, pushed-length, three_length, reach_all-count}
 
 -- ---- three nodes, one by one
 
@@ -27,7 +27,7 @@ module _ (from : ℕ) (r : Reach) (m : ℤ) (l : List ℤ) (room : 2 * (from + (
 
   module _ {a : ℤ} {s : Reach} {k : List ℤ} (p : a ≡ pred_ℤ m) (one : Pushed s (reach_one r a) k (pushed from r a l)) where
     first_long : length k ≡ length l
-    first_long = ap length one.slice ∙ pushed_length from r a l
+    first_long = ap length one.slice ∙ pushed-length from r a l
 
     pub second-room : {b : ℤ} → b ≡ m → 2 * (from + (reach_one s b).count) ≤ length k
     unfolding reach
@@ -36,7 +36,7 @@ module _ (from : ℕ) (r : Reach) (m : ℤ) (l : List ℤ) (room : 2 * (from + (
     module _ {b : ℤ} {t : Reach} {h : List ℤ} (q : b ≡ m) (two : Pushed t (reach_one s b) h (pushed from s b k)) where
       pub third-room : {d : ℤ} → d ≡ suc_ℤ m → 2 * (from + (reach_one t d).count) ≤ length h
       unfolding reach
-      third-room {d} z = rw (z, two.slice, pushed_length from s b k, first_long, two.reach, one.reach, q, p) room
+      third-room {d} z = rw (z, two.slice, pushed-length from s b k, first_long, two.reach, one.reach, q, p) room
 
       pub three_pushed : {d : ℤ} {u : Reach} {o : List ℤ} → d ≡ suc_ℤ m → Pushed u (reach_one t d) o (pushed from t d h) → Pushed u (reach r m) o (pushed_three from r m l)
       unfolding reach pushed_three

@@ -1,6 +1,6 @@
 -- A layer's parts read by position: what node i has in front, and what is left behind it. Assumes nothing.
 use Rattle.std.specs.Prelude.{ℕ, zero, suc, ◌+◌, ◌*◌, ◌<◌, ◌≤◌, ◌≡◌, refl, List, [], ◌∷◌, length, get_or, drop, ℤ, pos, Float}
-use Rattle.std.proofs.Common.{◌∙◌, ap, add-one, arith, drop_of_length-le, drop_cons}
+use Rattle.std.proofs.Common.{◌∙◌, ap, add-one, arith, drop_of_length-le, drop-cons}
 use Rattle.std.specs.Float.{nan}
 use Rattle.lattice.specs.Layers.{At}
 use Rattle.lattice.specs.laws.Stored.{numbers_in, middles_in, row_of}
@@ -17,12 +17,12 @@ module _ {A : Type 0} (d : A) (l : List A) (j : ℕ) where
   two_more h =
       let e : suc (suc j) ≡ j + 2 = omega arith in
       let f : suc j ≡ j + 1 = omega arith in
-      drop_cons l j d (omega arith) ∙ ap (λ (z : List A). get_or l j d ∷ z) (drop_cons l (suc j) d (omega arith) ∙ rw (e, f))
+      drop-cons l j d (omega arith) ∙ ap (λ (z : List A). get_or l j d ∷ z) (drop-cons l (suc j) d (omega arith) ∙ rw (e, f))
 
   pub three_more : j + 3 ≤ length l → drop j l ≡ get_or l j d ∷ get_or l (j + 1) d ∷ get_or l (j + 2) d ∷ drop (j + 3) l
   three_more h =
       let e : suc (j + 2) ≡ j + 3 = omega arith in
-      two_more (omega arith) ∙ ap (λ (z : List A). get_or l j d ∷ get_or l (j + 1) d ∷ z) (drop_cons l (j + 2) d (omega arith) ∙ rw e)
+      two_more (omega arith) ∙ ap (λ (z : List A). get_or l j d ∷ get_or l (j + 1) d ∷ z) (drop-cons l (j + 2) d (omega arith) ∙ rw e)
 
 -- two entries a node
 pub drop_two : {A : Type 0} (l : List A) (d : A) (i : ℕ) → i * 2 + 1 < length l → drop (i * 2) l ≡ get_or l (i * 2) d ∷ get_or l (i * 2 + 1) d ∷ drop ((i + 1) * 2) l
@@ -34,7 +34,7 @@ pub drop_three : {A : Type 0} (l : List A) (d : A) (i : ℕ) → i * 3 + 2 < len
 drop_three l d i h = let e : i * 3 + 3 ≡ (i + 1) * 3 = omega arith in three_more d l (i * 3) (omega arith) ∙ rw e
 
 pub drop_one : {A : Type 0} (l : List A) (d : A) (i : ℕ) → i < length l → drop i l ≡ get_or l i d ∷ drop (i + 1) l
-drop_one l d i h = rw add-one (drop_cons l i d h)
+drop_one l d i h = rw add-one (drop-cons l i d h)
 
 -- the numbers and a row from node i on
 abbrev pub row_from : List ℤ → List Float → ℕ → List At

@@ -12,14 +12,14 @@ total_of [] = 0
 total_of (c ∷ counts) = c + total_of counts
 
 -- A layer of c nodes has c numbers.
-pub numbers_length : (c : ℕ) (nodes : List ℤ) → c * 2 ≤ length nodes → length (numbers_in (front_nodes c nodes)) ≡ c
+pub numbers-length : (c : ℕ) (nodes : List ℤ) → c * 2 ≤ length nodes → length (numbers_in (front_nodes c nodes)) ≡ c
 unfolding numbers_in
-numbers_length zero nodes h = refl
-numbers_length (suc c) [] h = absurd (omega arith)
-numbers_length (suc c) (n ∷ []) h = absurd (omega arith)
-numbers_length (suc c) (n ∷ m ∷ nodes) h =
+numbers-length zero nodes h = refl
+numbers-length (suc c) [] h = absurd (omega arith)
+numbers-length (suc c) (n ∷ []) h = absurd (omega arith)
+numbers-length (suc c) (n ∷ m ∷ nodes) h =
     let e : suc c * 2 ≡ suc (suc (c * 2)) = omega arith in
-    rw e (ap suc (numbers_length c nodes (omega arith)))
+    rw e (ap suc (numbers-length c nodes (omega arith)))
 
 module _ {flat : Bool} {one two : ℕ} where
   -- There is a count more than spacings.
@@ -36,5 +36,5 @@ module _ {flat : Bool} {one two : ℕ} where
   -- The nodes of the layers and of the last one.
   pub laid-nodes : {counts : List ℕ} {spacings : List Float} {nodes : List ℤ} {probabilities : List Float} → Laid flat one two counts spacings nodes probabilities → count_of (layers_in flat counts spacings nodes probabilities) + length (final_in counts spacings nodes) ≡ total_of counts
   unfolding total_of layers_in final_in count_of
-  laid-nodes (last_laid {c = c} {nodes = nodes} h k l) = rw (numbers_length c nodes h) (omega arith)
-  laid-nodes (more_laid {c = c} {nodes = nodes} s rest) = let e = laid-nodes rest in rw (numbers_length c nodes s.pairs) (omega arith)
+  laid-nodes (last_laid {c = c} {nodes = nodes} h k l) = rw (numbers-length c nodes h) (omega arith)
+  laid-nodes (more_laid {c = c} {nodes = nodes} s rest) = let e = laid-nodes rest in rw (numbers-length c nodes s.pairs) (omega arith)

@@ -1,6 +1,6 @@
 -- Under codes 0 and 1 two days have two times: a day is far more than rounding moves. Assumes nothing.
 use Rattle.std.specs.Prelude.{ℕ, zero, suc, ◌+◌, ◌-◌, ◌*◌, ◌^◌, ◌≤◌, ◌<◌, ◌≡◌, refl, ◌⊎◌, Bool, true, false, not, cond, ◌&&◌, List, [], ◌∷◌, map, T, eqb, ltb, length, get_or, ℤ, Float}
-use Rattle.std.proofs.Common.{mul_comm, mul_assoc, mul_left_comm, mul_right_comm, mul-one, mul-pos, mul-le-mul_right, le_of_mul_le_mul_right, le_antisymm, le_of_eq, add-mul, arith, sym, ap, subst, ◌∙◌, inl, inr, eqb→eq, ltb→lt, lit≤, pow_pos}
+use Rattle.std.proofs.Common.{mul_comm, mul_assoc, mul_left_comm, mul_right_comm, mul-one, mul-pos, mul-le-mul_right, le_of_mul-le-mul_right, le_antisymm, le_of_eq, add-mul, arith, sym, ap, subst, ◌∙◌, inl, inr, eqb→eq, ltb→lt, lit≤, pow_pos}
 use Rattle.std.specs.Float.{nan, inf, fin, binary64}
 use Rattle.std.specs.Float.Ieee.{sub, div, eq, le, lt, of_int, of_bits, round, up, down}
 use Rattle.std.specs.Float.Ieee.Fits.{and_l, and_r}
@@ -10,7 +10,7 @@ use Rattle.std.specs.Float.Ieee.Back.{round_whole}
 use Rattle.std.specs.Float.Ieee.Order.{round_mono}
 use Rattle.std.specs.Float.Ieee.Positive.{num, den, den_pos, value→cross}
 use Rattle.floats.specs.Answers.{plus_zero}
-use Rattle.floats.specs.laws.Arithmetic.{sub_mono, div_mono_left}
+use Rattle.floats.specs.laws.Arithmetic.{sub-mono, div_mono_left}
 use Rattle.floats.specs.laws.Order.{between, number_of_le, eq_of_le, lt_of_not_le}
 use Rattle.floats.specs.laws.Fractions.{on_finite, decide}
 use Rattle.terms.specs.declared.Settlement.{Settlement}
@@ -59,7 +59,7 @@ float-counts n h =
 -- ---- equal floats have equal counts
 
 cancel : (a b k : ℕ) → 0 < k → a * k ≡ b * k → a ≡ b
-cancel a b k h e = le_antisymm (le_of_mul_le_mul_right {k = k} (le_of_eq e) h) (le_of_mul_le_mul_right {k = k} (le_of_eq (sym e)) h)
+cancel a b k h e = le_antisymm (le_of_mul-le-mul_right {k = k} (le_of_eq e) h) (le_of_mul-le-mul_right {k = k} (le_of_eq (sym e)) h)
 
 eq_cross : (x z : Float) → T (finite x) → T (finite z) → T (eq x z) → num x * den z ≡ num z * den x
 unfolding eq
@@ -106,13 +106,13 @@ bounded : (a b : ℕ) → a ≤ 200000 → b ≤ 200000 → T (le (sub binary64 
 unfolding of_int
 bounded a b h k =
     let top : ℕ = 200000 in (
-      sub_mono binary64 (float 0) (float a) (float top) (float b) tt (float-finite a h) tt (float-finite b k) (float-no_less 0 a (omega arith)) (float-no_less b top k),
-      sub_mono binary64 (float a) (float top) (float b) (float 0) (float-finite a h) tt (float-finite b k) tt (float-no_less a top h) (float-no_less 0 b (omega arith)),
+      sub-mono binary64 (float 0) (float a) (float top) (float b) tt (float-finite a h) tt (float-finite b k) (float-no_less 0 a (omega arith)) (float-no_less b top k),
+      sub-mono binary64 (float a) (float top) (float b) (float 0) (float-finite a h) tt (float-finite b k) tt (float-no_less a top h) (float-no_less 0 b (omega arith)),
     )
 
-sub_finite : (a b : ℕ) → a ≤ 200000 → b ≤ 200000 → T (finite (sub binary64 (float a) (float b)))
+sub-finite : (a b : ℕ) → a ≤ 200000 → b ≤ 200000 → T (finite (sub binary64 (float a) (float b)))
 unfolding of_int sub
-sub_finite a b h k =
+sub-finite a b h k =
     let p = bounded a b h k in
     between (sub binary64 (float 0) (float 200000)) (sub binary64 (float a) (float b)) (sub binary64 (float 200000) (float 0)) tt tt p.0 p.1
 
@@ -127,17 +127,17 @@ time-finite t from day h k = go t (year-above t)
     go true y =
         let p = bounded day from k h in
         between (div binary64 (sub binary64 (float 0) (float 200000)) (float 365)) (div binary64 d (float 365)) (div binary64 (sub binary64 (float 200000) (float 0)) (float 365)) tt tt
-        (div_mono_left binary64 (sub binary64 (float 0) (float 200000)) d (float 365) tt (sub_finite day from k h) y.0 y.1 p.0)
-        (div_mono_left binary64 d (sub binary64 (float 200000) (float 0)) (float 365) (sub_finite day from k h) tt y.0 y.1 p.1)
+        (div_mono_left binary64 (sub binary64 (float 0) (float 200000)) d (float 365) tt (sub-finite day from k h) y.0 y.1 p.0)
+        (div_mono_left binary64 d (sub binary64 (float 200000) (float 0)) (float 365) (sub-finite day from k h) tt y.0 y.1 p.1)
     go false y =
         let p = bounded day from k h in
         between (div binary64 (sub binary64 (float 0) (float 200000)) (float 360)) (div binary64 d (float 360)) (div binary64 (sub binary64 (float 200000) (float 0)) (float 360)) tt tt
-        (div_mono_left binary64 (sub binary64 (float 0) (float 200000)) d (float 360) tt (sub_finite day from k h) y.0 y.1 p.0)
-        (div_mono_left binary64 d (sub binary64 (float 200000) (float 0)) (float 360) (sub_finite day from k h) tt y.0 y.1 p.1)
+        (div_mono_left binary64 (sub binary64 (float 0) (float 200000)) d (float 360) tt (sub-finite day from k h) y.0 y.1 p.0)
+        (div_mono_left binary64 d (sub binary64 (float 200000) (float 0)) (float 360) (sub-finite day from k h) tt y.0 y.1 p.1)
 
 difference_makes : (from day : ℕ) → from ≤ 200000 → day ≤ 200000 → Makes (sub binary64 (float day) (float from)) (apart (day * 2 ^ 1074) (from * 2 ^ 1074)) 1
 difference_makes from day h k =
-    sub_makes (float day) (float from) (day * 2 ^ 1074) (from * 2 ^ 1074) (float-counts day k) (float-counts from h) (above_both (float-above day) (float-above from)) (sub_finite day from k h)
+    sub_makes (float day) (float from) (day * 2 ^ 1074) (from * 2 ^ 1074) (float-counts day k) (float-counts from h) (above_both (float-above day) (float-above from)) (sub-finite day from k h)
 
 time_makes : (t : Bool) (from day : ℕ) (h : from ≤ 200000) (k : day ≤ 200000) → Makes (time t from day) (difference_makes from day h k).count (year_by t)
 time_makes t from day h k =
@@ -210,16 +210,16 @@ two_times t from a b h k l e =
         let r = near_by g h (v * y) y k m' (subst (λ (z : ℕ). 10000000 * h ≤ 10000000 * (z * y) + h + 10000000 * y) (sym c) n') in
         clash P A B g h p a b (rw (mul-one g) at i') (rw (mul-one h) at j') r
 
-zero_counts : Counts plus_zero 0
+zero-counts : Counts plus_zero 0
 unfolding of_bits
-zero_counts = record { is_finite = tt; units = refl }
+zero-counts = record { is_finite = tt; units = refl }
 
 not_zero : (t : Bool) (from day : ℕ) → from < day → day ≤ 200000 → T (eq (time t from day) plus_zero) → ⊥
 not_zero t from day h l e =
     let p : from ≤ 200000 = omega arith in
     let d = difference_makes from day p l in
     let m = time_makes t from day p l in
-    let c = same_count (time t from day) plus_zero m.count 0 m.counts zero_counts e in
+    let c = same_count (time t from day) plus_zero m.count 0 m.counts zero-counts e in
     let s = days-apart (2 ^ 1074) from from day (omega arith) h l in
     go (2 ^ 1074) (apart (from * 2 ^ 1074) (from * 2 ^ 1074)) (apart (day * 2 ^ 1074) (from * 2 ^ 1074)) d.count m.count (year_by t) million-below s.0 s.1 (year-few t).0 c
     (fine-under _ 1 d.count d.near) (fine-under _ (year_by t) m.count m.near)

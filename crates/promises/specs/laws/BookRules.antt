@@ -1,6 +1,6 @@
 -- The call-list rule, the put-list rule and reordering, of a book over any curves. Assumes nothing.
 use Rattle.std.specs.Prelude.{ℕ, zero, suc, ◌+◌, ◌<◌, ◌≤◌, ◌≡◌, refl, Bool, true, false, ◌⊎◌, List, T, ltb, Float}
-use Rattle.std.proofs.Common.{arith, eq-or-lt_of_le, le_of_suc_le_suc, sym, subst, ◌∙◌, inl, inr}
+use Rattle.std.proofs.Common.{arith, eq-or-lt_of_le, le_of_suc-le-suc, sym, subst, ◌∙◌, inl, inr}
 use Rattle.std.proofs.Math.Path.{ap}
 use Rattle.std.proofs.Math.ListN.{get_or}
 use Rattle.std.specs.Float.Ieee.{le}
@@ -121,7 +121,7 @@ module _ (first second : Book) (made : CallsMade first second) where
       ]
     where
       one_more : (n : ℕ) → ((i : ℕ) → i < n → AllWithin (calls_at second i)) → AllWithin (calls_at second n) → (i : ℕ) → i < suc n → AllWithin (calls_at second i)
-      one_more n within w i l = elim (eq-or-lt_of_le (le_of_suc_le_suc l)) [ inl e ↦ subst (λ (k : ℕ). AllWithin (calls_at second k)) (sym e) w | inr m ↦ within i m ]
+      one_more n within w i l = elim (eq-or-lt_of_le (le_of_suc-le-suc l)) [ inl e ↦ subst (λ (k : ℕ). AllWithin (calls_at second k)) (sym e) w | inr m ↦ within i m ]
 
   module _ (curves : ℕ → Float → ℕ → Answer) (room : Room) (a : Accepted curves first room) where
     second_check : (i : ℕ) → i < size first → bond_check second.shared second.lists (holding second i) ≡ tree_checks (market_at first i) (calls_at second i)

@@ -1,6 +1,6 @@
 -- Where a double within ±1 lies among the multiples of 2^−50, and that rounding does not cross a fraction that a double holds. Assumes nothing.
 use Rattle.std.specs.Prelude.{◌≡◌, refl, ◌⊎◌, Bool, true, false, not, ℕ, suc, ◌+◌, ◌-◌, ◌*◌, ◌/◌, ◌^◌, ◌≤◌, ◌<◌, T, leb, Float}
-use Rattle.std.proofs.Common.{sym, ap, ◌∙◌, inl, inr, true≢false, le_of_lt, lt_of_lt_of_le, suc-mul, div-mul-le_self, sub-add_cancel, mul_comm, mul_assoc, mul_left_comm, add-mul, mul-le-mul_right, le_of_mul_le_mul_right, arith, leb→le, lit<, lit≤, pow_mono, shl_lt}
+use Rattle.std.proofs.Common.{sym, ap, ◌∙◌, inl, inr, true≢false, le_of_lt, lt_of_lt_of_le, suc-mul, div-mul-le_self, sub-add_cancel, mul_comm, mul_assoc, mul_left_comm, add-mul, mul-le-mul_right, le_of_mul-le-mul_right, arith, leb→le, lit<, lit≤, pow_mono, shl_lt}
 use Rattle.std.proofs.Math.Nat.{lt-div-mul-add, div-le_of_le-mul}
 use Rattle.std.proofs.Math.Dec.{nleb→lt}
 use Rattle.std.specs.Float.{nan, inf, fin, binary64}
@@ -33,14 +33,14 @@ through wp wm a zp zm b p n c A e h =
     let e' = simp (add-mul, mul_assoc, mul_comm) at (ap (λ (z : ℕ). z * b) e) in
     let h' = simp (add-mul, mul_assoc, mul_comm) at (mul-le-mul_right c h) in
     let g : (p * b + zm * c) * a ≤ (zp * c + n * b) * a = simp (add-mul, mul_assoc, mul_comm, mul_left_comm) (omega arith) in
-    le_of_mul_le_mul_right g A
+    le_of_mul-le-mul_right g A
 
 through' : (wp wm a zp zm b p n c : ℕ) → 0 < a → wp * c + n * a ≡ p * a + wm * c → zp * a + wm * b ≤ wp * b + zm * a → zp * c + n * b ≤ p * b + zm * c
 through' wp wm a zp zm b p n c A e h =
     let e' = simp (add-mul, mul_assoc, mul_comm) at (ap (λ (z : ℕ). z * b) e) in
     let h' = simp (add-mul, mul_assoc, mul_comm) at (mul-le-mul_right c h) in
     let g : (zp * c + n * b) * a ≤ (p * b + zm * c) * a = simp (add-mul, mul_assoc, mul_comm, mul_left_comm) (omega arith) in
-    le_of_mul_le_mul_right g A
+    le_of_mul-le-mul_right g A
 
 -- what rounds to z is not below (p - n) / c: then z isn't either
 pub rounded-above : {p n c : ℕ} (z : Float) (P N C : ℕ) → Held p n c → 0 < C → T (finite z) → Rounds binary64 z P N C → p * C + N * c ≤ P * c + n * C → Above z p n c
@@ -97,9 +97,9 @@ held p n c j C e i h k = go (decide (leb n p))
 unfoldable pub fine : ℕ
 fine = 2 ^ 50
 
-pub fine_pos : 0 < fine
+pub fine-pos : 0 < fine
 unfolding fine
-fine_pos = lit< tt
+fine-pos = lit< tt
 
 -- the multiples of 2^−50 within ±2 and of 2^−51 within ±1, and the next two above each
 pub held-fine : (p : ℕ) → p ≤ fine * 4 + 2 → Held p (fine + fine) fine

@@ -30,7 +30,7 @@ use Rattle.closingsheet.specs.declared.ClosingLine.{ClosingLine}
 use Rattle.closingsheet.specs.Cells.{printed_of, value_cell}
 use Rattle.closingsheet.specs.Sheet.{at, refused_sheet, shown_sheet, value_sheet, answer_sheet, no_sheet, sheet_by, sheet_of}
 use Rattle.closingsheet.specs.Shown.{ValueColumns, RefusedColumns, read_back, HalfCent, NoLower}
-use Rattle.closingsheet.specs.laws.Columns.{value_columns_lem, refused-columns, cell_length}
+use Rattle.closingsheet.specs.laws.Columns.{value_columns_lem, refused-columns, cell-length}
 use Rattle.closingsheet.specs.laws.HalfCents.{within_half_a_cent, printed-no_lower, half_to_even}
 use Rattle.closingsheet.specs.laws.Halves.{nothing_else}
 use Rattle.promises.specs.RefusalNumbers.{member, Among, tree_refusals, Met}
@@ -119,11 +119,11 @@ value-back bond n cell line l c =
 
 module _ (bond : ℕ) where
   shown-columns : (x : Float) (n : ℕ) → n ≤ 99999999 → ValueColumns bond n (value_cell x).cell (shown_sheet bond n (value_cell x).cell).line
-  shown-columns x n h = value_columns_lem bond n (value_cell x).cell h (cell_length (printed_of x))
+  shown-columns x n h = value_columns_lem bond n (value_cell x).cell h (cell-length (printed_of x))
 
   shown-back : (x : Float) (n : ℕ) → n ≤ 99999999 → value_shown (shown_sheet bond n (value_cell x).cell).line ≡ read_back (value_cell x).cell
   shown-back x n h =
-      ap read_back (value-back bond n (value_cell x).cell (shown_sheet bond n (value_cell x).cell).line (cell_length (printed_of x)) (shown-columns x n h))
+      ap read_back (value-back bond n (value_cell x).cell (shown_sheet bond n (value_cell x).cell).line (cell-length (printed_of x)) (shown-columns x n h))
 
   value_shown_lem : (x : Float) (n : ℕ) → (value_cell x).wide ≡ false → n ≤ 99999999 → ValueShown bond x n (shown_sheet bond n (value_cell x).cell)
   value_shown_lem x n w h =

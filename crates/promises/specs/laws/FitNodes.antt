@@ -164,15 +164,15 @@ module _ (room : Room) where
 
 -- ---- the fit
 
-length_nodes : (row : List At) → length (nodes_in row) ≡ length row
-length_nodes [] = refl
-length_nodes (a ∷ row) = ap suc (length_nodes row)
+length-nodes : (row : List At) → length (nodes_in row) ≡ length row
+length-nodes [] = refl
+length-nodes (a ∷ row) = ap suc (length-nodes row)
 
 by_node : (dt : Float) {final : List ℤ} (k : ℕ) (layers : List Layer) (nodes : List ℤ) (row : List At) → Linked final nodes layers → nodes_in row ≡ nodes → ByNode dt final k layers row
 by_node dt k _ nodes row done e = last e
 by_node dt k _ nodes row (link {ts = ts} {spacing = spacing} {layers = layers} long rest) e =
     step e long λ shift next g.
-    let as_many : length row ≡ length ts = sym (length_nodes row) ∙ ap length e ∙ sym long in
+    let as_many : length row ≡ length ts = sym (length-nodes row) ∙ ap length e ∙ sym long in
     let reaches = given_of (onward-reaches spacing dt shift k ts row [] as_many) g in
     by_node dt (suc k) layers (destinations ts) next rest (reaches ∙ reached_all ts)
 

@@ -1,6 +1,6 @@
 -- What a midpoint does to the span of a bracket within ±1, in cells of 2^−50, and that a span of six cells is a width below 1e-14. Assumes nothing.
 use Rattle.std.specs.Prelude.{◌≡◌, refl, true, false, T, Float, negsuc}
-use Rattle.std.proofs.Common.{sym, subst, le_of_lt, mul_comm, mul_assoc, mul_left_comm, add-mul, mul-le-mul_right, le_of_mul_le_mul_right, lt_of_mul_lt_mul_right, arith, lit<}
+use Rattle.std.proofs.Common.{sym, subst, le_of_lt, mul_comm, mul_assoc, mul_left_comm, add-mul, mul-le-mul_right, le_of_mul-le-mul_right, lt_of_mul-lt-mul_right, arith, lit<}
 use Prim.Native.Nat.{ℕ, suc, ◌+◌, ◌*◌, ◌≤◌, ◌<◌}
 use Rattle.std.proofs.Math.Nat.{mul-pos}
 use Rattle.std.specs.Float.{nan, inf, fin}
@@ -15,10 +15,10 @@ use Rattle.floats.specs.Middle.{midpoint_at}
 use Rattle.floats.specs.laws.Fractions.{pl, mi}
 use Rattle.floats.specs.laws.Order.{T-to, lt_of_le_of_lt, lt_of_lt_of_le}
 use Rattle.floats.specs.laws.Rounding.{Rounds, above, under, rounds-mono}
-use Rattle.floats.specs.laws.Exactly.{add_rounds, sub_rounds, div_rounds}
+use Rattle.floats.specs.laws.Exactly.{add_rounds, sub-rounds, div-rounds}
 use Rattle.terms.specs.Numbers.{width_tolerance}
 use Rattle.brackets.specs.Brackets.{small}
-use Rattle.promises.specs.laws.Cells.{Above, Below, rounded-above, rounded-below, fine, fine_pos, held-fine, held_finer, Cell}
+use Rattle.promises.specs.laws.Cells.{Above, Below, rounded-above, rounded-below, fine, fine-pos, held-fine, held_finer, Cell}
 
 -- ---- the sum of x = (xp - xm) / a and y = (yp - ym) / b
 sum-above : (A B xp xm a yp ym b k : ℕ) → A * a + xm * k ≤ xp * k + k * a → B * b + ym * k ≤ yp * k + k * b
@@ -51,13 +51,13 @@ not_over : (q M p n d k : ℕ) → q * d + n * (k * 2) ≤ p * (k * 2) + (k + k)
 not_over q M p n d k h l =
     let h' = simp (add-mul, mul_comm, mul_left_comm) at h in
     let l' = simp (mul_comm) at l in
-    lt_of_mul_lt_mul_right d (simp (mul_assoc, mul_comm) (omega arith))
+    lt_of_mul-lt-mul_right d (simp (mul_assoc, mul_comm) (omega arith))
 
 not_under : (q M p n d k : ℕ) → 0 < d → p * (k * 2) + (k + k) * d ≤ q * d + n * (k * 2) → M * d + n * k ≤ p * k + k * d → M * 2 ≤ q
 not_under q M p n d k D h l =
     let h' = simp (add-mul, mul_comm, mul_left_comm) at h in
     let l' = simp (mul_comm) at l in
-    le_of_mul_le_mul_right (simp (mul_assoc, mul_comm) (omega arith)) D
+    le_of_mul-le-mul_right (simp (mul_assoc, mul_comm) (omega arith)) D
 
 -- ---- what a midpoint that has a value is
 no_value : (x : Float) → Refused (record { number = 27; place = 0 }) ≡ Value x → ⊥
@@ -88,7 +88,7 @@ module _ (x y : Float) (A B : ℕ) (c : Cell x A) (d : Cell y B) where
       let s = add binary64 x y in
       let m = div binary64 s two in
       let w = sum-cells f in
-      let r = div_rounds binary64 s two f tt (unfold lt in tt) in
+      let r = div-rounds binary64 s two f tt (unfold lt in tt) in
       let C : 0 < 2 * den s = mul-pos (lit< tt) (den_pos s) in
       let l = rounded-above m _ _ _ (held_finer (A + B) (omega arith)) C e.is_finite r (half-above (A + B) (pl s) (mi s) (den s) fine w.0.holds) in
       let u = rounded-below m _ _ _ (held_finer (suc A + suc B) (omega arith)) C e.is_finite r (half-below (suc A + suc B) (pl s) (mi s) (den s) fine w.1.holds) in (
@@ -135,10 +135,10 @@ minus-rounds = under (omega arith) refl
 pub narrow : (x y : Float) (A B : ℕ) → Cell x A → Cell y B → A ≤ B + 6 → B ≤ A + 6 → small width_tolerance (sub binary64 y x) ≡ true
 narrow x y A B c d h k =
     let z = sub binary64 y x in
-    let r = sub_rounds binary64 y x d.is_finite c.is_finite in
+    let r = sub-rounds binary64 y x d.is_finite c.is_finite in
     let C = mul-pos (den_pos y) (den_pos x) in
-    let u : T (le z seven) = rounds-mono C fine_pos r seven-rounds (width A B (pl x) (mi x) (den x) (pl y) (mi y) (den y) fine c.from (le_of_lt d.to) k) in
-    let l : T (le (neg seven) z) = rounds-mono fine_pos C minus-rounds r (width_down A B (pl x) (mi x) (den x) (pl y) (mi y) (den y) fine d.from (le_of_lt c.to) h) in
+    let u : T (le z seven) = rounds-mono C fine-pos r seven-rounds (width A B (pl x) (mi x) (den x) (pl y) (mi y) (den y) fine c.from (le_of_lt d.to) k) in
+    let l : T (le (neg seven) z) = rounds-mono fine-pos C minus-rounds r (width_down A B (pl x) (mi x) (den x) (pl y) (mi y) (den y) fine d.from (le_of_lt c.to) h) in
     T-to (small width_tolerance z) (and_i (lt (neg width_tolerance) z) (lt z width_tolerance)
     (lt_of_lt_of_le (neg width_tolerance) (neg seven) z (unfold lt neg of_bits in tt) l)
     (lt_of_le_of_lt z seven width_tolerance u (unfold lt of_bits in tt)))

@@ -24,7 +24,7 @@ use Rattle.lattice.specs.Lattice.{Layer, Lattice, transitions_of, destinations, 
 use Rattle.lattice.specs.laws.RisingMiddles.{around}
 use Rattle.lattice.specs.laws.Middles.{Spread}
 use Rattle.lattice.specs.laws.RoomTest.{Fitting, fitting}
-use Rattle.std.proofs.Math.Nat.{le-max_left, le-max_right, max_le}
+use Rattle.std.proofs.Math.Nat.{le-max_left, le-max_right, max-le}
 use Rattle.widths.specs.Widths.{middle_nodes, new_spacing, widths_from, flat_widths, curved_widths, widths, total, widest}
 
 -- ---- given with a property, or refused with another number than 21
@@ -230,13 +230,13 @@ enough room before w (x ∷ ws) f =
 
 pub needed : (room : Room) (before w : ℕ) (ws : List ℕ) → fits room (before + w) w ≡ true → AllFit room before (w ∷ ws) → Fitting room (before + total (w ∷ ws)) (widest (w ∷ ws))
 unfolding total widest
-needed room before w [] e last_fits = let f = fitting room (before + w) w e in let p = f.pairs in let t = f.threes in let a = f.first in let b = f.second in record { pairs = omega arith; threes = omega arith; first = max_le a (omega arith); second = max_le b (omega arith) }
+needed room before w [] e last_fits = let f = fitting room (before + w) w e in let p = f.pairs in let t = f.threes in let a = f.first in let b = f.second in record { pairs = omega arith; threes = omega arith; first = max-le a (omega arith); second = max-le b (omega arith) }
 needed room before w (x ∷ ws) e (more_fit g a) =
     let f = fitting room (before + w) w e in
     let n = needed room (before + w) x ws g a in
     let p = n.pairs in
     let t = n.threes in
-    record { pairs = omega arith; threes = omega arith; first = max_le f.first n.first; second = max_le f.second n.second }
+    record { pairs = omega arith; threes = omega arith; first = max-le f.first n.first; second = max-le f.second n.second }
 
 -- ---- the whole tree
 
@@ -285,7 +285,7 @@ flat_more room k ws true o e (all_laid p f) =
     let g = fitting room (k + 1) 1 e in
     let i = f.pairs in
     let j = f.threes in
-    all_laid (ap (λ (z : List ℕ). 1 ∷ z) p) (record { pairs = omega arith; threes = omega arith; first = max_le g.first f.first; second = max_le g.second f.second })
+    all_laid (ap (λ (z : List ℕ). 1 ∷ z) p) (record { pairs = omega arith; threes = omega arith; first = max-le g.first f.first; second = max-le g.second f.second })
 flat_more room k ws true o e (no_room ne) = no_room λ f. ne (less_fits f (omega arith) (le-max_right 1 (widest ws)))
 flat_more room k ws true o e (stopped_by ne) = stopped_by ne
 flat_more room k ws false o e g = no_room λ f. false≢true (sym e ∙ fits_of room (k + 1) 1 (less_fits f (omega arith) (le-max_left 1 (widest ws))))

@@ -168,14 +168,14 @@ new_answer c o = on_check c refused_grid (on_outcome o refused_grid accepted_gri
 abbrev old_answer : Check → Outcome callable.Grid → callable.GridAnswer
 old_answer c o = on_check c (λ r. record { refusal = r; grid = callable.zero_grid }) (on_outcome o (λ r. record { refusal = r; grid = callable.zero_grid }) λ g. record { refusal = record { number = 0; place = 0 }; grid = g })
 
-zero_grids : (r : Refusal) → refused_grid r ≡ as_grid (record { refusal = r; grid = callable.zero_grid })
-zero_grids r = ap (λ (z : List CallStep). record { refusal = r; grid = record { maturity_time = plus_zero; steps = 0; cashflows = replicate 513 plus_zero; calls = z } }) (sym (unput-none 513))
+zero-grids : (r : Refusal) → refused_grid r ≡ as_grid (record { refusal = r; grid = callable.zero_grid })
+zero-grids r = ap (λ (z : List CallStep). record { refusal = r; grid = record { maturity_time = plus_zero; steps = 0; cashflows = replicate 513 plus_zero; calls = z } }) (sym (unput-none 513))
 
 answers : (c : Check) (o : Outcome callable.Grid) → new_answer c (follow o λ g. given (as_grid_of g)) ≡ as_grid (old_answer c o)
 unfolding on_check on_outcome
-answers (check.Refused r) o = zero_grids r
+answers (check.Refused r) o = zero-grids r
 answers check.Passed (given g) = refl
-answers check.Passed (refused r) = zero_grids r
+answers check.Passed (refused r) = zero-grids r
 
 same_answer : (settlement : Settlement) (bond : Bond) (calls : CallSchedule) (controls : TimeGrid) → grid_answer settlement (bond_with_puts bond no_entries) calls controls ≡ as_grid (callable.grid_answer settlement bond calls controls)
 unfolding grid_answer callable.grid_answer on_check
@@ -187,7 +187,7 @@ same_answer settlement bond calls controls = go (entries.grid_checks settlement 
     go : (c : Check) → entries.grid_checks settlement other calls controls ≡ c → grid_answer settlement other calls controls ≡ as_grid (callable.grid_answer settlement bond calls controls)
     go (check.Refused r) e =
         ap (λ (c : Check). new_answer c (event_grid settlement other calls controls)) e
-        ∙ zero_grids r
+        ∙ zero-grids r
         ∙ sym (ap (λ (c : Check). as_grid (old_answer c (callable.event_grid settlement bond calls controls))) (sym (grid_checks_lem settlement bond calls controls) ∙ e))
     go check.Passed e =
         ap (λ (o : Outcome BondEventGrid). new_answer (entries.grid_checks settlement other calls controls) o) (same_grid_lem settlement bond calls controls (call-entries calls (grid-calls settlement other calls controls e)))

@@ -7,7 +7,7 @@ use mathlib.Core.Logic.{◌⊎◌, inl, inr}
 use mathlib.Core.Bool.{Bool, true, false, cond}
 use mathlib.Core.List.{List, []}
 use lib.ListN.{length, get_or, take, drop, drop_of_length-le}
-use lib.Seq.{take-nil, drop_drop, get_or-drop}
+use lib.Seq.{take-nil, drop-drop, get_or-drop}
 use lib.Dec.{ltb}
 use borrow.Author.Rules.{rules}
 use borrow.Author.Tests.{ltb-true, ltb-false}
@@ -66,7 +66,7 @@ module _ (text : List ℕ) (line : ℕ) where
               lines =
                   rw q (behind text at (split text at)
                   ∙ ap (drop 1) s.begins.lines
-                  ∙ drop_drop 1 (i - 1) (lines_of text)
+                  ∙ drop-drop 1 (i - 1) (lines_of text)
                   ∙ ap (λ (n : ℕ). drop n (lines_of text)) e);
             };
       }

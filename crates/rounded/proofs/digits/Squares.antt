@@ -3,7 +3,7 @@
 use mathlib.Core.Path.{◌≡◌, sym}
 use mathlib.Core.Bool.{Bool, true, false, not}
 use Prim.Native.Nat.{ℕ, ◌+◌, ◌*◌, ◌^◌, ◌≤◌, ◌<◌}
-use native.Mathlib.Nat.{lt_of_not_le_lem, not_le_of_lt_lem, lt_of_le_of_lt, mul_le_mul}
+use native.Mathlib.Nat.{lt_of_not-le, not-le_of_lt, lt_of_le_of_lt, mul-le-mul}
 use native.Mathlib.Omega.{arith}
 use borrow.Author.Tests.{lt-ltb, le-ltb}
 use lib.Arith.{digits_lt}
@@ -29,11 +29,11 @@ above_low high low top rest s e f g = same_test low rest (high * 2 ^ 64 + low) s
 
 -- 0 × 0 is above nothing.
 pub above_zero : (r n : ℕ) → n < r * r → 0 < r
-above_zero r n h = lt_of_not_le_lem λ (g : r ≤ 0). omega (arith, mul_le_mul g g)
+above_zero r n h = lt_of_not-le λ (g : r ≤ 0). omega (arith, mul-le-mul g g)
 
 -- The root of a number below 2^124 is below 2^62.
 pub root-small : (r high low : ℕ) → r * r ≤ high * 2 ^ 64 + low → high < 2 ^ 60 → low < 2 ^ 64 → r < 2 ^ 62
-root-small r high low h a b = lt_of_not_le_lem λ (g : 2 ^ 62 ≤ r). apart (mul_le_mul g g) (lt_of_le_of_lt h (digits_lt {m = 2 ^ 60} a b))
+root-small r high low h a b = lt_of_not-le λ (g : 2 ^ 62 ≤ r). apart (mul-le-mul g g) (lt_of_le_of_lt h (digits_lt {m = 2 ^ 60} a b))
   where
     apart : 2 ^ 124 ≤ r * r → r * r < 2 ^ 124 → ⊥
-    apart y z = not_le_of_lt_lem z y
+    apart y z = not-le_of_lt z y

@@ -2,7 +2,7 @@
 use mathlib.Core.Path.{◌≡◌, refl, sym, ap, ◌∙◌, subst}
 use mathlib.Core.Logic.{◌⊎◌, inl, inr}
 use Prim.Native.Nat.{ℕ, ◌+◌, ◌-◌, ◌*◌, ◌%◌, ◌^◌, ◌≤◌, ◌<◌}
-use native.Mathlib.Nat.{add-mul, add-zero, add-sub_of_le, le_of_eq, le_of_lt, le_trans, lt_of_lt_of_le, lt_of_le_of_lt, lt_of_mul_lt_mul_right, mul_assoc, mul-le-mul_left, mul-le-mul_right, mul-lt-mul_of_pos_right, mul-pos, one-mul, sub-add_cancel, zero-mul}
+use native.Mathlib.Nat.{add-mul, add-zero, add-sub_of_le, le_of_eq, le_of_lt, le_trans, lt_of_lt_of_le, lt_of_le_of_lt, lt_of_mul-lt-mul_right, mul_assoc, mul-le-mul_left, mul-le-mul_right, mul-lt-mul_of_pos_right, mul-pos, one-mul, sub-add_cancel, zero-mul}
 use native.Mathlib.Omega.{arith}
 use mathlib.Core.Bool.{Bool, true, false, not, beq}
 use lib.Dec.{T, ltb, ltb→lt, nltb→le}
@@ -13,7 +13,7 @@ use Rattle.rounded.specs.Fused.{rounded_sum}
 use Rattle.rounded.specs.laws.Packing.{word, scale}
 use Rattle.rounded.specs.laws.Parts.{Joinable}
 use Rattle.rounded.specs.laws.RoundToOdd.{Odd, exact, near, ordered}
-use Rattle.rounded.specs.laws.Sums.{aligned, both_zero, fall, gather, minus_mul, rise, rounded_sum_comm}
+use Rattle.rounded.specs.laws.Sums.{aligned, both_zero, fall, gather, minus-mul, rise, rounded_sum_comm}
 
 -- ---- two words that are 0 or not
 
@@ -66,25 +66,25 @@ pub second_more : (s t : Bool) (P Q W e : ℕ) → t ≡ not s → W ≡ Q - P �
 second_more s t P Q W e z w h given =
     given
     ∙ (subst (λ (t : Bool). rounded_sum t (W * 2 ^ e) t 0 (2 ^ scale) ≡ rounded_sum s (P * 2 ^ e) t (Q * 2 ^ e) (2 ^ scale)) (sym z)
-    (ap (λ (x : ℕ). rounded_sum (not s) x (not s) 0 (2 ^ scale)) (ap (λ (x : ℕ). x * 2 ^ e) w ∙ minus_mul Q P (2 ^ e))
+    (ap (λ (x : ℕ). rounded_sum (not s) x (not s) 0 (2 ^ scale)) (ap (λ (x : ℕ). x * 2 ^ e) w ∙ minus-mul Q P (2 ^ e))
     ∙ fall s (P * 2 ^ e) (Q * 2 ^ e) (2 ^ scale) (mul-lt-mul_of_pos_right h (pow_pos e))))
 
 pub first_more : (s t : Bool) (P Q W e : ℕ) → t ≡ not s → W ≡ P - Q → Q ≤ P → {r : Float} → r ≡ rounded_sum s (W * 2 ^ e) s 0 (2 ^ scale) → r ≡ rounded_sum s (P * 2 ^ e) t (Q * 2 ^ e) (2 ^ scale)
 first_more s t P Q W e z w h given =
     given
     ∙ (subst (λ (t : Bool). rounded_sum s (W * 2 ^ e) s 0 (2 ^ scale) ≡ rounded_sum s (P * 2 ^ e) t (Q * 2 ^ e) (2 ^ scale)) (sym z)
-    (ap (λ (x : ℕ). rounded_sum s x s 0 (2 ^ scale)) (ap (λ (x : ℕ). x * 2 ^ e) w ∙ minus_mul P Q (2 ^ e))
+    (ap (λ (x : ℕ). rounded_sum s x s 0 (2 ^ scale)) (ap (λ (x : ℕ). x * 2 ^ e) w ∙ minus-mul P Q (2 ^ e))
     ∙ rise s (P * 2 ^ e) (Q * 2 ^ e) (2 ^ scale) (pow_pos scale) (mul-le-mul_right (2 ^ e) h)))
 
 -- ---- the lower place moved down
 
 -- w is at most a, where X / D is below a
 bound : (X D w a : ℕ) → 0 < D → Odd X D w → X < a * D → w ≤ a
-bound X D w a d (exact e) h = le_of_lt (lt_of_mul_lt_mul_right D (lt_of_le_of_lt (le_of_eq (sym e)) h))
+bound X D w a d (exact e) h = le_of_lt (lt_of_mul-lt-mul_right D (lt_of_le_of_lt (le_of_eq (sym e)) h))
 bound X D w a d (near o u l) h =
     let n : (a + 1) * D ≡ a * D + D = add-mul a 1 D ∙ ap (λ (z : ℕ). a * D + z) (one-mul D) in
     let k : w * D < (a + 1) * D = omega arith in
-    let g : w < a + 1 = lt_of_mul_lt_mul_right D k in
+    let g : w < a + 1 = lt_of_mul-lt-mul_right D k in
     omega arith
 
 -- a whole multiple loses nothing
@@ -95,8 +95,8 @@ whole X D w c d (near o u l) h =
     let m : (c + 1) * D ≡ c * D + D = add-mul c 1 D ∙ ap (λ (z : ℕ). c * D + z) (one-mul D) in
     let a : c * D < (w + 1) * D = omega arith in
     let b : w * D < (c + 1) * D = omega arith in
-    let i : c < w + 1 = lt_of_mul_lt_mul_right D a in
-    let j : w < c + 1 = lt_of_mul_lt_mul_right D b in
+    let i : c < w + 1 = lt_of_mul-lt-mul_right D a in
+    let j : w < c + 1 = lt_of_mul-lt-mul_right D b in
     h ∙ ap (λ (z : ℕ). z * D) (omega arith)
 
 module _ (high low top : ℕ) (j : Joinable high low top) (low_fits : low < word) where

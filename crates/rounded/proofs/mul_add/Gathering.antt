@@ -1,7 +1,7 @@
 -- mul_add's sum from the digits and places of its three numbers.
 use mathlib.Core.Path.{◌≡◌, refl, sym, ap, ◌∙◌}
 use Prim.Native.Nat.{ℕ, ◌+◌, ◌*◌, ◌/◌, ◌%◌, ◌^◌, ◌≤◌, ◌<◌}
-use native.Mathlib.Nat.{add-zero, le_of_eq, le-add_right, le_trans, lt_of_le_of_lt, lt_of_lt_of_le, lt_of_mul_lt_mul_right, mul_assoc, mul_comm, mul_left_comm, mul_le_mul, mul-pos, mul-lt-mul_of_pos_right, zero-mul}
+use native.Mathlib.Nat.{add-zero, le_of_eq, le-add_right, le_trans, lt_of_le_of_lt, lt_of_lt_of_le, lt_of_mul-lt-mul_right, mul_assoc, mul_comm, mul_left_comm, mul-le-mul, mul-pos, mul-lt-mul_of_pos_right, zero-mul}
 use native.Mathlib.Omega.{arith}
 use mathlib.Core.Bool.{Bool}
 use lib.Pow.{pow-add, pow_pos}
@@ -45,8 +45,8 @@ some a h = omega arith
 module _ (a b c high low : ℕ) (A : Digits a) (B : Digits b) (C : Digits c) (fits : low < word) (p : high * word + low ≡ a * b) where
   pub joinable : 1 ≤ a → 1 ≤ b → 1 ≤ c → Joinable high low c
   joinable u v w = record {
-    least = le_of_lt_suc (lt_of_mul_lt_mul_right word (lt_of_le_of_lt (mul_le_mul {n₁ = 4611686018427387904} {m₁ = 4611686018427387904} (A.full u) (B.full v)) (lt_of_le_of_lt (le_of_eq (sym p)) (short high low fits))));
-    most = lt_of_mul_lt_mul_right word (lt_of_le_of_lt (le_trans (le-add_right (high * word) low) (le_of_eq p)) (lt_of_lt_of_le (mul-lt-mul_of_pos_right A.short v) (mul_le_mul {n₁ = 9223372036854775808} {m₁ = b} (le_of_eq refl) (le_of_lt B.short))));
+    least = le_of_lt-suc (lt_of_mul-lt-mul_right word (lt_of_le_of_lt (mul-le-mul {n₁ = 4611686018427387904} {m₁ = 4611686018427387904} (A.full u) (B.full v)) (lt_of_le_of_lt (le_of_eq (sym p)) (short high low fits))));
+    most = lt_of_mul-lt-mul_right word (lt_of_le_of_lt (le_trans (le-add_right (high * word) low) (le_of_eq p)) (lt_of_lt_of_le (mul-lt-mul_of_pos_right A.short v) (mul-le-mul {n₁ = 9223372036854775808} {m₁ = b} (le_of_eq refl) (le_of_lt B.short))));
     even = last high low (ap (λ (x : ℕ). x % 2) p ∙ twice a b A.even);
     full = C.full w;
     short = C.short;
@@ -55,8 +55,8 @@ module _ (a b c high low : ℕ) (A : Digits a) (B : Digits b) (C : Digits c) (fi
       short : (h l : ℕ) → l < word → h * word + l < (h + 1) * word
       short h l k = omega arith
 
-      le_of_lt_suc : 1152921504606846976 < high + 1 → 1152921504606846976 ≤ high
-      le_of_lt_suc k = omega arith
+      le_of_lt-suc : 1152921504606846976 < high + 1 → 1152921504606846976 ≤ high
+      le_of_lt-suc k = omega arith
 
       le_of_lt : {m n : ℕ} → m < n → m ≤ n
       le_of_lt k = omega arith

@@ -2,13 +2,13 @@
 use mathlib.Core.Path.{◌≡◌, refl, sym, ap, ◌∙◌, subst}
 use mathlib.Core.Logic.{◌⊎◌, inl, inr}
 use Prim.Native.Nat.{ℕ, zero, suc, ◌+◌, ◌-◌, ◌*◌, ◌/◌, ◌%◌, ◌^◌, ◌≤◌, ◌<◌}
-use native.Mathlib.Nat.{mul-one, mul_comm, mul_assoc, add_assoc, sub-add_cancel, mod-eq_of_lt, lt_of_mul_lt_mul_right, le-add_right, add-zero, add-mul, div-div-eq-div-mul, div-le_self, one-mul, le_trans, le_of_eq, mul-le-mul_right, div-add-mod', mod-lt, pow-succ', div-lt_iff_lt-mul}
+use native.Mathlib.Nat.{mul-one, mul_comm, mul_assoc, add_assoc, sub-add_cancel, mod-eq_of_lt, lt_of_mul-lt-mul_right, le-add_right, add-zero, add-mul, div-div-eq-div-mul, div-le_self, one-mul, le_trans, le_of_eq, mul-le-mul_right, div-add-mod', mod-lt, pow-succ', div-lt_iff_lt-mul}
 use native.Mathlib.Omega.{arith}
 use lib.Arith.{digits_lt}
 use lib.Pow.{pow-add, pow_pos, shl_exact, shl_lt}
 use lib.Ieee.Nearest.{closest}
 use Rattle.rounded.specs.laws.Packing.{word, Lifted, Stuck}
-use Rattle.rounded.specs.laws.RoundToOdd.{Odd, exact, near, ordered, closest_down, closest_up, closest_tie}
+use Rattle.rounded.specs.laws.RoundToOdd.{Odd, exact, near, ordered, closest_down, closest_up, closest-tie}
 
 pub unit-is : (p : ℕ) → p ≤ 63 → 1 * 2 ^ p % word ≡ 2 ^ p
 unit-is p h = shl_exact 1 p 64 (omega arith) (omega arith) ∙ one-mul (2 ^ p)
@@ -36,14 +36,14 @@ module _ (v b : ℕ) (b-pos : 0 < b) (b-even : b % 2 ≡ 0) where
   up_at h = go (ordered (v % b) (b / 2))
     where
       go : (v % b ≤ b / 2) ⊎ (b / 2 < v % b) → closest v b ≡ v / b + 1
-      go (inl l) = closest_tie v b (v / b) (v % b) (sym (div-add-mod' v b)) (omega arith) b-pos ∙ omega arith
+      go (inl l) = closest-tie v b (v / b) (v % b) (sym (div-add-mod' v b)) (omega arith) b-pos ∙ omega arith
       go (inr l) = closest_up v b (v / b) (v % b) (sym (div-add-mod' v b)) (omega arith) (mod-lt v b-pos)
 
   stay_at : v % b + v / b % 2 ≤ b / 2 → closest v b ≡ v / b
   stay_at h = go (ordered (b / 2) (v % b))
     where
       go : (b / 2 ≤ v % b) ⊎ (v % b < b / 2) → closest v b ≡ v / b
-      go (inl l) = closest_tie v b (v / b) (v % b) (sym (div-add-mod' v b)) (omega arith) b-pos ∙ omega arith
+      go (inl l) = closest-tie v b (v / b) (v % b) (sym (div-add-mod' v b)) (omega arith) b-pos ∙ omega arith
       go (inr l) = closest_down v b (v / b) (v % b) (sym (div-add-mod' v b)) (omega arith)
 
 -- as the code has it, with the unit as a shift makes it
@@ -85,7 +85,7 @@ module _ (high low p : ℕ) (h : Lifted high p) (l : low < word) where
   split = sym (pow-add 2 (64 - p) p) ∙ ap (λ (z : ℕ). 2 ^ z) (sub-add_cancel (le_trans h.few (omega arith)))
 
   high_lt : high < 2 ^ (64 - p)
-  high_lt = lt_of_mul_lt_mul_right (2 ^ p) (subst (λ (z : ℕ). high * 2 ^ p < z) (sym split) h.fits)
+  high_lt = lt_of_mul-lt-mul_right (2 ^ p) (subst (λ (z : ℕ). high * 2 ^ p < z) (sym split) h.fits)
 
   low_lt : low / 2 ^ (64 - p) < 2 ^ p
   low_lt = (div-lt_iff_lt-mul (pow_pos (64 - p))).1 (subst (λ (z : ℕ). low < z) (sym (mul_comm (2 ^ p) (2 ^ (64 - p)) ∙ split)) l)

@@ -2,7 +2,7 @@
 use mathlib.Core.Path.{◌≡◌, refl, sym, ap, ◌∙◌}
 use mathlib.Core.Logic.{inl, inr}
 use Prim.Native.Nat.{ℕ, suc, ◌+◌, ◌-◌, ◌*◌, ◌/◌, ◌%◌, ◌^◌, ◌≤◌, ◌<◌, compare}
-use native.Mathlib.Nat.{le_trans, le_of_eq, lt_of_lt_of_le, mul_le_mul, mul-pos, mul_assoc, zero-mul, add-sub_of_le, mod-eq_of_lt}
+use native.Mathlib.Nat.{le_trans, le_of_eq, lt_of_lt_of_le, mul-le-mul, mul-pos, mul_assoc, zero-mul, add-sub_of_le, mod-eq_of_lt}
 use native.Mathlib.Omega.{arith}
 use mathlib.Core.Bool.{Bool}
 use lib.Pow.{pow-add, pow_pos, pow_mono, shr_lt}
@@ -11,7 +11,7 @@ use lib.Ieee.Fits.{nearest-le}
 use lib.Ieee.Nearest.{closest, nearest-ge}
 use lib.Ieee.Scale.{round_same}
 use Rattle.rounded.specs.laws.Packing.{word, Kept, Lifted, scale, scale_is, units-over}
-use Rattle.rounded.specs.laws.RoundToOdd.{Odd, round-odd, round-word, closest_down, closest_up, closest_tie}
+use Rattle.rounded.specs.laws.RoundToOdd.{Odd, round-odd, round-word, closest_down, closest_up, closest-tie}
 
 near_le : (v b : ℕ) → closest v b ≤ suc (v / b)
 near_le v b = nearest-le (v / b) (compare (v % b * 2) b)
@@ -37,7 +37,7 @@ module _ (s : Bool) (w e : ℕ) (full : 9223372036854775808 ≤ w) (fits : w < w
   pub infinite : 3296 < e → round binary64 s (w * 2 ^ e) (2 ^ scale) ≡ units binary64 s 4503599627370496 2046
   infinite h =
       normal (omega arith)
-      ∙ units-over binary64 s (closest w (2 ^ 11)) (e - 1251) (le_trans (le_of_eq (pow-add 2 52 2046)) (mul_le_mul {n₁ = 2 ^ 52} {m₁ = 2 ^ 2046} (omega (arith, near_ge w 2048)) (pow_mono {i = 2046} {j = e - 1251} (omega arith))))
+      ∙ units-over binary64 s (closest w (2 ^ 11)) (e - 1251) (le_trans (le_of_eq (pow-add 2 52 2046)) (mul-le-mul {n₁ = 2 ^ 52} {m₁ = 2 ^ 2046} (omega (arith, near_ge w 2048)) (pow_mono {i = 2046} {j = e - 1251} (omega arith))))
       ∙ sym (units-over binary64 s 4503599627370496 2046 (le_of_eq (pow-add 2 52 2046)))
 
   pub vanishing : e < 1198 → round binary64 s (w * 2 ^ e) (2 ^ scale) ≡ units binary64 s 0 0
@@ -55,7 +55,7 @@ module _ (s : Bool) (w e : ℕ) (full : 9223372036854775808 ≤ w) (fits : w < w
   last_tie h g =
       subnormal (omega arith)
       ∙ ap (λ (z : ℕ). units binary64 s (closest w (2 ^ (1262 - z))) 0) h
-      ∙ ap (λ (q : ℕ). units binary64 s q 0) (closest_tie w word 0 w (omega arith) (omega arith) (omega arith))
+      ∙ ap (λ (q : ℕ). units binary64 s q 0) (closest-tie w word 0 w (omega arith) (omega arith) (omega arith))
 
 pub nothing : (s : Bool) (w e : ℕ) → w ≡ 0 → round binary64 s (w * 2 ^ e) (2 ^ scale) ≡ units binary64 s 0 0
 nothing s w e z =

@@ -1,7 +1,7 @@
 -- Multiplying two numbers of two words each: the outer products, and the middle one by the product of the sums. Assumes nothing.
 use mathlib.Core.Path.{◌≡◌, sym, ◌∙◌}
 use Prim.Native.Nat.{ℕ, ◌+◌, ◌-◌, ◌*◌, ◌/◌, ◌%◌, ◌^◌, ◌<◌, ◌≤◌}
-use native.Mathlib.Nat.{mul_assoc, mul_comm, mul_left_comm, mul-add, add-mul, mul_le_mul, div-add-mod'}
+use native.Mathlib.Nat.{mul_assoc, mul_comm, mul_left_comm, mul-add, add-mul, mul-le-mul, div-add-mod'}
 use native.Mathlib.Omega.{arith}
 
 -- One more than the highest word of 32 bits.
@@ -32,10 +32,10 @@ whole P a0 a1 b0 b1 = simp (mul-add, add-mul, mul_assoc, mul_comm, mul_left_comm
 
 words_le : (x y : ℕ) → x < word → y < word → x * y ≤ 18446744065119617025
 words_le x y hx hy =
-    mul_le_mul {n₁ = x} {m₁ = y} {n₂ = 4294967295} {m₂ = 4294967295} (omega arith) (omega arith)
+    mul-le-mul {n₁ = x} {m₁ = y} {n₂ = 4294967295} {m₂ = 4294967295} (omega arith) (omega arith)
 
 carry_le : (q x y : ℕ) → q < 2 → x ≤ y → q * x ≤ y
-carry_le q x y h k = let w = mul_le_mul {n₁ = q} {m₁ = x} {n₂ = 1} {m₂ = y} (omega arith) k in omega (arith, w)
+carry_le q x y h k = let w = mul-le-mul {n₁ = q} {m₁ = x} {n₂ = 1} {m₂ = y} (omega arith) k in omega (arith, w)
 
 -- ---- in the words of the code
 

@@ -65,14 +65,14 @@ module _ (m k r : ℕ) (small : m < 9007199254740992) (l : Lifted m r) where
 
 -- ---- what the fields are read as
 
-field_zero : (f : Format) (s : Bool) (t : ℕ) → HasValue (of_fields f s 0 t) s (t * 2 ^ 0) (2 ^ low f)
+field-zero : (f : Format) (s : Bool) (t : ℕ) → HasValue (of_fields f s 0 t) s (t * 2 ^ 0) (2 ^ low f)
 unfolding of_fields
-field_zero f s t = odd_sign (prec f) s t 0 (low f)
+field-zero f s t = odd_sign (prec f) s t 0 (low f)
 
 -- a finite value's field is not the highest
-field_suc : (f : Format) (s : Bool) (x t : ℕ) → T (finite (of_fields f s (suc x) t)) → (suc x ≡ ones f → ⊥) × HasValue (of_fields f s (suc x) t) s ((hid f + t) * 2 ^ x) (2 ^ low f)
+field-suc : (f : Format) (s : Bool) (x t : ℕ) → T (finite (of_fields f s (suc x) t)) → (suc x ≡ ones f → ⊥) × HasValue (of_fields f s (suc x) t) s ((hid f + t) * 2 ^ x) (2 ^ low f)
 unfolding of_fields
-field_suc f s x t h = go (eqb (suc x) (ones f)) (eqb t 0) (λ (e : suc x ≡ ones f). eq→eqb e) h
+field-suc f s x t h = go (eqb (suc x) (ones f)) (eqb t 0) (λ (e : suc x ≡ ones f). eq→eqb e) h
   where
     go : (b c : Bool) → (suc x ≡ ones f → T b) → T (finite (cond b (cond c (inf s) nan) (odd (prec f) s (hid f + t) x (low f))))
         → (suc x ≡ ones f → ⊥) × HasValue (cond b (cond c (inf s) nan) (odd (prec f) s (hid f + t) x (low f))) s ((hid f + t) * 2 ^ x) (2 ^ low f)
@@ -127,7 +127,7 @@ module _ (x : Float) (held_in : T (fits binary64 x)) (fin-x : T (finite x)) wher
   known : (j : ℕ) → bits / 4503599627370496 % 2048 ≡ suc j → (suc j ≡ 2047 → ⊥) × HasValue x sgn ((4503599627370496 + bits % 4503599627370496) * 2 ^ j) (2 ^ 1074)
   known j e =
       let q = by_field (suc j) e in
-      let k = field_suc binary64 sgn j (bits % 4503599627370496) (subst (λ (y : Float). T (finite y)) (sym q) fin-x) in
+      let k = field-suc binary64 sgn j (bits % 4503599627370496) (subst (λ (y : Float). T (finite y)) (sym q) fin-x) in
       (k.0, subst (λ (y : Float). HasValue y sgn ((4503599627370496 + bits % 4503599627370496) * 2 ^ j) (2 ^ 1074)) q k.1)
 
   pub field-most : 0 < bits / 4503599627370496 % 2048 → bits / 4503599627370496 % 2048 - 1 ≤ 2045
@@ -149,13 +149,13 @@ module _ (x : Float) (held_in : T (fits binary64 x)) (fin-x : T (finite x)) wher
       e v (ample_digits d p a) a.within
 
   low-known : bits / 4503599627370496 % 2048 ≤ 0 → HasValue x sgn (bits % 4503599627370496 * 2 ^ 0) (2 ^ 1074)
-  low-known h = subst (λ (y : Float). HasValue y sgn (bits % 4503599627370496 * 2 ^ 0) (2 ^ 1074)) (by_field 0 (omega arith)) (field_zero binary64 sgn (bits % 4503599627370496))
+  low-known h = subst (λ (y : Float). HasValue y sgn (bits % 4503599627370496 * 2 ^ 0) (2 ^ 1074)) (by_field 0 (omega arith)) (field-zero binary64 sgn (bits % 4503599627370496))
 
   pub low_parts : (r : Bool) (d p : ℕ) → bits / 4503599627370496 % 2048 ≤ 0 → r ≡ sgn → d * 2 ^ p ≡ bits % 4503599627370496 * 2 ^ (0 + 62) → Ample d p → Parted x r d p
   low_parts r d p h e v a = parted x sgn r (bits % 4503599627370496) 0 d p (low-known h) e v (ample_digits d p a) a.within
 
-  pub zero_parts : bits / 4503599627370496 % 2048 ≤ 0 → bits % 4503599627370496 ≤ 0 → Parted x sgn 0 0
-  zero_parts h l =
+  pub zero-parts : bits / 4503599627370496 % 2048 ≤ 0 → bits % 4503599627370496 ≤ 0 → Parted x sgn 0 0
+  zero-parts h l =
       parted x sgn sgn (bits % 4503599627370496) 0 0 0 (low-known h) refl
       (sym (ap (λ (z : ℕ). z * 2 ^ (0 + 62)) none ∙ zero-mul (2 ^ (0 + 62))))
       (record { full = λ k. omega arith; short = omega arith; even = refl })

@@ -3,7 +3,7 @@
 -- Assumes nothing.
 use mathlib.Core.Path.{◌≡◌, refl, sym, ap, ◌∙◌}
 use Prim.Native.Nat.{ℕ, ◌+◌, ◌*◌, ◌%◌, ◌^◌, ◌≤◌, ◌<◌}
-use native.Mathlib.Nat.{le_trans, le_of_eq, lt_of_lt_of_le, lt_of_le_of_lt, lt_of_not_le_lem, not_le_of_lt_lem, mul-pos, mul_le_mul, mul-le-mul_right, mul-lt-mul_of_pos_right, mul-mul-mul_comm, mul_assoc, add-mul, one-mul}
+use native.Mathlib.Nat.{le_trans, le_of_eq, lt_of_lt_of_le, lt_of_le_of_lt, lt_of_not-le, not-le_of_lt, mul-pos, mul-le-mul, mul-le-mul_right, mul-lt-mul_of_pos_right, mul-mul-mul_comm, mul_assoc, add-mul, one-mul}
 use native.Mathlib.Omega.{arith}
 use mathlib.Core.Bool.{false}
 use mathlib.Core.Logic.{inr}
@@ -19,13 +19,13 @@ use Rattle.rounded.specs.laws.Packing.{scale, scale_is}
 
 -- of two numbers the one with the smaller square
 smaller : (a b : ℕ) → a * a < b * b → a < b
-smaller a b h = lt_of_not_le_lem λ (g : b ≤ a). not_le_of_lt_lem h (mul_le_mul g g)
+smaller a b h = lt_of_not-le λ (g : b ≤ a). not-le_of_lt h (mul-le-mul g g)
 
 not_larger : (a b : ℕ) → a * a ≤ b * b → a < b + 1
 not_larger a b h = smaller a (b + 1) (lt_of_le_of_lt h (mul_lt b))
   where
     mul_lt : (b : ℕ) → b * b < (b + 1) * (b + 1)
-    mul_lt b = omega (arith, mul_le_mul {n₁ = b} {m₁ = b} {n₂ = b + 1} {m₂ = b} (omega arith) (omega arith), simp (add-mul, one-mul) at (mul_le_mul {n₁ = b + 1} {m₁ = b + 1} {n₂ = b + 1} {m₂ = b + 1} (omega arith) (omega arith)))
+    mul_lt b = omega (arith, mul-le-mul {n₁ = b} {m₁ = b} {n₂ = b + 1} {m₂ = b} (omega arith) (omega arith), simp (add-mul, one-mul) at (mul-le-mul {n₁ = b + 1} {m₁ = b + 1} {n₂ = b + 1} {m₂ = b + 1} (omega arith) (omega arith)))
 
 module _ (r n w R N W D : ℕ) (D-pos : 0 < D) (e : N ≡ n * (D * D)) (h : IsRoot r n) (H : IsRoot R N) where
   square : r * D * (r * D) ≡ r * r * (D * D)

@@ -16,7 +16,7 @@ use lib.Ieee.Scale.{finite}
 use Rattle.floats.specs.declared.Answer.TheVariants.{Value}
 use Rattle.floats.specs.Answers.{plus_zero, not_finite, refusal}
 use Rattle.rounded.specs.Root.{root_of, sqrt_at}
-use Rattle.rounded.specs.laws.RootBounds.{root_of_bounds, zero_root}
+use Rattle.rounded.specs.laws.RootBounds.{root_of_bounds, zero-root}
 
 -- ---- a flag as a fact
 
@@ -40,8 +40,8 @@ none (fin s m e) h =
     let k : m * up e * 1 ≡ 0 * down e = eqb→eq (m * up e * 1) (0 * down e) (and_l (eqb (m * up e * 1) (0 * down e)) (beq s false || eqb (m * up e * 1) 0) (flag h)) in
     omega arith
 
-pub zero_value : (x : Float) → eq x plus_zero ≡ true → x ≡ root_of x
-zero_value x e = sym (zero_root x (none x e))
+pub zero-value : (x : Float) → eq x plus_zero ≡ true → x ≡ root_of x
+zero-value x e = sym (zero-root x (none x e))
 
 -- ---- neither below 0 nor 0
 

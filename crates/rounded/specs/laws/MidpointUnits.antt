@@ -1,7 +1,7 @@
 -- Two fractions a / b and c / d that are Y and Z times 1 / l, and a third, p / e, that is n times 1 / l²: their order, and (a / b + c / d)² against 4 × p / e, in whole numbers.
 -- Assumes nothing.
 use Rattle.std.specs.Prelude.{◌≡◌, ℕ, ◌+◌, ◌*◌, ◌<◌}
-use Rattle.std.proofs.Common.{sym, ap, ◌∙◌, subst, mul-pos, mul-lt-mul_of_pos_right, lt_of_mul_lt_mul_right, mul_assoc, mul_comm, mul_left_comm, mul_right_comm, add-mul, arith}
+use Rattle.std.proofs.Common.{sym, ap, ◌∙◌, subst, mul-pos, mul-lt-mul_of_pos_right, lt_of_mul-lt-mul_right, mul_assoc, mul_comm, mul_left_comm, mul_right_comm, add-mul, arith}
 
 -- The order of the two fractions as that of Y and Z, and ((a / b + c / d) / 2)² against p / e by (Y + Z)² against 4 × n.
 pub record Counted (Y Z n a b c d p e : ℕ) : Type 0 where
@@ -13,7 +13,7 @@ pub record Counted (Y Z n a b c d p e : ℕ) : Type 0 where
 -- a strict order after cancelling a factor m on both sides
 cancel : (m u v a b : ℕ) → u * m ≡ a → v * m ≡ b → a < b → u < v
 cancel m u v a b f g h =
-    lt_of_mul_lt_mul_right m (subst (λ (z : ℕ). z < v * m) (sym f) (subst (λ (z : ℕ). a < z) (sym g) h))
+    lt_of_mul-lt-mul_right m (subst (λ (z : ℕ). z < v * m) (sym f) (subst (λ (z : ℕ). a < z) (sym g) h))
 
 module _ (l Y Z n a b c d p e : ℕ) (l-pos : 0 < l) (b-pos : 0 < b) (d-pos : 0 < d) (e-pos : 0 < e) (u : a * l ≡ Y * b) (v : c * l ≡ Z * d) (f : p * (l * l) ≡ n * e) where
   first : a * d * l ≡ Y * (b * d)

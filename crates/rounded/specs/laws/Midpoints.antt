@@ -2,12 +2,12 @@
 -- The root of n = digits × 2^places, doubled and rounded to odd, is w; rounded to a multiple q × u of the unit u = 2^k, it is nearest to the root.
 -- Assumes nothing.
 use Rattle.std.specs.Prelude.{◌≡◌, refl, ◌⊎◌, ℕ, suc, ◌+◌, ◌-◌, ◌*◌, ◌/◌, ◌%◌, ◌^◌, ◌≤◌, ◌<◌}
-use Rattle.std.proofs.Common.{sym, ap, ◌∙◌, subst, inl, inr, le_trans, le_of_eq, le_of_lt, lt_of_lt_of_le, lt_of_le_of_lt, not_le_of_lt_lem, eq-or-lt_of_le, mul_le_mul, mul-le-mul_right, mul-lt-mul_of_pos_right, mul_assoc, mul_comm, mul_left_comm, add-mul, mul-add, one-mul, mul-one, div-add-mod', mod-lt, lt_of_mul_lt_mul_right, le-mul_of_pos_right, arith, pow-add, pow_pos, pow_mono}
+use Rattle.std.proofs.Common.{sym, ap, ◌∙◌, subst, inl, inr, le_trans, le_of_eq, le_of_lt, lt_of_lt_of_le, lt_of_le_of_lt, not-le_of_lt, eq-or-lt_of_le, mul-le-mul, mul-le-mul_right, mul-lt-mul_of_pos_right, mul_assoc, mul_comm, mul_left_comm, add-mul, mul-add, one-mul, mul-one, div-add-mod', mod-lt, lt_of_mul-lt-mul_right, le-mul_of_pos_right, arith, pow-add, pow_pos, pow_mono}
 use Rattle.std.proofs.Math.Nat.{mul-mul-mul_comm, eq_of_mul-eq-mul_right, pow-succ'}
 use Rattle.std.specs.Float.Ieee.Nearest.{closest}
 use Rattle.rounded.specs.laws.Root.{IsRoot}
 use Rattle.rounded.specs.laws.RootValue.{Twice, whole, cut}
-use Rattle.rounded.specs.laws.RoundToOdd.{ordered, closest_down, closest_up, closest_tie}
+use Rattle.rounded.specs.laws.RoundToOdd.{ordered, closest_down, closest_up, closest-tie}
 
 -- ---- the nearest multiple of b is at most b / 2 away
 
@@ -35,12 +35,12 @@ module _ (a b q r : ℕ) (p : 0 < b) (is : a ≡ q * b + r) (less : r < b) where
   within_at : (b ≤ r * 2) ⊎ (r * 2 < b) → Within a b (closest a b * b)
   within_at (inr l) = at q (closest_down a b q r is l) (down (le_of_lt l))
   within_at (inl l) = elim (eq-or-lt_of_le l) [
-    | inl e ↦ at (q + q % 2) (closest_tie a b q r is (sym e) p) (tie (sym e) (ordered (q % 2) 0))
+    | inl e ↦ at (q + q % 2) (closest-tie a b q r is (sym e) p) (tie (sym e) (ordered (q % 2) 0))
     | inr g ↦ at (q + 1) (closest_up a b q r is g less) (up l)
   ]
 
-pub closest_within : (a b : ℕ) → 0 < b → Within a b (closest a b * b)
-closest_within a b p = within_at a b (a / b) (a % b) p (sym (div-add-mod' a b)) (mod-lt a p) (ordered b (a % b * 2))
+pub closest-within : (a b : ℕ) → 0 < b → Within a b (closest a b * b)
+closest-within a b p = within_at a b (a / b) (a % b) p (sym (div-add-mod' a b)) (mod-lt a p) (ordered b (a % b * 2))
 
 -- ---- the root is no midpoint: its square would have too many digits
 
@@ -74,7 +74,7 @@ odd-square c o = half (c / 2) (omega arith)
 no_tie : (c k r digits places : ℕ) → c % 2 ≡ 1 → 2 ^ 53 ≤ c + 1 → digits < 2 ^ 53 → r ≡ c * 2 ^ k → r * r ≡ digits * 2 ^ places → ⊥
 no_tie c k r digits places o big small e s =
     let q : c * c ≤ digits = odd_part (c * c) (k + k) digits places (odd-square c o) (ap (λ (z : ℕ). c * c * z) (pow-add 2 k k) ∙ mul-mul-mul_comm c c (2 ^ k) (2 ^ k) ∙ (λ i. sym e i * sym e i) ∙ s) in
-    omega (arith, mul_le_mul {n₁ = 2} {m₁ = c} {n₂ = c} {m₂ = c} (omega arith) (omega arith))
+    omega (arith, mul-le-mul {n₁ = 2} {m₁ = c} {n₂ = c} {m₂ = c} (omega arith) (omega arith))
 
 -- ---- from 2^52 units on every double is a whole number of units
 
@@ -83,9 +83,9 @@ multiple k m j small large = elim (ordered k j) [
   | inl l ↦ (m * 2 ^ (j - k), ap (λ (z : ℕ). m * 2 ^ z) (back j k l) ∙ ap (λ (z : ℕ). m * z) (pow-add 2 (j - k) k) ∙ sym (mul_assoc m (2 ^ (j - k)) (2 ^ k)))
   | inr l ↦
       absurd
-      (not_le_of_lt_lem
+      (not-le_of_lt
       (lt_of_lt_of_le (mul-lt-mul_of_pos_right small (pow_pos j))
-      (le_trans (le_of_eq (mul_assoc (2 ^ 52) 2 (2 ^ j) ∙ ap (λ (z : ℕ). 2 ^ 52 * z) (sym (pow-succ' 2 j)))) (mul_le_mul {n₁ = 2 ^ 52} {m₁ = 2 ^ suc j} {n₂ = 2 ^ 52} {m₂ = 2 ^ k} (le_of_eq refl) (pow_mono l))))
+      (le_trans (le_of_eq (mul_assoc (2 ^ 52) 2 (2 ^ j) ∙ ap (λ (z : ℕ). 2 ^ 52 * z) (sym (pow-succ' 2 j)))) (mul-le-mul {n₁ = 2 ^ 52} {m₁ = 2 ^ suc j} {n₂ = 2 ^ 52} {m₂ = 2 ^ k} (le_of_eq refl) (pow_mono l))))
       large)
 ]
   where
@@ -96,14 +96,14 @@ module _ (k q m j : ℕ) (normal : 2 ^ 52 ≤ q) (small : m < 2 ^ 53) where
   pub gap_up : q * 2 ^ k < m * 2 ^ j → q * 2 ^ k + 2 ^ k ≤ m * 2 ^ j
   gap_up h =
       let a = multiple k m j small (le_trans (mul-le-mul_right (2 ^ k) normal) (le_of_lt h)) in
-      let l : q < a.0 = lt_of_mul_lt_mul_right (2 ^ k) (subst (λ (z : ℕ). q * 2 ^ k < z) a.1 h) in
+      let l : q < a.0 = lt_of_mul-lt-mul_right (2 ^ k) (subst (λ (z : ℕ). q * 2 ^ k < z) a.1 h) in
       le_trans (le_of_eq (sym (next q (2 ^ k)))) (le_trans (mul-le-mul_right {m = q + 1} {n = a.0} (2 ^ k) (omega arith)) (le_of_eq (sym a.1)))
 
   pub gap_down : m * 2 ^ j < q * 2 ^ k → (m * 2 ^ j + 2 ^ k ≤ q * 2 ^ k) ⊎ (q ≡ 2 ^ 52)
   gap_down h = elim (ordered (2 ^ 52 * 2 ^ k) (m * 2 ^ j)) [
     | inl g ↦
         let a = multiple k m j small g in
-        let l : a.0 < q = lt_of_mul_lt_mul_right (2 ^ k) (subst (λ (z : ℕ). z < q * 2 ^ k) a.1 h) in
+        let l : a.0 < q = lt_of_mul-lt-mul_right (2 ^ k) (subst (λ (z : ℕ). z < q * 2 ^ k) a.1 h) in
         inl (le_trans (le_of_eq (ap (λ (z : ℕ). z + 2 ^ k) a.1 ∙ sym (next a.0 (2 ^ k)))) (mul-le-mul_right {m = a.0 + 1} {n = q} (2 ^ k) (omega arith)))
     | inr g ↦ elim (eq-or-lt_of_le normal) [
       | inl e ↦ inr (sym e)
@@ -123,13 +123,13 @@ four a = simp (mul_assoc, mul_left_comm) (omega arith)
 
 -- A number a of half units that is at least 2 × (r + 1), or below 2 × r, or at most 2 × r where the root is cut.
 over : (r n a : ℕ) → IsRoot r n → 2 * (r + 1) ≤ a → 4 * n < a * a
-over r n a h l = lt_of_lt_of_le (more h.next) (le_trans (le_of_eq (sym (four (r + 1)))) (mul_le_mul l l))
+over r n a h l = lt_of_lt_of_le (more h.next) (le_trans (le_of_eq (sym (four (r + 1)))) (mul-le-mul l l))
   where
     more : {b : ℕ} → n < b → 4 * n < 4 * b
     more g = omega arith
 
 under-cut : (r n a : ℕ) → r * r < n → a ≤ 2 * r → a * a < 4 * n
-under-cut r n a h l = lt_of_le_of_lt (mul_le_mul l l) (lt_of_le_of_lt (le_of_eq (four r)) (more (r * r) h))
+under-cut r n a h l = lt_of_le_of_lt (mul-le-mul l l) (lt_of_le_of_lt (le_of_eq (four r)) (more (r * r) h))
   where
     more : (b : ℕ) → b < n → 4 * b < 4 * n
     more b g = omega arith

@@ -2,7 +2,7 @@
 -- The midpoint between it and any other double, squared, lies on that double's side of x: below x for a smaller one, above x for a larger one.
 -- Assumes nothing.
 use Rattle.std.specs.Prelude.{◌≡◌, false, ℕ, suc, ◌+◌, ◌-◌, ◌*◌, ◌^◌, ◌≤◌, ◌<◌, T, Float}
-use Rattle.std.proofs.Common.{sym, ap, ◌∙◌, subst, inl, inr, le_trans, le_of_eq, lt_of_lt_of_le, lt_of_not_le_lem, not_le_of_lt_lem, mul-le-mul_right, mul-one, mul_assoc, mul_left_comm, arith, lit≤, pow-add, pow_pos, pow_mono}
+use Rattle.std.proofs.Common.{sym, ap, ◌∙◌, subst, inl, inr, le_trans, le_of_eq, lt_of_lt_of_le, lt_of_not-le, not-le_of_lt, mul-le-mul_right, mul-one, mul_assoc, mul_left_comm, arith, lit≤, pow-add, pow_pos, pow_mono}
 use Rattle.std.proofs.Math.Nat.{pow-succ'}
 use Rattle.std.specs.Float.{binary64}
 use Rattle.std.specs.Float.Ieee.{fits, size, units, round}
@@ -13,11 +13,11 @@ use Rattle.std.specs.Float.Ieee.Positive.{num, den, den_pos, positive, positive-
 use Rattle.std.specs.Float.Ieee.Scale.{finite}
 use Rattle.rounded.specs.Root.{root_of}
 use Rattle.rounded.specs.laws.Root.{IsRoot, root-most}
-use Rattle.rounded.specs.laws.RootValue.{Twice, whole, cut, Doubled, number, number_pos, number_is, rooted-sized}
+use Rattle.rounded.specs.laws.RootValue.{Twice, whole, cut, Doubled, number, number-pos, number_is, rooted-sized}
 use Rattle.rounded.specs.laws.RoundToOdd.{round-word}
 use Rattle.rounded.specs.laws.MidpointUnits.{Counted, counted}
 use Rattle.rounded.specs.laws.Sized.{Sized, sized}
-use Rattle.rounded.specs.laws.Midpoints.{Within, closest_within, next, gap_up, gap_down, Sides, sides}
+use Rattle.rounded.specs.laws.Midpoints.{Within, closest-within, next, gap_up, gap_down, Sides, sides}
 
 -- z is smaller than y, as fractions.
 abbrev pub Smaller : Float → Float → Type 0
@@ -60,13 +60,13 @@ module _ (w k : ℕ) (long : w < 2 ^ (53 + suc (suc k))) (full : 2 ^ (52 + suc (
   start = subst (λ (z : ℕ). 2 ^ 52 * z ≤ w) double (le_trans (le_of_eq (sym (pow-add 2 52 (suc (suc k))))) full)
 
   near : Within w (2 * 2 ^ suc k) (nearest_to w k * (2 * 2 ^ suc k))
-  near = closest_within w (2 * 2 ^ suc k) (subst (λ (z : ℕ). 0 < z) double (pow_pos (suc (suc k))))
+  near = closest-within w (2 * 2 ^ suc k) (subst (λ (z : ℕ). 0 < z) double (pow_pos (suc (suc k))))
 
   normal : 2 ^ 52 ≤ nearest_to w k
-  normal = lt_of_not_le_suc λ (g : nearest_to w k + 1 ≤ 2 ^ 52). omega (arith, start, near.not_under, pow_pos (suc k), mul-le-mul_right (2 * 2 ^ suc k) g, next (nearest_to w k) (2 * 2 ^ suc k))
+  normal = lt_of_not_le-suc λ (g : nearest_to w k + 1 ≤ 2 ^ 52). omega (arith, start, near.not_under, pow_pos (suc k), mul-le-mul_right (2 * 2 ^ suc k) g, next (nearest_to w k) (2 * 2 ^ suc k))
     where
-      lt_of_not_le_suc : {a b : ℕ} → (a + 1 ≤ b → ⊥) → b ≤ a
-      lt_of_not_le_suc {a} {b} f = let h : b < a + 1 = lt_of_not_le_lem f in omega arith
+      lt_of_not_le-suc : {a b : ℕ} → (a + 1 ≤ b → ⊥) → b ≤ a
+      lt_of_not_le-suc {a} {b} f = let h : b < a + 1 = lt_of_not-le f in omega arith
 
   few : nearest_to w k * 2 ^ suc k < 2 ^ 2098
   few = lt_of_lt_of_le (last (2 ^ 1586) bound) (lit≤ tt)
@@ -93,7 +93,7 @@ module _ (w k : ℕ) (long : w < 2 ^ (53 + suc (suc k))) (full : 2 ^ (52 + suc (
 
 rounded_of : (w : ℕ) → 2 ^ 54 ≤ w → w < 2 * 2 ^ 1586 → Rounded w (round binary64 false w (2 ^ 1075))
 rounded_of w l b =
-    let long : 54 < size w = lt_of_not_le_lem λ (g : size w ≤ 54). not_le_of_lt_lem (lt_of_lt_of_le (size-lt w) (pow_mono g)) l in
+    let long : 54 < size w = lt_of_not-le λ (g : size w ≤ 54). not-le_of_lt (lt_of_lt_of_le (size-lt w) (pow_mono g)) l in
     let k = size w - 55 in
     rounded w k
     (subst (λ (z : ℕ). w < 2 ^ z) (omega arith) (size-lt w))
@@ -149,7 +149,7 @@ root_of-nearest x t p =
     let pos : 0 < num x = value_pos x (num x) (den x) p (den_pos x) (own_value x p) in
     let r = rooted-sized x s pos in
     let o = r.doubling in
-    let large : 2 ^ 1074 ≤ number x s = mul-le-mul_right {m = 1} (2 ^ 1074) (first_pos (s.digits * 2 ^ s.places) (2 ^ 1074) (number_pos x s pos)) in
+    let large : 2 ^ 1074 ≤ number x s = mul-le-mul_right {m = 1} (2 ^ 1074) (first_pos (s.digits * 2 ^ s.places) (2 ^ 1074) (number-pos x s pos)) in
     let y = round binary64 false r.w (2 ^ 1075) in
     let d = rounded_of r.w (w_large o.r (number x s) r.w large o.root o.twice) r.few in
     subst (λ (v : Float). NearestRoot x v) (sym r.is)

@@ -1,7 +1,7 @@
 -- A double's bit pattern from a whole number of powers of two: the bits of q * 2^k smallest values are k * 2^52 + q, also where q carries into the exponent's field and on into infinity.
 use Rattle.std.specs.Prelude.{◌≡◌, ◌⊎◌, Bool, not, ltb, Float}
 use Rattle.std.proofs.Math.Path.{refl, ap}
-use Rattle.std.proofs.Common.{sym, ◌∙◌, subst, inl, inr, eq-zero-or-pos, mul-one, one-mul, zero-add, add_comm, le_trans, le_of_eq, eq-or-lt_of_le, le_antisymm, lt_of_lt_of_le, lt_of_le_of_lt, lt_of_not_le_lem, not_le_of_lt_lem, add-mul, mul-le-mul_right, mul-div_cancel, div-one, le_of_mul_le_mul_right, arith, ltb→lt, nltb→le, pow-add, pow_pos, pow_mono, shl_lt}
+use Rattle.std.proofs.Common.{sym, ◌∙◌, subst, inl, inr, eq-zero-or-pos, mul-one, one-mul, zero-add, add_comm, le_trans, le_of_eq, eq-or-lt_of_le, le_antisymm, lt_of_lt_of_le, lt_of_le_of_lt, lt_of_not-le, not-le_of_lt, add-mul, mul-le-mul_right, mul-div_cancel, div-one, le_of_mul-le-mul_right, arith, ltb→lt, nltb→le, pow-add, pow_pos, pow_mono, shl_lt}
 use Prim.Native.Nat.{ℕ, zero, suc, ◌+◌, ◌-◌, ◌*◌, ◌/◌, ◌%◌, ◌^◌, ◌≤◌, ◌<◌}
 use Rattle.std.proofs.Math.Nat.{add_assoc, pow-succ'}
 use Rattle.std.proofs.Math.Bool.{true, false, cond}
@@ -44,15 +44,15 @@ pub record Stuck (w rest r : ℕ) : Type 0 where
 
 -- ---- the pattern of a value that is known by its size
 
-to_bits_of_value : (f : Format) (x : Float) (s : Bool) (a : ℕ) → HasValue x s a (2 ^ low f) → to_bits f x ≡ cond s (top f) 0 + (size a - prec f) * hid f + a / 2 ^ (size a - prec f)
+to_bits-of_value : (f : Format) (x : Float) (s : Bool) (a : ℕ) → HasValue x s a (2 ^ low f) → to_bits f x ≡ cond s (top f) 0 + (size a - prec f) * hid f + a / 2 ^ (size a - prec f)
 unfolding to_bits
-to_bits_of_value f (fin t m e) s a v =
+to_bits-of_value f (fin t m e) s a v =
     let n : m * up e * 2 ^ low f / down e ≡ a = ap (λ (z : ℕ). z / down e) v.1 ∙ mul-div_cancel a (down_pos e) in
     ap (λ (z : Bool). cond z (top f) 0 + (size (m * up e * 2 ^ low f / down e) - prec f) * hid f + m * up e * 2 ^ low f / down e / 2 ^ (size (m * up e * 2 ^ low f / down e) - prec f)) v.0
     ∙ ap (λ (z : ℕ). cond s (top f) 0 + (size z - prec f) * hid f + z / 2 ^ (size z - prec f)) n
 
 size_exact : (a n : ℕ) → 2 ^ a ≤ n → n < 2 ^ suc a → size n ≡ suc a
-size_exact a n lo hi = le_antisymm (size-le n (suc a) hi) (lt_of_not_le_lem (λ (g : size n ≤ a). not_le_of_lt_lem (lt_of_lt_of_le (size-lt n) (pow_mono g)) lo))
+size_exact a n lo hi = le_antisymm (size-le n (suc a) hi) (lt_of_not-le (λ (g : size n ≤ a). not-le_of_lt (lt_of_lt_of_le (size-lt n) (pow_mono g)) lo))
 
 -- ---- the digits and the field of q * 2^k
 
@@ -90,9 +90,9 @@ module _ (p q k : ℕ) (P : 2 ≤ p) where
       ∙ ap (λ (x : ℕ). (k + 1) * 2 ^ (p - 1) + x) (mul-div_cancel (2 ^ (p - 1)) (pow_pos (k + 1)))
       ∙ omega arith
 
-zero_emax : (f : Format) → 2 * emax f ≤ 0 → ⊥
-zero_emax binary32 h = omega arith
-zero_emax binary64 h = omega arith
+zero-emax : (f : Format) → 2 * emax f ≤ 0 → ⊥
+zero-emax binary32 h = omega arith
+zero-emax binary64 h = omega arith
 
 -- ---- the pattern is the sign and k * 2^52 + q
 
@@ -117,11 +117,11 @@ module _ (f : Format) (q k : ℕ) (most : q ≤ 2 ^ prec f) (full : (k ≡ 0) �
   infinite-field h = le_antisymm (go (ordered (2 * emax f) k) full) under
     where
       reach : prec f + k < low f + suc (emax f) → ⊥
-      reach g = not_le_of_lt_lem (lt_of_le_of_lt (le_trans (mul-le-mul_right (2 ^ k) most) (le_of_eq (sym (pow-add 2 (prec f) k)))) (pow-lt g)) h
+      reach g = not-le_of_lt (lt_of_le_of_lt (le_trans (mul-le-mul_right (2 ^ k) most) (le_of_eq (sym (pow-add 2 (prec f) k)))) (pow-lt g)) h
 
       last : k + 1 ≡ 2 * emax f → 2 ^ prec f ≤ q
       last e =
-          le_of_mul_le_mul_right
+          le_of_mul-le-mul_right
           (le_trans (le_of_eq (sym (pow-add 2 (prec f) k) ∙ ap (λ (z : ℕ). 2 ^ z) (omega (arith, two f)))) h)
           (pow_pos k)
 
@@ -129,7 +129,7 @@ module _ (f : Format) (q k : ℕ) (most : q ≤ 2 ^ prec f) (full : (k ≡ 0) �
       twice_hid = ap (λ (x : ℕ). 2 ^ x) (omega (arith, two f)) ∙ pow-succ' 2 (prec f - 1)
 
       some : (k ≡ 0) ⊎ (hid f ≤ q) → 2 * emax f ≤ k → hid f ≤ q
-      some (inl z) g = absurd (zero_emax f (omega arith))
+      some (inl z) g = absurd (zero-emax f (omega arith))
       some (inr l) g = l
 
       go : (2 * emax f ≤ k) ⊎ (k < 2 * emax f) → (k ≡ 0) ⊎ (hid f ≤ q) → ones f * hid f ≤ k * hid f + q
@@ -159,19 +159,19 @@ module _ (f : Format) (q k : ℕ) (most : q ≤ 2 ^ prec f) (full : (k ≡ 0) �
   unfolding to_bits
   inf_bits s = refl
 
-  units_to_bits : (s : Bool) → to_bits f (units f s q k) ≡ cond s (top f) 0 + (k * hid f + q)
+  units-to_bits : (s : Bool) → to_bits f (units f s q k) ≡ cond s (top f) 0 + (k * hid f + q)
   unfolding units
-  units_to_bits s = go (ltb (q * 2 ^ k) (2 ^ (low f + suc (emax f)))) (nltb→le (q * 2 ^ k) (2 ^ (low f + suc (emax f))))
+  units-to_bits s = go (ltb (q * 2 ^ k) (2 ^ (low f + suc (emax f)))) (nltb→le (q * 2 ^ k) (2 ^ (low f + suc (emax f))))
     where
       go : (b : Bool) → (T (not b) → 2 ^ (low f + suc (emax f)) ≤ q * 2 ^ k) → to_bits f (cond b (odd (suc (prec f)) s q k (low f)) (inf s)) ≡ cond s (top f) 0 + (k * hid f + q)
       go true h =
-          to_bits_of_value f (odd (suc (prec f)) s q k (low f)) s (q * 2 ^ k) (odd_sign (suc (prec f)) s q k (low f))
+          to_bits-of_value f (odd (suc (prec f)) s q k (low f)) s (q * 2 ^ k) (odd_sign (suc (prec f)) s q k (low f))
           ∙ add_assoc (cond s (top f) 0) ((size (q * 2 ^ k) - prec f) * hid f) (q * 2 ^ k / 2 ^ (size (q * 2 ^ k) - prec f))
           ∙ ap (λ (z : ℕ). cond s (top f) 0 + z) finite-field
       go false h = inf_bits s ∙ ap (λ (z : ℕ). cond s (top f) 0 + z) (infinite-field (h tt))
 
   pub units-bits : (s : Bool) → of_bits f (cond s (top f) 0 + (k * hid f + q)) ≡ units f s q k
-  units-bits s = ap (of_bits f) (sym (units_to_bits s)) ∙ of_bits-to_bits f (units f s q k) (units-fits s)
+  units-bits s = ap (of_bits f) (sym (units-to_bits s)) ∙ of_bits-to_bits f (units f s q k) (units-fits s)
 
 -- ---- in the words of the code
 

@@ -1,7 +1,7 @@
 -- Laws of the integer root: `integerRoot` is the whole part of the exact root, and there is one such number.
 -- Assumes nothing.
 use Rattle.std.specs.Prelude.{◌≡◌, Bool, true, false, not, cond, ℕ, zero, suc, ◌+◌, ◌*◌, ◌/◌, ◌^◌, ◌≤◌, ◌<◌, T, leb}
-use Rattle.std.proofs.Common.{mul_le_mul, lt_of_not_le_lem, mul-add, add-mul, mul-one, one-mul, mul_assoc, mul_left_comm, pow-suc, arith, leb→le}
+use Rattle.std.proofs.Common.{mul-le-mul, lt_of_not-le, mul-add, add-mul, mul-one, one-mul, mul_assoc, mul_left_comm, pow-suc, arith, leb→le}
 use Rattle.std.proofs.Math.Dec.{nleb→lt}
 use Rattle.rounded.specs.Root.{with_digit, integer_root}
 
@@ -50,8 +50,8 @@ integer_root-below (suc k) n = omega (arith, pow-suc 2 k, digit-below (integer_r
 
 -- A number whose square is above n is above the root.
 pub root-least : (r s n : ℕ) → IsRoot r n → n < s * s → r < s
-root-least r s n h l = lt_of_not_le_lem λ (g : s ≤ r). omega (arith, h.within, mul_le_mul g g)
+root-least r s n h l = lt_of_not-le λ (g : s ≤ r). omega (arith, h.within, mul-le-mul g g)
 
 -- A number whose square is at most n is at most the root.
 pub root-most : (r s n : ℕ) → IsRoot r n → s * s ≤ n → s < r + 1
-root-most r s n h l = lt_of_not_le_lem λ (g : r + 1 ≤ s). omega (arith, h.next, mul_le_mul g g)
+root-most r s n h l = lt_of_not-le λ (g : r + 1 ≤ s). omega (arith, h.next, mul-le-mul g g)

@@ -24,21 +24,21 @@ or_r : (a b : Bool) → T b → T (a || b)
 or_r true b t = tt
 or_r false b t = t
 
-zero_not_below : (s : Bool) (m : ℕ) (e : _) → m * up e ≡ 0 → T (le plus_zero (fin s m e))
+zero-not_below : (s : Bool) (m : ℕ) (e : _) → m * up e ≡ 0 → T (le plus_zero (fin s m e))
 unfolding le of_bits
-zero_not_below s m e z =
+zero-not_below s m e z =
     or_r (below false (0 * down e) s (m * up e * 1))
     (eqb (0 * down e) (m * up e * 1) && (beq false s || eqb (0 * down e) 0))
     (and_i (eqb (0 * down e) (m * up e * 1)) (beq false s || eqb (0 * down e) 0) (eq→eqb {a = 0 * down e} {b = m * up e * 1} (omega arith)) (or_r (beq false s) (eqb (0 * down e) 0) (eq→eqb (zero-mul (down e)))))
 
-pub zero_root : (x : Float) → num x ≡ 0 → root_of x ≡ x
+pub zero-root : (x : Float) → num x ≡ 0 → root_of x ≡ x
 unfolding root_of
-zero_root x z = ap (λ (b : Bool). cond b x (round binary64 false (doubled_root (num x) (den x)) (2 ^ 1075))) (eq-eqb (num x) 0 z)
+zero-root x z = ap (λ (b : Bool). cond b x (round binary64 false (doubled_root (num x) (den x)) (2 ^ 1075))) (eq-eqb (num x) 0 z)
 
 at_zero : (x : Float) → T (finite x) → num x ≡ 0 → NotBelow x
 at_zero nan f z = absurd f
 at_zero (inf s) f z = absurd f
-at_zero (fin s m e) f z = record { is_finite = tt; not_below_lem = zero_not_below s m e z }
+at_zero (fin s m e) f z = record { is_finite = tt; not_below_lem = zero-not_below s m e z }
 
 -- ---- a number above 0: its root lies between 0 and 2^600
 
@@ -72,7 +72,7 @@ root_bounds w b =
 
 pub root_of_bounds : (x : Float) → T (finite x) → NotBelow (root_of x)
 root_of_bounds x f = elim (eq-zero-or-pos (num x)) [
-  | inl z ↦ subst NotBelow (sym (zero_root x z)) (at_zero x f z)
+  | inl z ↦ subst NotBelow (sym (zero-root x z)) (at_zero x f z)
   | inr p ↦ subst NotBelow (sym (root_value_lem x p)) (root_bounds (doubled_root (num x) (den x)) (doubled_root-few (num x) (den x)))
 ]
 

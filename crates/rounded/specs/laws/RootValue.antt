@@ -92,8 +92,8 @@ number_is x s =
 pub number-below : (x : Float) (s : Sized x) → number x s < 4 ^ 1586
 number-below x s = mul-lt-mul_of_pos_right s.below (pow_pos 1074)
 
-pub number_pos : (x : Float) (s : Sized x) → 0 < num x → 0 < number x s
-number_pos x s p =
+pub number-pos : (x : Float) (s : Sized x) → 0 < num x → 0 < number x s
+number-pos x s p =
     first_pos (number x s) (den x) (subst (λ (z : ℕ). 0 < z) (number_is x s) (mul-pos p (pow_pos 2148)))
 
 pub rooted-sized : (x : Float) (s : Sized x) → 0 < num x → Rooted x (number x s)

@@ -1,7 +1,7 @@
 -- Round to odd: a fraction cut to a whole number so that a later rounding to nearest can't tell the two apart.
 -- `Odd X D w`: either X / D is w, or w is odd and less than 1 away from it. Then X / D and w lie on the same side of every even number, so that `round` gives the same for both once w has two digits more than the format keeps.
 use Rattle.std.specs.Prelude.{◌≡◌, refl, ◌⊎◌, Bool, true, false, not, T, leb}
-use Rattle.std.proofs.Common.{sym, ap, ◌∙◌, subst, inl, inr, mul-one, le_trans, eq-or-lt_of_le, mul-add, le_of_eq, lt_of_lt_of_le, lt_of_le_of_lt, lt_of_not_le_lem, not_le_of_lt_lem, le_of_suc_le_suc, not-suc-le-zero, one-mul, mul_comm, mul_assoc, mul_left_comm, add-mul, mul-pos, mul-le-mul_right, mul-lt-mul_of_pos_right, div-add-mod', mod-lt, le-div_iff_mul-le, div-lt_iff_lt-mul, arith, leb→le, pow-add, pow_pos, pow_mono}
+use Rattle.std.proofs.Common.{sym, ap, ◌∙◌, subst, inl, inr, mul-one, le_trans, eq-or-lt_of_le, mul-add, le_of_eq, lt_of_lt_of_le, lt_of_le_of_lt, lt_of_not-le, not-le_of_lt, le_of_suc-le-suc, not-suc-le-zero, one-mul, mul_comm, mul_assoc, mul_left_comm, add-mul, mul-pos, mul-le-mul_right, mul-lt-mul_of_pos_right, div-add-mod', mod-lt, le-div_iff_mul-le, div-lt_iff_lt-mul, arith, leb→le, pow-add, pow_pos, pow_mono}
 use Prim.Native.Nat.compare
 use Prim.Native.Nat.{Ordering}
 use Prim.Native.Nat.{ℕ, zero, suc, ◌+◌, ◌-◌, ◌*◌, ◌/◌, ◌%◌, ◌^◌, ◌≤◌, ◌<◌, compare}
@@ -59,12 +59,12 @@ even_eq {X} {D} {w} b (near o u l) h = absurd (no (2 * b) o h refl)
 compare_lt : (a b : ℕ) → a < b → compare a b ≡ Ordering.lt
 compare_lt a zero h = absurd (not-suc-le-zero h)
 compare_lt zero (suc b) h = compare.zero-suc b
-compare_lt (suc a) (suc b) h = compare.suc-suc a b ∙ compare_lt a b (le_of_suc_le_suc h)
+compare_lt (suc a) (suc b) h = compare.suc-suc a b ∙ compare_lt a b (le_of_suc-le-suc h)
 
 compare_gt : (a b : ℕ) → b < a → compare a b ≡ Ordering.gt
 compare_gt zero b h = absurd (not-suc-le-zero h)
 compare_gt (suc a) zero h = compare.suc-zero a
-compare_gt (suc a) (suc b) h = compare.suc-suc a b ∙ compare_gt a b (le_of_suc_le_suc h)
+compare_gt (suc a) (suc b) h = compare.suc-suc a b ∙ compare_gt a b (le_of_suc-le-suc h)
 
 compare_eq : (a : ℕ) → compare a a ≡ Ordering.eq
 compare_eq zero = compare.zero-zero
@@ -84,8 +84,8 @@ closest_down a b q r e h = closest_of a b q r e (omega arith) ∙ ap (nearest q)
 pub closest_up : (a b q r : ℕ) → a ≡ q * b + r → b < r * 2 → r < b → closest a b ≡ q + 1
 closest_up a b q r e h l = closest_of a b q r e l ∙ ap (nearest q) (compare_gt (r * 2) b h) ∙ omega arith
 
-pub closest_tie : (a b q r : ℕ) → a ≡ q * b + r → r * 2 ≡ b → 0 < b → closest a b ≡ q + q % 2
-closest_tie a b q r e h p = closest_of a b q r e (omega arith) ∙ ap (λ (z : ℕ). nearest q (compare z b)) h ∙ ap (nearest q) (compare_eq b)
+pub closest-tie : (a b q r : ℕ) → a ≡ q * b + r → r * 2 ≡ b → 0 < b → closest a b ≡ q + q % 2
+closest-tie a b q r e h p = closest_of a b q r e (omega arith) ∙ ap (λ (z : ℕ). nearest q (compare z b)) h ∙ ap (nearest q) (compare_eq b)
 
 -- ---- the nearest multiple of 4v is the same for X / D as for w
 
@@ -132,8 +132,8 @@ module _ (X D w v q r : ℕ) (D-pos : 0 < D) (v-pos : 0 < v) (o : Odd X D w) (e 
   closest_at (inr l) = elim (eq-or-lt_of_le l) [
     | inl t ↦
         let k : X ≡ 2 * (2 * (q * v) + v) * D = even_eq (2 * (q * v) + v) o (omega (arith, four)) in
-        closest_tie X (D * (4 * v)) q (X - q * (D * (4 * v))) split (omega (arith, start, wide, unit, half)) (omega (arith, unit, v_d))
-        ∙ sym (closest_tie w (4 * v) q r e (omega arith) (omega arith))
+        closest-tie X (D * (4 * v)) q (X - q * (D * (4 * v))) split (omega (arith, start, wide, unit, half)) (omega (arith, unit, v_d))
+        ∙ sym (closest-tie w (4 * v) q r e (omega arith) (omega arith))
     | inr g ↦
         let k : 2 * (2 * (q * v) + v) * D < X = even_gt (2 * (q * v) + v) D-pos o (omega (arith, four)) in
         let m : X < 2 * (2 * (q * v) + 2 * v) * D = even_lt (2 * (q * v) + 2 * v) D-pos o (omega (arith, four)) in
@@ -141,12 +141,12 @@ module _ (X D w v q r : ℕ) (D-pos : 0 < D) (v-pos : 0 < v) (o : Odd X D w) (e 
         ∙ sym (closest_up w (4 * v) q r e (omega arith) h)
   ]
 
-four_pos : (v : ℕ) → 0 < v → 0 < 4 * v
-four_pos v h = omega arith
+four-pos : (v : ℕ) → 0 < v → 0 < 4 * v
+four-pos v h = omega arith
 
-pub closest_odd : (X D w v : ℕ) → 0 < D → 0 < v → Odd X D w → closest X (D * (4 * v)) ≡ closest w (4 * v)
-closest_odd X D w v D-pos v-pos o =
-    closest_at X D w v (w / (4 * v)) (w % (4 * v)) D-pos v-pos o (sym (div-add-mod' w (4 * v))) (mod-lt w (four_pos v v-pos)) (flip (w % (4 * v)) (ordered (2 * v) (w % (4 * v))))
+pub closest-odd : (X D w v : ℕ) → 0 < D → 0 < v → Odd X D w → closest X (D * (4 * v)) ≡ closest w (4 * v)
+closest-odd X D w v D-pos v-pos o =
+    closest_at X D w v (w / (4 * v)) (w % (4 * v)) D-pos v-pos o (sym (div-add-mod' w (4 * v))) (mod-lt w (four-pos v v-pos)) (flip (w % (4 * v)) (ordered (2 * v) (w % (4 * v))))
   where
     flip : (r : ℕ) → (2 * v ≤ r) ⊎ (r < 2 * v) → (r < 2 * v) ⊎ (2 * v ≤ r)
     flip r (inl a) = inr a
@@ -159,7 +159,7 @@ size_is p k z t h (inl e) = omega arith
 size_is p k z t h (inr l) = omega arith
 
 size_gt : (n j : ℕ) → 2 ^ j ≤ n → j < size n
-size_gt n j h = lt_of_not_le_lem (λ (g : size n ≤ j). not_le_of_lt_lem (lt_of_lt_of_le (size-lt n) (pow_mono g)) h)
+size_gt n j h = lt_of_not-le (λ (g : size n ≤ j). not-le_of_lt (lt_of_lt_of_le (size-lt n) (pow_mono g)) h)
 
 round_at_lem : (f : Format) (s : Bool) (num den k : ℕ) → 0 < den → num * 2 ^ low f < 2 ^ (prec f + k) * den
     → (k ≡ 0) ⊎ (2 ^ (prec f - 1 + k) * den ≤ num * 2 ^ low f) → round f s num den ≡ units f s (closest (num * 2 ^ low f) (den * 2 ^ k)) k
@@ -238,7 +238,7 @@ module _ (f : Format) (s : Bool) (X D w e B k i : ℕ) (D-pos : 0 < D) (o : Odd 
   under a g = subst (λ (z : ℕ). z * D ≤ X) (sym (twice a i)) (even_le (2 * 2 ^ (a + i)) o (subst (λ (z : ℕ). z ≤ w) (twice a i) g))
 
   same_closest : closest X (D * 2 ^ (2 + i)) ≡ closest w (2 ^ (2 + i))
-  same_closest = subst (λ (z : ℕ). closest X (D * z) ≡ closest w z) (sym (quad i)) (closest_odd X D w (2 ^ i) D-pos (pow_pos i) o)
+  same_closest = subst (λ (z : ℕ). closest X (D * z) ≡ closest w z) (sym (quad i)) (closest-odd X D w (2 ^ i) D-pos (pow_pos i) o)
 
   round-near : round f s (X * 2 ^ e) (D * 2 ^ B) ≡ round f s (w * 2 ^ e) (2 ^ B)
   round-near =

@@ -1,7 +1,7 @@
 -- A finite double as a whole number of the smallest double: at most 53 binary digits, and zeros after them.
 -- Assumes nothing.
 use Rattle.std.specs.Prelude.{◌≡◌, ◌&&◌, ℕ, zero, suc, ◌+◌, ◌-◌, ◌*◌, ◌%◌, ◌^◌, ◌≤◌, ◌<◌, T, eqb, ltb, leb, ℤ, pos, negsuc, Float}
-use Rattle.std.proofs.Common.{sym, ap, ◌∙◌, subst, lt_irrefl, le_of_suc_le_suc, lt_of_not_le_lem, lt_of_lt_of_le, zero-mul, one-mul, mul-one, mul_assoc, mul_right_comm, mul-lt-mul_of_pos_right, lt_of_mul_lt_mul_right, arith, ltb→lt, leb→le, pow-add, pow_pos}
+use Rattle.std.proofs.Common.{sym, ap, ◌∙◌, subst, lt_irrefl, le_of_suc-le-suc, lt_of_not-le, lt_of_lt_of_le, zero-mul, one-mul, mul-one, mul_assoc, mul_right_comm, mul-lt-mul_of_pos_right, lt_of_mul-lt-mul_right, arith, ltb→lt, leb→le, pow-add, pow_pos}
 use Rattle.std.proofs.Math.Pow.{pow-lt}
 use Rattle.std.specs.Float.{nan, inf, fin, binary64}
 use Rattle.std.specs.Float.Ieee.{up, down, fits}
@@ -17,7 +17,7 @@ pub record Sized (x : Float) : Type 0 where
   pub value : num x * 2 ^ 1074 ≡ digits * 2 ^ places * den x
 
 pow_back : (a l : ℕ) → 2 ^ a ≤ 2 ^ l → a ≤ l
-pow_back a l h = le_of_suc_le_suc (lt_of_not_le_lem (λ (g : suc l ≤ a). lt_irrefl (2 ^ l) (lt_of_lt_of_le (pow-lt g) h)))
+pow_back a l h = le_of_suc-le-suc (lt_of_not-le (λ (g : suc l ≤ a). lt_irrefl (2 ^ l) (lt_of_lt_of_le (pow-lt g) h)))
 
 -- 2^e, counted in units of 2^−1074
 counted : (e : ℤ) → down e ≤ 2 ^ 1074 → (j : ℕ) × (up e * 2 ^ 1074 ≡ 2 ^ j * down e)
@@ -38,7 +38,7 @@ module _ (m : ℕ) (e : ℤ) (small : m < 2 ^ 53) (fine : down e ≤ 2 ^ 1074) (
 
   below_of : m * 2 ^ (counted e fine).0 < 2 ^ 1024 * 2 ^ 1074
   below_of =
-      lt_of_mul_lt_mul_right (down e)
+      lt_of_mul-lt-mul_right (down e)
       (subst (λ (z : ℕ). z < 2 ^ 1024 * 2 ^ 1074 * down e) value_of_lem
       (subst (λ (z : ℕ). m * up e * 2 ^ 1074 < z) (mul_right_comm (2 ^ 1024) (down e) (2 ^ 1074))
       (mul-lt-mul_of_pos_right under (pow_pos 1074))))

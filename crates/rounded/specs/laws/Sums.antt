@@ -1,6 +1,6 @@
 -- `roundedSum`, by the signs and the order of its two parts: equal fractions give equal sums, the two parts may change places, and the smaller part may be rounded to odd.
 use Rattle.std.specs.Prelude.{◌≡◌, refl, ◌⊎◌, ℕ, ◌+◌, ◌-◌, ◌*◌, ◌/◌, ◌%◌, ◌^◌, ◌≤◌, ◌<◌, Bool, true, false, not, ◌&&◌, cond, ltb, eqb}
-use Rattle.std.proofs.Common.{sym, ap, ◌∙◌, subst, inl, inr, add-zero, le_of_eq, le_of_lt, lt_of_lt_of_le, lt_of_le_of_lt, lt_irrefl, eq-or-lt_of_le, lt_of_mul_lt_mul_right, mul-lt-mul_of_pos_right, mul-pos, add_comm, add-mul, mul_comm, mul_assoc, mul_left_comm, zero-mul, eq-zero-or-pos, arith, eqb→eq, lt→ltb, pow-add, pow_pos}
+use Rattle.std.proofs.Common.{sym, ap, ◌∙◌, subst, inl, inr, add-zero, le_of_eq, le_of_lt, lt_of_lt_of_le, lt_of_le_of_lt, lt_irrefl, eq-or-lt_of_le, lt_of_mul-lt-mul_right, mul-lt-mul_of_pos_right, mul-pos, add_comm, add-mul, mul_comm, mul_assoc, mul_left_comm, zero-mul, eq-zero-or-pos, arith, eqb→eq, lt→ltb, pow-add, pow_pos}
 use Rattle.std.proofs.Math.Nat.{sub-zero, eq_of_mul-eq-mul_right, mul-sub}
 use Rattle.std.proofs.Math.Dec.{not_T}
 use Rattle.std.proofs.Math.Arith.{le→nltb}
@@ -36,10 +36,10 @@ unfolding sum
 sum_alike true p q d = refl
 sum_alike false p q d = refl
 
-sum_unlike : (s : Bool) (p q d : ℕ) → sum binary64 s p (not s) q d ≡ cond (ltb p q) (round binary64 (not s) (q - p) d) (round binary64 (s && ltb q p) (p - q) d)
+sum-unlike : (s : Bool) (p q d : ℕ) → sum binary64 s p (not s) q d ≡ cond (ltb p q) (round binary64 (not s) (q - p) d) (round binary64 (s && ltb q p) (p - q) d)
 unfolding sum
-sum_unlike true p q d = refl
-sum_unlike false p q d = refl
+sum-unlike true p q d = refl
+sum-unlike false p q d = refl
 
 some : (p q : ℕ) → p < q → 0 < p + q
 some p q h = omega arith
@@ -48,7 +48,7 @@ pub alike : (s : Bool) (p q d : ℕ) → 0 < p + q → rounded_sum s p s q d ≡
 alike s p q d h = open_sum s s p q d h ∙ sum_alike s p q d
 
 pub lower : (s : Bool) (p q d : ℕ) → p < q → rounded_sum s p (not s) q d ≡ round binary64 (not s) (q - p) d
-lower s p q d h = open_sum s (not s) p q d (some p q h) ∙ sum_unlike s p q d ∙ ap (λ (b : Bool). cond b (round binary64 (not s) (q - p) d) (round binary64 (s && ltb q p) (p - q) d)) (yes_less p q h)
+lower s p q d h = open_sum s (not s) p q d (some p q h) ∙ sum-unlike s p q d ∙ ap (λ (b : Bool). cond b (round binary64 (not s) (q - p) d) (round binary64 (s && ltb q p) (p - q) d)) (yes_less p q h)
 
 and_true : (s : Bool) → (s && true) ≡ s
 and_true true = refl
@@ -59,7 +59,7 @@ and_false true = refl
 and_false false = refl
 
 not_lower : (s : Bool) (p q d : ℕ) → 0 < p + q → q ≤ p → rounded_sum s p (not s) q d ≡ round binary64 (s && ltb q p) (p - q) d
-not_lower s p q d g h = open_sum s (not s) p q d g ∙ sum_unlike s p q d ∙ ap (λ (b : Bool). cond b (round binary64 (not s) (q - p) d) (round binary64 (s && ltb q p) (p - q) d)) (no_less p q h)
+not_lower s p q d g h = open_sum s (not s) p q d g ∙ sum-unlike s p q d ∙ ap (λ (b : Bool). cond b (round binary64 (not s) (q - p) d) (round binary64 (s && ltb q p) (p - q) d)) (no_less p q h)
 
 pub higher : (s : Bool) (p q d : ℕ) → q < p → rounded_sum s p (not s) q d ≡ round binary64 s (p - q) d
 higher s p q d h = not_lower s p q d (subst (λ (z : ℕ). 0 < z) (add_comm q p) (some q p h)) (le_of_lt h) ∙ ap (λ (b : Bool). round binary64 b (p - q) d) (ap (λ (b : Bool). s && b) (yes_less q p h) ∙ and_true s)
@@ -68,8 +68,8 @@ zero_at_one : round binary64 false 0 1 ≡ plus_zero
 unfolding round of_bits
 zero_at_one = refl
 
-round_zero : (d : ℕ) → 0 < d → round binary64 false 0 d ≡ plus_zero
-round_zero d h = round_same binary64 false 0 d 0 1 h (pow_pos 0) (sym (zero-mul d)) ∙ zero_at_one
+round-zero : (d : ℕ) → 0 < d → round binary64 false 0 d ≡ plus_zero
+round-zero d h = round_same binary64 false 0 d 0 1 h (pow_pos 0) (sym (zero-mul d)) ∙ zero_at_one
 
 pub level : (s : Bool) (p q d : ℕ) → 0 < d → p ≡ q → rounded_sum s p (not s) q d ≡ plus_zero
 level s p q d D e = go (eq-zero-or-pos (p + q))
@@ -80,7 +80,7 @@ level s p q d D e = go (eq-zero-or-pos (p + q))
         not_lower s p q d h (le_of_eq (sym e))
         ∙ ap (λ (b : Bool). round binary64 b (p - q) d) (ap (λ (b : Bool). s && b) (no_less q p (le_of_eq e)) ∙ and_false s)
         ∙ ap (λ (z : ℕ). round binary64 false z d) (omega arith)
-        ∙ round_zero d D
+        ∙ round-zero d D
 
 pub signs : (s t : Bool) → (t ≡ s) ⊎ (t ≡ not s)
 signs true true = inl refl
@@ -102,7 +102,7 @@ module _ (p q d p' q' d' : ℕ) (D : 0 < d) (D' : 0 < d') (e : p * d' ≡ p' * d
       ∙ sym (mul-sub d p' q') ∙ mul_comm d (p' - q')
 
   less_too : p < q → p' < q'
-  less_too h = lt_of_mul_lt_mul_right d (lt_of_le_of_lt (le_of_eq (sym e)) (lt_of_lt_of_le (mul-lt-mul_of_pos_right h D') (le_of_eq f)))
+  less_too h = lt_of_mul-lt-mul_right d (lt_of_le_of_lt (le_of_eq (sym e)) (lt_of_lt_of_le (mul-lt-mul_of_pos_right h D') (le_of_eq f)))
 
   level_too : p ≡ q → p' ≡ q'
   level_too h = eq_of_mul-eq-mul_right d D p' q' (sym e ∙ ap (λ (z : ℕ). z * d') h ∙ f)
@@ -111,7 +111,7 @@ module _ (p q d p' q' d' : ℕ) (D : 0 < d) (D' : 0 < d') (e : p * d' ≡ p' * d
   none_too h = eq_of_mul-eq-mul_right d D (p' + q') 0 (sym sums ∙ ap (λ (z : ℕ). z * d') h ∙ zero-mul d' ∙ sym (zero-mul d))
 
   some_too : 0 < p + q → 0 < p' + q'
-  some_too h = lt_of_mul_lt_mul_right d (lt_of_le_of_lt (le_of_eq (zero-mul d)) (lt_of_lt_of_le (mul-pos h D') (le_of_eq sums)))
+  some_too h = lt_of_mul-lt-mul_right d (lt_of_le_of_lt (le_of_eq (zero-mul d)) (lt_of_lt_of_le (mul-pos h D') (le_of_eq sums)))
 
 pub rounded_sum_same : (s t : Bool) (p q d p' q' d' : ℕ) → 0 < d → 0 < d' → p * d' ≡ p' * d → q * d' ≡ q' * d → rounded_sum s p t q d ≡ rounded_sum s p' t q' d'
 rounded_sum_same s t p q d p' q' d' D D' e f = go (signs s t)
@@ -198,11 +198,11 @@ odd-plus {X} {D} {w} a (near o u l) =
     let m : (2 * a + w) * D ≡ 2 * a * D + w * D = add-mul (2 * a) w D in
     near {X = 2 * a * D + X} {D = D} {w = 2 * a + w} (omega arith) (omega arith) (omega arith)
 
-pub minus_mul : (b c d : ℕ) → (b - c) * d ≡ b * d - c * d
-minus_mul b c d = mul_comm (b - c) d ∙ mul-sub d b c ∙ ap (λ (z : ℕ). z - d * c) (mul_comm d b) ∙ ap (λ (z : ℕ). b * d - z) (mul_comm d c)
+pub minus-mul : (b c d : ℕ) → (b - c) * d ≡ b * d - c * d
+minus-mul b c d = mul_comm (b - c) d ∙ mul-sub d b c ∙ ap (λ (z : ℕ). z - d * c) (mul_comm d b) ∙ ap (λ (z : ℕ). b * d - z) (mul_comm d c)
 
 pub odd-minus : {X D w : ℕ} (a : ℕ) → w < 2 * a → Odd X D w → Odd (2 * a * D - X) D (2 * a - w)
-odd-minus {X} {D} {w} a h (exact e) = exact (ap (λ (z : ℕ). 2 * a * D - z) e ∙ sym (minus_mul (2 * a) w D))
+odd-minus {X} {D} {w} a h (exact e) = exact (ap (λ (z : ℕ). 2 * a * D - z) e ∙ sym (minus-mul (2 * a) w D))
 odd-minus {X} {D} {w} a h (near o u l) =
     let k : 2 * a - w + w ≡ 2 * a = omega arith in
     let m : (2 * a - w) * D + w * D ≡ 2 * a * D = sym (add-mul (2 * a - w) w D) ∙ ap (λ (z : ℕ). z * D) k in
@@ -232,9 +232,9 @@ module _ (s t : Bool) (a X D w e B : ℕ) (D-pos : 0 < D) (o : Odd X D w) where
   near-sum h (inr z) =
       subst (λ (t : Bool). rounded_sum s (2 * a * D * 2 ^ e) t (X * 2 ^ e) (D * 2 ^ B) ≡ rounded_sum s (2 * a * 2 ^ e) t (w * 2 ^ e) (2 ^ B)) (sym z)
       (higher s (2 * a * D * 2 ^ e) (X * 2 ^ e) (D * 2 ^ B) (mul-lt-mul_of_pos_right (even_lt a D-pos o (omega arith)) (pow_pos e))
-      ∙ ap (λ (z : ℕ). round binary64 s z (D * 2 ^ B)) (sym (minus_mul (2 * a * D) X (2 ^ e)))
+      ∙ ap (λ (z : ℕ). round binary64 s z (D * 2 ^ B)) (sym (minus-mul (2 * a * D) X (2 ^ e)))
       ∙ round-odd binary64 s (2 * a * D - X) D (2 * a - w) e B D-pos (odd-minus a (omega arith) o) (inr (omega arith))
-      ∙ ap (λ (z : ℕ). round binary64 s z (2 ^ B)) (minus_mul (2 * a) w (2 ^ e))
+      ∙ ap (λ (z : ℕ). round binary64 s z (2 ^ B)) (minus-mul (2 * a) w (2 ^ e))
       ∙ sym (higher s (2 * a * 2 ^ e) (w * 2 ^ e) (2 ^ B) (mul-lt-mul_of_pos_right (omega arith) (pow_pos e))))
 
   pub rounded_sum-odd : (X ≡ w * D) ⊎ (w + 18014398509481984 ≤ 2 * a) → rounded_sum s (2 * a * D * 2 ^ e) t (X * 2 ^ e) (D * 2 ^ B) ≡ rounded_sum s (2 * a * 2 ^ e) t (w * 2 ^ e) (2 ^ B)

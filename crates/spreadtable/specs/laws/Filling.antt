@@ -1,6 +1,6 @@
 -- A row that is filled cell by cell, and a page row by row: what is left to write gives the whole. Assumes nothing.
 use Rattle.std.specs.Prelude.{ℕ, zero, suc, ◌+◌, ◌-◌, ◌*◌, ◌≤◌, ◌<◌, ◌≡◌, refl, length, get_or, drop, Float}
-use Rattle.std.proofs.Common.{sym, ◌∙◌, add-one, arith, length-append, drop_of_length-le, drop_cons}
+use Rattle.std.proofs.Common.{sym, ◌∙◌, add-one, arith, length-append, drop_of_length-le, drop-cons}
 use Rattle.std.proofs.Math.Path.{ap, subst}
 use mathlib.Core.List.{List, [], ◌∷◌, ◌++◌}
 use Rattle.std.specs.Float.Ieee.{nan}
@@ -31,7 +31,7 @@ module _ (cell : Float → List ℕ) (spreads : List Float) (start : Written) wh
               ∙ twice row text (row_text cell (drop (i + 1) spreads))
               ∙ ap (λ (z : List ℕ). appended row (z ++ row_text cell (drop (i + 1) spreads))) e
               ∙ ap (λ (j : ℕ). appended row (cell (get_or spreads i nan) ++ row_text cell (drop j spreads))) (add-one i)
-              ∙ ap (λ (z : List Float). appended row (row_text cell z)) (sym (drop_cons spreads i nan h))
+              ∙ ap (λ (z : List Float). appended row (row_text cell z)) (sym (drop-cons spreads i nan h))
               ∙ p.rest;
         }
 

@@ -1,7 +1,7 @@
 -- A page that is filled row by row. Assumes nothing.
 use Rattle.std.specs.Prelude.{ℕ, zero, suc, ◌+◌, ◌-◌, ◌*◌, ◌≤◌, ◌<◌, ◌≡◌, refl, Bool, true, false, ◌||◌, ltb, get_or, drop, replicate, ℤ, pos, Float}
 use Rattle.std.proofs.Math.Path.{sym, ap, subst}
-use Rattle.std.proofs.Common.{◌∙◌, add-zero, add_comm, zero-mul, suc-mul, add-one, arith, ltb-false, length-append, drop_of_length-le, drop_cons}
+use Rattle.std.proofs.Common.{◌∙◌, add-zero, add_comm, zero-mul, suc-mul, add-one, arith, ltb-false, length-append, drop_of_length-le, drop-cons}
 use Rattle.std.proofs.Math.Bool.{cond}
 use Rattle.std.proofs.lemmas.Bool.{false≢true}
 use mathlib.Core.List.{List, [], ◌∷◌, ◌++◌}
@@ -54,7 +54,7 @@ module _ (cell : Float → Float → List ℕ) (spreads shifts : List Float) whe
               ap (λ (w : Written). appended w (page_text cell spreads (drop (i + 1) shifts))) n
               ∙ twice rows (row_text (cell (get_or shifts i nan)) spreads) (page_text cell spreads (drop (i + 1) shifts))
               ∙ ap (λ (j : ℕ). appended rows (row_text (cell (get_or shifts i nan)) spreads ++ page_text cell spreads (drop j shifts))) (add-one i)
-              ∙ ap (λ (z : List Float). appended rows (page_text cell spreads z)) (sym (drop_cons shifts i nan h))
+              ∙ ap (λ (z : List Float). appended rows (page_text cell spreads z)) (sym (drop-cons shifts i nan h))
               ∙ p.rest;
         }
 

@@ -9,7 +9,7 @@ use Rattle.terms.specs.Terms.{CallSchedule, Market}
 use Rattle.lattice.specs.Layers.{Room}
 use Rattle.treebasedbondpricer.specs.declared.TreeValue.{TreeValue}
 use Rattle.treebasedbondpricer.specs.declared.TreeValue.TheVariants.{Value, Refused}
-use Rattle.closingsheet.specs.laws.Columns.{byte_length, whole_length, cell_length}
+use Rattle.closingsheet.specs.laws.Columns.{byte-length, whole_length, cell-length}
 use Rattle.spreadtable.specs.Cells.{hash_cell, cell_text}
 use Rattle.spreadtable.specs.Page.{row_text}
 use Rattle.spreadtable.specs.Table.{cell_at}
@@ -19,14 +19,14 @@ unfolding hash_cell
 hash_wide n = length-take-le 16 (byte_left (whole_left (before blank_line 16) n) 35).line (omega (arith, long))
   where
     long : length (byte_left (whole_left (before blank_line 16) n) 35).line ≡ 80
-    long = byte_length (whole_left (before blank_line 16) n) 35 ∙ whole_length blank_line 16 n ∙ length-replicate {A = ℕ} 80 32
+    long = byte-length (whole_left (before blank_line 16) n) 35 ∙ whole_length blank_line 16 n ∙ length-replicate {A = ℕ} 80 32
 
 either-wide : (b : Bool) (xs ys : List ℕ) → length xs ≡ 16 → length ys ≡ 16 → length (cond b xs ys) ≡ 16
 either-wide true xs ys e f = e
 either-wide false xs ys e f = f
 
 -- What a cell is made of.
-ruleset widths = (either-wide, hash_wide, cell_length)
+ruleset widths = (either-wide, hash_wide, cell-length)
 
 pub text-wide : (v : TreeValue) → length (cell_text v) ≡ 16
 unfolding cell_text

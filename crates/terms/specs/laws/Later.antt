@@ -8,7 +8,7 @@ use Rattle.std.specs.Float.Ieee.Exact.{HasValue}
 use Rattle.std.specs.Float.Ieee.Back.{round_whole}
 use Rattle.std.specs.Float.Ieee.Order.{round_mono}
 use Rattle.floats.specs.Answers.{plus_zero}
-use Rattle.floats.specs.laws.Arithmetic.{sub_mono, sub_mono_left, div_mono_left}
+use Rattle.floats.specs.laws.Arithmetic.{sub-mono, sub_mono_left, div_mono_left}
 use Rattle.floats.specs.laws.Order.{between}
 use Rattle.calendar.specs.Calendar.{thirties}
 use Rattle.calendar.specs.laws.Thirties.{later-no_less, thirties-few}
@@ -58,13 +58,13 @@ year-above code = go (eqb code 0)
     go false = (tt, tt)
 
 -- A difference of two counts is finite.
-sub_finite : (a b : ℕ) → a ≤ 882000 → b ≤ 882000 → T (finite (sub binary64 (float a) (float b)))
+sub-finite : (a b : ℕ) → a ≤ 882000 → b ≤ 882000 → T (finite (sub binary64 (float a) (float b)))
 unfolding of_int sub
-sub_finite a b h k =
+sub-finite a b h k =
     let top : ℕ = 882000 in
     between (sub binary64 (float 0) (float top)) (sub binary64 (float a) (float b)) (sub binary64 (float top) (float 0)) tt tt
-    (sub_mono binary64 (float 0) (float a) (float top) (float b) tt (float-finite a h) tt (float-finite b k) (float-no_less 0 a (omega arith)) (float-no_less b top k))
-    (sub_mono binary64 (float a) (float top) (float b) (float 0) (float-finite a h) tt (float-finite b k) tt (float-no_less a top h) (float-no_less 0 b (omega arith)))
+    (sub-mono binary64 (float 0) (float a) (float top) (float b) tt (float-finite a h) tt (float-finite b k) (float-no_less 0 a (omega arith)) (float-no_less b top k))
+    (sub-mono binary64 (float a) (float top) (float b) (float 0) (float-finite a h) tt (float-finite b k) tt (float-no_less a top h) (float-no_less 0 b (omega arith)))
 
 -- For every code, a later day never has a smaller time.
 pub later_no_smaller : (s : Settlement) (day later : ℕ) → s.day ≤ 200000 → later ≤ 200000 → day ≤ later → T (le (year_fraction s day) (year_fraction s later))
@@ -79,5 +79,5 @@ later_no_smaller s day later k l h =
     let q = count-few c later l in
     let y = year-above c in
     div_mono_left binary64 (sub binary64 (float a) (float from)) (sub binary64 (float b) (float from)) (float (year_of c))
-    (sub_finite a from p f) (sub_finite b from q f) y.0 y.1
+    (sub-finite a from p f) (sub-finite b from q f) y.0 y.1
     (sub_mono_left binary64 (float a) (float b) (float from) (float-finite a p) (float-finite b q) (float-finite from f) (float-no_less a b (count-no_less c day later h)))

@@ -5,9 +5,9 @@ use Rattle.std.specs.Float.Ieee.Scale.{finite}
 use Rattle.floats.specs.Answers.{plus_zero}
 use Rattle.terms.specs.Numbers.{float, amount_limit, million, target_limit}
 
-pub zero_finite : T (finite plus_zero)
+pub zero-finite : T (finite plus_zero)
 unfolding of_bits
-zero_finite = tt
+zero-finite = tt
 
 pub amount_limit-finite : T (finite amount_limit)
 unfolding of_bits

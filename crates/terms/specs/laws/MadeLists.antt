@@ -14,7 +14,7 @@ use Rattle.terms.specs.Entries.{grid_checks, tree_checks}
 use Rattle.terms.specs.CallLists.{size, strike_of, MadeFrom, Reordered}
 use Rattle.terms.specs.laws.Searching.{Somewhere, somewhere}
 use Rattle.terms.specs.laws.Pairing.{made-size}
-use Rattle.terms.specs.laws.Limits.{zero_finite, million-finite}
+use Rattle.terms.specs.laws.Limits.{zero-finite, million-finite}
 use Rattle.terms.specs.laws.Ranges.{Above}
 use Rattle.terms.specs.laws.CallChecks.{call-counted, call-count_of, call_days-passed, call-days_of, strikes-passed, strikes_of, strike-refused, call_order-passed, call_order_of}
 use Rattle.terms.specs.laws.Groups.{CallsPassed}
@@ -85,7 +85,7 @@ module _ (first second : CallSchedule) (made : MadeFrom first second) where
         let l : i < size second = let e = made.entries.strikes_too in omega arith in
         let positive = made-above_zero i l in
         record {
-          is_finite = between plus_zero (strike_of second i) million zero_finite million-finite (le_of_lt plus_zero (strike_of second i) positive) (h i l);
+          is_finite = between plus_zero (strike_of second i) million zero-finite million-finite (le_of_lt plus_zero (strike_of second i) positive) (h i l);
           above_zero = positive;
           at_most = h i l;
         })

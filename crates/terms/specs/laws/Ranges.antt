@@ -8,7 +8,7 @@ use Rattle.std.specs.Float.Ieee.Fits.{eq→eqb}
 use Rattle.floats.specs.Answers.{plus_zero, not_finite}
 use Rattle.floats.specs.laws.Order.{number, number_of-finite, number_of_le, le_refl, neg_anti, le_of_not_lt, lt_of_not_le, not_le_of_lt}
 use Rattle.terms.specs.Checks.{outside, beyond, not_above, not_up_to}
-use Rattle.terms.specs.laws.Limits.{zero_finite}
+use Rattle.terms.specs.laws.Limits.{zero-finite}
 
 -- ---- tests joined by or, and, not
 
@@ -107,7 +107,7 @@ module _ (limit x : Float) where
   above_of n h =
       record {
         is_finite = finite_of (le x plus_zero || lt limit x) h;
-        above_zero = lt_of_not_le plus_zero x (number_of-finite plus_zero zero_finite) (number-of (le x plus_zero || lt limit x) h)
+        above_zero = lt_of_not_le plus_zero x (number_of-finite plus_zero zero-finite) (number-of (le x plus_zero || lt limit x) h)
             (not_or_l (le x plus_zero) (lt limit x) (not_or_r (not_finite x) (le x plus_zero || lt limit x) h));
         at_most = at_most_of n (le x plus_zero) h;
       }
@@ -116,7 +116,7 @@ module _ (limit x : Float) where
   up_to_of n h =
       record {
         is_finite = finite_of (lt x plus_zero || lt limit x) h;
-        from_zero = le_of_not_lt x plus_zero (number-of (lt x plus_zero || lt limit x) h) (number_of-finite plus_zero zero_finite)
+        from_zero = le_of_not_lt x plus_zero (number-of (lt x plus_zero || lt limit x) h) (number_of-finite plus_zero zero-finite)
             (not_or_l (lt x plus_zero) (lt limit x) (not_or_r (not_finite x) (lt x plus_zero || lt limit x) h));
         at_most = at_most_of n (lt x plus_zero) h;
       }

@@ -1,6 +1,6 @@
 -- A test on indices holds somewhere below a count, or nowhere below it; an index is below a count, or not. Assumes nothing.
 use Rattle.std.specs.Prelude.{◌⊎◌, Bool, not, ℕ, zero, suc, ◌<◌, ◌≤◌, T, ltb}
-use Rattle.std.proofs.Common.{inl, inr, eq-or-lt_of_le, le_of_suc_le_suc, arith, ltb→lt, nltb→le}
+use Rattle.std.proofs.Common.{inl, inr, eq-or-lt_of_le, le_of_suc-le-suc, arith, ltb→lt, nltb→le}
 use Rattle.floats.specs.laws.Fractions.{decide}
 
 -- An index below the count at which the test holds.
@@ -15,7 +15,7 @@ Nowhere test count = (i : ℕ) → i < count → T (not (test i))
 
 nowhere_more : (test : ℕ → Bool) (count : ℕ) → Nowhere test count → T (not (test count)) → Nowhere test (suc count)
 nowhere_more test count below here i h =
-    elim (eq-or-lt_of_le (le_of_suc_le_suc h)) [
+    elim (eq-or-lt_of_le (le_of_suc-le-suc h)) [
       | inl e ↦ rw e here
       | inr l ↦ below i l
     ]

@@ -19,7 +19,7 @@ use Rattle.backwardinduction.specs.Walk.{walk_from}
 use Rattle.treebasedbondpricer.specs.Tree.{fitted_tree_over, lattice_value_over}
 use Rattle.lattice.specs.laws.Proper.{Proper}
 use Rattle.treebasedbondpricer.specs.laws.Counts.{ready_of_fitted}
-use Rattle.backwardinduction.specs.laws.Rising.{Higher, higher_refl, Rows, at_node}
+use Rattle.backwardinduction.specs.laws.Rising.{Higher, higher-refl, Rows, at_node}
 use Rattle.backwardinduction.specs.laws.WalkRising.{walk-higher}
 
 -- Two values with the same node count, the second no lower than the first.
@@ -41,7 +41,7 @@ value-follows curve m room maturity steps cashflows calls calls' lower =
     let ready = ready_of_fitted curve m room maturity steps f e in
     follows-follow _ _ _ _
     (some_walk f.dt m.spread cashflows calls calls' lower f.tree.layers ready.proper f.shifts f.tree.final steps ready.layer_count ready.shift_count ready.some-step)
-    λ row row' rows. given_both (values (at_node (pos 0) (higher_refl plus_zero tt) rows))
+    λ row row' rows. given_both (values (at_node (pos 0) (higher-refl plus_zero tt) rows))
 
 grid-follows : (curve : Float → ℕ → Answer) (m : Market) (room : Room) (first second : BondEventGrid) → NoLowerGrid first second → Follows Values (lattice_value_over curve m room first) (lattice_value_over curve m room second)
 grid-follows curve m room first second g =

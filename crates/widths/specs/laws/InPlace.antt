@@ -1,6 +1,6 @@
 -- A loop that puts a layer's middles into the places of its nodes: the first i are there, and what is left gives the whole. Assumes nothing.
 use Rattle.std.specs.Prelude.{ℕ, suc, ◌+◌, ◌-◌, ◌≤◌, ◌<◌, ◌≡◌, refl, length, get_or, set, ℤ, pos, Float}
-use Rattle.std.proofs.Common.{add-one, add-zero, sym, ap, ◌∙◌, length-set, take-append-drop, take-suc-set, drop-set-lt, drop_drop, get_or-drop}
+use Rattle.std.proofs.Common.{add-one, add-zero, sym, ap, ◌∙◌, length-set, take-append-drop, take-suc-set, drop-set-lt, drop-drop, get_or-drop}
 use native.Mathlib.Omega.{arith}
 use mathlib.Core.List.{List, [], ◌∷◌, ◌++◌, append-nil}
 use Rattle.std.proofs.Math.ListN.{take, drop}
@@ -93,7 +93,7 @@ module _ (spacing decay new : Float) (place count : ℕ) (before : List ℤ) whe
           within = omega arith;
           room = f.room;
           same = rw (add-one i, take-suc-set after i z.node b, one_onto (take i after) z.node (whole (left_from before count (suc i))), ← add-one i) (rw (left_is h, follow-given _ _ o) at f.same);
-          tail = drop-set-lt (i + 1) after i z.node (omega arith) ∙ sym (drop_drop 1 i after) ∙ ap (drop 1) f.tail ∙ drop_drop 1 i before;
+          tail = drop-set-lt (i + 1) after i z.node (omega arith) ∙ sym (drop-drop 1 i after) ∙ ap (drop 1) f.tail ∙ drop-drop 1 i before;
           kept = rw (length-set after i z.node) f.kept;
         }
 

@@ -13,7 +13,7 @@ use Rattle.lattice.specs.declared.Transition.{Transition}
 use Rattle.lattice.specs.declared.reach.Reach.{Reach}
 use Rattle.lattice.specs.Layers.{below}
 use Rattle.lattice.specs.Transitions.{Step}
-use Rattle.lattice.specs.laws.Bounds.{Within, AllWithin, no_middle, one_middle, held_both, Numbered, within-numbered, numbered_suc, numbered_pred}
+use Rattle.lattice.specs.laws.Bounds.{Within, AllWithin, no_middle, one_middle, held_both, Numbered, within-numbered, numbered-suc, numbered_pred}
 use Rattle.lattice.specs.laws.Making.{step_from}
 use Rattle.lattice.specs.laws.Middles.{MiddleFrom, FromNode, middle_from, Along, no_node, one_node, Upright}
 use Rattle.lattice.specs.laws.Middles as middles
@@ -73,14 +73,14 @@ module _ (s : Step) where
       gives-follow _ _ (middle_from s n) λ m f.
       gives-follow _ _ (middles-along ns) λ ms a. gives (one_node (alike_from f) a)
 
-along_length : {s : Step} {ns : List ℤ} (ms : List ℤ) → Along s ns (all_alike ms) → length ms ≡ length ns
+along-length : {s : Step} {ns : List ℤ} (ms : List ℤ) → Along s ns (all_alike ms) → length ms ≡ length ns
 unfolding all_alike
-along_length [] no_node = refl
-along_length (m ∷ ms) (one_node f a) = ap suc (along_length ms a)
+along-length [] no_node = refl
+along-length (m ∷ ms) (one_node f a) = ap suc (along-length ms a)
 
 -- A middle for each node.
-pub middles_length : (spacing decay new : Float) (place : ℕ) (ns ms : List ℤ) → middle_nodes spacing decay new place ns ≡ given ms → length ms ≡ length ns
-middles_length spacing decay new place ns ms e = along_length ms (given_of (middles-along (step_from spacing decay new plus_zero plus_zero place) ns) e)
+pub middles-length : (spacing decay new : Float) (place : ℕ) (ns ms : List ℤ) → middle_nodes spacing decay new place ns ≡ given ms → length ms ≡ length ns
+middles-length spacing decay new place ns ms e = along-length ms (given_of (middles-along (step_from spacing decay new plus_zero plus_zero place) ns) e)
 
 -- ---- the next layer
 
@@ -152,7 +152,7 @@ few_all : (r : Reach) (ms : List ℤ) → AllWithin ms → Few r → Few (reach_
 unfolding reach_all reach
 few_all r [] no_middle f = f
 few_all r (m ∷ ms) (one_middle w a) f =
-    few_all (reach r m) ms a (few_one _ (suc_ℤ m) (numbered_suc w) (few_one _ m (within-numbered w) (few_one r (pred_ℤ m) (numbered_pred w) f)))
+    few_all (reach r m) ms a (few_one _ (suc_ℤ m) (numbered-suc w) (few_one _ m (within-numbered w) (few_one r (pred_ℤ m) (numbered_pred w) f)))
 
 off_pred : (n : ℤ) → off (pred_ℤ n) ≤ off n
 unfolding off

@@ -3,7 +3,7 @@ use Prim.Native.Nat.{ℕ, suc, ◌+◌, ◌≤◌}
 use native.Mathlib.Omega.{arith}
 use Rattle.std.specs.Prelude.{◌≡◌, refl, Bool, cond, get_or, drop, ℤ, pos}
 use Rattle.std.proofs.Math.Path.{sym, ap}
-use Rattle.std.proofs.Common.{◌∙◌, length-set, drop_cons}
+use Rattle.std.proofs.Common.{◌∙◌, length-set, drop-cons}
 use Rattle.std.proofs.Math.Bool.{true, false}
 use mathlib.Core.List.{List, [], ◌∷◌, ◌++◌, append_assoc, append-nil}
 use Rattle.std.proofs.Math.ListN.{length, set, length-append}
@@ -38,9 +38,9 @@ pub placed-old : (from : ℕ) (r : Reach) (n : ℤ) (l : List ℤ) → below r.t
 unfolding placed
 placed-old from r n l e = ap (λ (b : Bool). cond b (set l (from + r.count) n) l) e
 
-pub placed_length : (from : ℕ) (r : Reach) (n : ℤ) (l : List ℤ) → length (placed from r n l) ≡ length l
+pub placed-length : (from : ℕ) (r : Reach) (n : ℤ) (l : List ℤ) → length (placed from r n l) ≡ length l
 unfolding placed
-placed_length from r n l = go (below r.top n)
+placed-length from r n l = go (below r.top n)
   where
     go : (b : Bool) → length (cond b (set l (from + r.count) n) l) ≡ length l
     go true = length-set l (from + r.count) n
@@ -51,7 +51,7 @@ unfolding placed_three
 three_length from r m l =
     let a = placed from r (pred_ℤ m) l in
     let b = placed from (reach_one r (pred_ℤ m)) m a in
-    placed_length from (reach_one (reach_one r (pred_ℤ m)) m) (suc_ℤ m) b ∙ placed_length from (reach_one r (pred_ℤ m)) m a ∙ placed_length from r (pred_ℤ m) l
+    placed-length from (reach_one (reach_one r (pred_ℤ m)) m) (suc_ℤ m) b ∙ placed-length from (reach_one r (pred_ℤ m)) m a ∙ placed-length from r (pred_ℤ m) l
 
 pub all_length : (from : ℕ) (r : Reach) (ms l : List ℤ) → length (placed_all from r ms l) ≡ length l
 unfolding placed_all
@@ -91,7 +91,7 @@ module _ (from : ℕ) (before : List ℤ) where
           record {
             long = length-append front (n ∷ []) ∙ (omega arith);
             is =
-                ap (λ (z : List ℤ). set z p n) (f.is ∙ ap (λ (z : List ℤ). front ++ z) (drop_cons before p (pos 0) (omega arith)))
+                ap (λ (z : List ℤ). set z p n) (f.is ∙ ap (λ (z : List ℤ). front ++ z) (drop-cons before p (pos 0) (omega arith)))
                 ∙ set_at front (get_or before p (pos 0)) (drop (suc p) before) n p k
                 ∙ sym (append_assoc front (n ∷ []) (drop (suc p) before))
                 ∙ (rw e);

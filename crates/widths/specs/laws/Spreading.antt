@@ -9,7 +9,7 @@ use Rattle.lattice.specs.laws.Bounds.{Within, AllWithin, held_both}
 use Rattle.lattice.specs.laws.Reaching.{reach_one, reach, reach_all, nothing_below, reach_one-count}
 use Rattle.lattice.specs.laws.Laying.{Pushed, reach_all-count}
 use Rattle.widths.specs.laws.LeftOver.{left_from, left_first, left_cons, left_none}
-use Rattle.widths.specs.laws.Placing.{placed, placed_three, placed_all, placed_length, three_length}
+use Rattle.widths.specs.laws.Placing.{placed, placed_three, placed_all, placed-length, three_length}
 
 -- ---- three nodes, one by one
 
@@ -27,7 +27,7 @@ module _ (from : ℕ) (r : Reach) (m : ℤ) (l : List ℤ) (room : from + (reach
 
   module _ {a : ℤ} {s : Reach} {k : List ℤ} (p : a ≡ pred_ℤ m) (one : Pushed s (reach_one r a) k (placed from r a l)) where
     first_long : length k ≡ length l
-    first_long = ap length one.slice ∙ placed_length from r a l
+    first_long = ap length one.slice ∙ placed-length from r a l
 
     pub second-room : {b : ℤ} → b ≡ m → from + (reach_one s b).count ≤ length k
     unfolding reach
@@ -36,7 +36,7 @@ module _ (from : ℕ) (r : Reach) (m : ℤ) (l : List ℤ) (room : from + (reach
     module _ {b : ℤ} {t : Reach} {h : List ℤ} (q : b ≡ m) (two : Pushed t (reach_one s b) h (placed from s b k)) where
       pub third-room : {d : ℤ} → d ≡ suc_ℤ m → from + (reach_one t d).count ≤ length h
       unfolding reach
-      third-room {d} z = rw (z, two.slice, placed_length from s b k, first_long, two.reach, one.reach, q, p) room
+      third-room {d} z = rw (z, two.slice, placed-length from s b k, first_long, two.reach, one.reach, q, p) room
 
       pub three_placed : {d : ℤ} {u : Reach} {o : List ℤ} → d ≡ suc_ℤ m → Pushed u (reach_one t d) o (placed from t d h) → Pushed u (reach r m) o (placed_three from r m l)
       unfolding reach placed_three

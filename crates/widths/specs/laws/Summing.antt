@@ -1,7 +1,7 @@
 -- The widths of all layers summed, and the widest, layer by layer. Assumes nothing.
 use Rattle.std.specs.Prelude.{ℕ, zero, suc, ◌+◌, ◌*◌, ◌≤◌, ◌<◌, max, ◌≡◌, Bool, true, false, cond, List, [], ◌∷◌, T, leb, length, get_or, take, drop, set, ℤ, pos, negsuc, Float}
-use Rattle.std.proofs.Common.{add-one, zero-add, le_antisymm, le_trans, arith, ◌∙◌, drop_of_length-le, drop_cons, length-take-le, le-leb, leb-true}
-use Rattle.std.proofs.Math.Nat.{add-zero, le-max_left, le-max_right, max_le}
+use Rattle.std.proofs.Common.{add-one, zero-add, le_antisymm, le_trans, arith, ◌∙◌, drop_of_length-le, drop-cons, length-take-le, le-leb, leb-true}
+use Rattle.std.proofs.Math.Nat.{add-zero, le-max_left, le-max_right, max-le}
 use Rattle.std.proofs.Math.Path.{refl, sym, ap, subst}
 use Rattle.std.specs.Float.Ieee.{le}
 use Rattle.std.specs.Float.{nan}
@@ -55,8 +55,8 @@ pub record Known (room : ℕ) (decay : Float) (w : Wide) : Type 0 where
 around-some : {ms : List ℤ} → Reached ms → 0 < length (around ms)
 around-some {ms} r = rw (r.is, around-laid 3 r.first r.others r.rising) (omega arith)
 
-leb_given : {A : Type 0} (a b : ℕ) (x : A) (n k : ℕ) {y : A} → cond (leb a b) (given x) (refuse n k) ≡ given y → (a ≤ b) × (x ≡ y)
-leb_given a b x n k {y} e = go (leb a b) refl e
+leb-given : {A : Type 0} (a b : ℕ) (x : A) (n k : ℕ) {y : A} → cond (leb a b) (given x) (refuse n k) ≡ given y → (a ≤ b) × (x ≡ y)
+leb-given a b x n k {y} e = go (leb a b) refl e
   where
     go : (t : Bool) → leb a b ≡ t → cond t (given x) (refuse n k) ≡ given y → (a ≤ b) × (x ≡ y)
     go true p e = (leb-true a b p, same_given e)
@@ -69,7 +69,7 @@ known_from room decay spacing new k (m ∷ ns) {t} {w} h c a b v n e =
     let (ms, p, q) = of_given (middle_nodes spacing decay new k (m ∷ ns)) (λ ms. cond (leb (length (m ∷ ns) + length (around ms)) room) (given (wide new (around ms))) (refuse 21 (suc k))) e in
     let z = new-not_below v k new n in
     let r = reached spacing decay new k a b z c p in
-    let (l, i) = leb_given (length (m ∷ ns) + length (around ms)) room (wide new (around ms)) 21 (suc k) q in
+    let (l, i) = leb-given (length (m ∷ ns) + length (around ms)) room (wide new (around ms)) 21 (suc k) q in
     subst (Known room decay) i (record { fits = omega arith; few = few-around r; some-node = around-some r; low = _; climbs = r.climbs; spacing-above = z.not_below_lem })
 
 pub nodes-known : (room : ℕ) (decay spacing : Float) (ns : List ℤ) (k : ℕ) (v : Float) {t : ℤ} {w : Wide} → 0 < length ns → Climbs t ns → T (le plus_zero spacing) → T (le plus_zero decay) → next_wide room decay spacing ns k v ≡ given w → Known room decay w
@@ -87,11 +87,11 @@ next_known room decay spacing count nodes k v f e =
 abbrev sums_after : ℕ → ℕ → Outcome (List ℕ) → Outcome Sums
 sums_after t w o = follow o λ ws. given (record { total = t + total ws; widest = max w (widest ws) })
 
-max_zero : (a : ℕ) → max 0 a ≡ a
-max_zero a = le_antisymm (max_le (omega arith) (omega arith)) (le-max_right 0 a)
+max-zero : (a : ℕ) → max 0 a ≡ a
+max-zero a = le_antisymm (max-le (omega arith) (omega arith)) (le-max_right 0 a)
 
 max_none : (a : ℕ) → max a 0 ≡ a
-max_none a = le_antisymm (max_le (omega arith) (omega arith)) (le-max_left a 0)
+max_none a = le_antisymm (max-le (omega arith) (omega arith)) (le-max_left a 0)
 
 max_assoc : (a b c : ℕ) → max a (max b c) ≡ max (max a b) c
 max_assoc a b c =
@@ -103,11 +103,11 @@ max_assoc a b c =
     let y = le-max_right a (max b c) in
     let u = le-max_left b c in
     let v = le-max_right b c in
-    le_antisymm (max_le (le_trans p r) (max_le (le_trans q r) s)) (max_le (max_le x (le_trans u y)) (le_trans v y))
+    le_antisymm (max-le (le_trans p r) (max-le (le_trans q r) s)) (max-le (max-le x (le_trans u y)) (le_trans v y))
 
 sums_none : (o : Outcome (List ℕ)) → sums_after 0 0 o ≡ sums_of o
 unfolding sums_of on_outcome
-sums_none (given ws) = rw (zero-add (total ws), max_zero (widest ws))
+sums_none (given ws) = rw (zero-add (total ws), max-zero (widest ws))
 sums_none (refused r) = refl
 
 sums_more : (t w c : ℕ) (o : Outcome (List ℕ)) → sums_after t w (follow o λ ws. given (c ∷ ws)) ≡ sums_after (t + c) (max w c) o
@@ -144,7 +144,7 @@ module _ (decay first : Float) (vs : List Float) (before : List ℤ) where
 
     left_is : i < length vs → widths_from (length before) decay spacing (take count nodes) i (drop i vs) ≡ follow step λ x. follow (widths_from (length before) decay x.spacing x.nodes (suc i) (drop (suc i) vs)) λ ws. given (count ∷ ws)
     left_is h =
-        rw (drop_cons vs i nan h)
+        rw (drop-cons vs i nan h)
         (widths_next (length before) decay spacing (take count nodes) i (get_or vs i nan) (drop (suc i) vs) ∙ (rw at_count))
 
     abbrev tried : Outcome Wide

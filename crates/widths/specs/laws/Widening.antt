@@ -29,7 +29,7 @@ use Rattle.lattice.specs.laws.NextLayer.{spacing_bounds}
 use Rattle.lattice.specs.laws.Reaching.{reach_all, nothing_below}
 use Rattle.lattice.specs.laws.RisingMiddles.{Climbs, around, laid}
 use Rattle.widths.specs.Widths.{middle_nodes, new_spacing, widths_from}
-use Rattle.widths.specs.laws.LayerMiddles.{Reached, middles_length, reached, reached-around, reached-many, few-around}
+use Rattle.widths.specs.laws.LayerMiddles.{Reached, middles-length, reached, reached-around, reached-many, few-around}
 use Rattle.widths.specs.laws.InPlace.{FilledInPlace}
 use Rattle.widths.specs.laws.Placing.{placed_all, laid-behind, all_length}
 
@@ -201,7 +201,7 @@ module _ (spacing decay new : Float) (k count : ℕ) (before mid : List ℤ) whe
       let (ms, e) = check_passed _ f.outcome in
       let l = r.room in
       let c : length (take count before) ≡ count = length-take-le count before l in
-      let m : length ms ≡ count = middles_length spacing decay new k (take count before) ms e ∙ c in
+      let m : length ms ≡ count = middles-length spacing decay new k (take count before) ms e ∙ c in
       let t : take count mid ≡ ms = rw (f.row ms e) (take_at ms (drop count before) count m) in
       record {
         room = rw f.kept l;

@@ -3,7 +3,7 @@ use Prim.Native.Nat.{◌-◌}
 use mathlib.Core.Path.{sym, refl, ◌∙◌}
 use native.Mathlib.Omega.{arith}
 use borrow.Author.Rules.{rules}
-use lib.ListN.{drop, get_or_append}
+use lib.ListN.{drop, get_or-append}
 use lib.Ieee.{nan}
 use lib.Seq.{length-take-le}
 use Rattle.backwardinduction.specs.laws.Discounts.{ahead_kept, ahead_part}
@@ -33,7 +33,7 @@ returns c =
     let called = c.before.before.discounts in
     let start = c.before.before.before.before.before.before.before in
     let few = called.auto.1.1.1.0 ∙ length-take-le (start.args.count - start.args.i) start.args.es.now (omega arith) in
-    ahead_part _ (omega (arith, c.before.before.before.before.before.if1.true)) (λ j l h. omega (arith, few)) (λ j h. get_or_append called.new.1.1.1.0 (drop (start.args.count - start.args.i) start.args.es.now) nan j h) called.ensures
+    ahead_part _ (omega (arith, c.before.before.before.before.before.if1.true)) (λ j l h. omega (arith, few)) (λ j h. get_or-append called.new.1.1.1.0 (drop (start.args.count - start.args.i) start.args.es.now) nan j h) called.ensures
 
 discounts-requires-2 : tie.Need-discounts-requires-2
 discounts-requires-2 c κs = search rules

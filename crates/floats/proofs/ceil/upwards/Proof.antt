@@ -1,6 +1,6 @@
 -- `upwards` meets its contract, by the exact value that the exponent's field and the digits give. Assumes nothing.
 use Prim.Native.Nat.{ℕ, ◌+◌, ◌-◌, ◌*◌, ◌/◌, ◌%◌, ◌^◌, ◌≤◌, ◌<◌}
-use native.Mathlib.Nat.{div-eq_of_lt, div-eq_of_lt-le, div-le_self, le_trans, mul-pos, le_of_suc_le_suc, div-lt_iff_lt-mul, add_comm}
+use native.Mathlib.Nat.{div-eq_of_lt, div-eq_of_lt-le, div-le_self, le_trans, mul-pos, le_of_suc-le-suc, div-lt_iff_lt-mul, add_comm}
 use native.Mathlib.Omega.{arith}
 use mathlib.Core.Path.{◌≡◌, refl, sym, ap, ◌∙◌}
 use mathlib.Core.Bool.{Bool, true, false, cond}
@@ -43,7 +43,7 @@ some_bits b n h = omega arith
 
 -- and no whole number comes out above 2^53
 capped : (a c : ℕ) → 0 < c → a < 9007199254740992 → (a + (c - 1)) / c ≤ 9007199254740992
-capped a c C h = le_of_suc_le_suc ((div-lt_iff_lt-mul {x = a + (c - 1)} {y = 9007199254740993} C).1 (omega arith))
+capped a c C h = le_of_suc-le-suc ((div-lt_iff_lt-mul {x = a + (c - 1)} {y = 9007199254740993} C).1 (omega arith))
 
 module _ (x : Float) (p : T (fits binary64 x)) (q : T (finite x)) where
   tiny : field_of x < 1023 → cond (sign_of x) plus_zero (cond (eqb (to_bits binary64 x) 0) plus_zero one) ≡ ceiled x

@@ -1,6 +1,6 @@
 -- `near` meets its contract, by the exact value that the exponent's field and the digits give. Assumes nothing.
 use Prim.Native.Nat.{ℕ, ◌+◌, ◌-◌, ◌*◌, ◌/◌, ◌^◌, ◌≤◌, ◌<◌}
-use native.Mathlib.Nat.{div-eq_of_lt, mul-pos, le_of_suc_le_suc, div-lt_iff_lt-mul, add_comm}
+use native.Mathlib.Nat.{div-eq_of_lt, mul-pos, le_of_suc-le-suc, div-lt_iff_lt-mul, add_comm}
 use native.Mathlib.Omega.{arith}
 use mathlib.Core.Path.{◌≡◌, refl, sym, ap, ◌∙◌}
 use lib.Dec.{T}
@@ -22,7 +22,7 @@ less a p c h e = div-eq_of_lt (omega arith)
 
 -- and no whole number comes out above 2^53
 capped : (a c : ℕ) → 0 < c → a < 9007199254740992 → (2 * a + c) / (2 * c) ≤ 9007199254740992
-capped a c C h = le_of_suc_le_suc ((div-lt_iff_lt-mul {x = 2 * a + c} {y = 9007199254740993} (mul-pos {m = 2} (omega arith) C)).1 (omega arith))
+capped a c C h = le_of_suc-le-suc ((div-lt_iff_lt-mul {x = 2 * a + c} {y = 9007199254740993} (mul-pos {m = 2} (omega arith) C)).1 (omega arith))
 
 module _ (x : Float) (p : T (fits binary64 x)) (q : T (finite x)) where
   tiny : field_of x < 1022 → plus_zero ≡ rounded x

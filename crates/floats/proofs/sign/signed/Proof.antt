@@ -4,7 +4,7 @@ use mathlib.Core.Path.{sym, ◌∙◌}
 use mathlib.Core.Bool.{false}
 use lib.Ieee.{binary64, of_int}
 use Rattle.floats.specs.laws.Cuts.{whole-nil, whole_pos}
-use Rattle.floats.specs.laws.Rounding.{round_neg}
+use Rattle.floats.specs.laws.Rounding.{round-neg}
 use Rattle.floats.proofs.Laws.{answers}
 use Rattle.floats.proofs.sign.signed.Statement.{statement}
 use Rattle.floats.proofs.sign.signed.Tie as tie
@@ -19,7 +19,7 @@ returns-2 : tie.Need-returns-2
 unfolding of_int
 returns-2 c =
     rw c.if2.true
-    (sym (round_neg binary64 false c.before.before.before.args.q 1) ∙ sym (whole_pos _ c.before.before.before.args.q (omega arith)))
+    (sym (round-neg binary64 false c.before.before.before.args.q 1) ∙ sym (whole_pos _ c.before.before.before.args.q (omega arith)))
 
 returns-3 : tie.Need-returns-3
 unfolding of_int

@@ -8,7 +8,7 @@ use borrow.Fn.PlainCycle.{Measures, is, falls, and}
 use lib.ListN.{length, length-set}
 use lib.Seq.{length-take-le}
 use Rattle.forwardinduction.specs.laws.FitMore.{layered_of}
-use Rattle.lattice.specs.laws.Parts.{part_length, rest_length, with_rest_length}
+use Rattle.lattice.specs.laws.Parts.{part_length, rest-length, with_rest-length}
 use Rattle.forwardinduction.specs.laws.LaidFront.{Behind, behind_of, laid-parts, laid-over}
 use Rattle.forwardinduction.specs.laws.FitLaid.{found_none, found-refused, found_more}
 use Rattle.forwardinduction.proofs.fitting.fit.Reads as fit
@@ -143,7 +143,7 @@ fit-fit-requires t c κs =
     let two = c.before.before.before.before.before.before.before.before.before.before.before.before.before.before.before.before.before.before.before.before.before.before.before.before.before.before.before.before.before.before.args.second.now in
     let kept = c.before.before.before.before.before.before.before.before.before.before.before.before.before.before.fit-step.auto in
     let n = part_length 1 s in
-    (omega (arith, n, p.0, c.before.before.before.before.before.before.before.before.before.before.before.before.before.before.before.before.before.before.before.before.before.if1), (laid-over {one = length one} {two = length two} kept.1.1.1.1.1.1.1.1.1.0 kept.1.1.1.1.1.1.1.1.1.1.0 (laid-parts (front t c.before.before.before.before.before.before.before.before.before.before.before.before.before.before.before.before.before.before.before.before.before)), (omega (arith, n, rest_length c.before.before.before.before.before.before.before.before.before.before.before.before.before.before.before.before.before.before.before.before.before.before.before.before.before.before.before.before.before.before.args.shifts.now c.before.before.before.before.before.before.before.before.s.given.0.0, p.1.1.0), omega (arith, n, p.1.1.1, c.before.before.before.before.before.before.before.before.before.before.before.before.before.before.before.before.before.before.before.before.before.if1))))
+    (omega (arith, n, p.0, c.before.before.before.before.before.before.before.before.before.before.before.before.before.before.before.before.before.before.before.before.before.if1), (laid-over {one = length one} {two = length two} kept.1.1.1.1.1.1.1.1.1.0 kept.1.1.1.1.1.1.1.1.1.1.0 (laid-parts (front t c.before.before.before.before.before.before.before.before.before.before.before.before.before.before.before.before.before.before.before.before.before)), (omega (arith, n, rest-length c.before.before.before.before.before.before.before.before.before.before.before.before.before.before.before.before.before.before.before.before.before.before.before.before.before.before.before.before.before.before.args.shifts.now c.before.before.before.before.before.before.before.before.s.given.0.0, p.1.1.0), omega (arith, n, p.1.1.1, c.before.before.before.before.before.before.before.before.before.before.before.before.before.before.before.before.before.before.before.before.before.if1))))
 
 fit-same-length-3 : (t : ℕ) → fit-lts.Need-same-length-3 (claims t) (fit_at t) fit.Post
 fit-same-length-3 t c = c.before.before.before.before.before.before.fit.auto.1.1.1.1.1.1.1.1.1.0 ∙ c.before.before.before.before.before.before.before.before.before.before.before.before.before.before.before.before.before.before.before.before.before.fit-step.auto.1.1.1.1.1.1.1.1.1.0
@@ -152,7 +152,7 @@ fit-same-length-4 : (t : ℕ) → fit-lts.Need-same-length-4 (claims t) (fit_at 
 fit-same-length-4 t c = c.before.before.before.before.before.before.fit.auto.1.1.1.1.1.1.1.1.1.1.0 ∙ c.before.before.before.before.before.before.before.before.before.before.before.before.before.before.before.before.before.before.before.before.before.fit-step.auto.1.1.1.1.1.1.1.1.1.1.0
 
 fit-same-length-5 : (t : ℕ) → fit-lts.Need-same-length-5 (claims t) (fit_at t) fit.Post
-fit-same-length-5 t c = with_rest_length c.before.before.before.before.before.before.before.before.before.before.before.before.before.before.before.before.before.before.before.before.before.before.before.before.before.before.before.before.before.before.before.before.before.before.before.before.before.args.shifts.now c.before.before.before.before.before.before.before.before.before.before.before.before.before.before.before.s.given.0.0 c.before.before.before.before.before.before.fit.new.1.1.1.1.1.1.1.1.1.1.1.0 (omega (arith, c.before.before.before.before.before.before.before.before.before.before.before.before.before.before.before.before.before.before.before.before.before.before.before.before.before.before.before.before.before.before.before.before.before.before.before.before.before.requires.1.1.0, c.before.before.before.before.before.before.before.before.before.before.before.before.before.before.before.before.before.before.before.before.before.before.before.before.before.before.before.before.if1)) c.before.before.before.before.before.before.fit.auto.1.1.1.1.1.1.1.1.1.1.1.0
+fit-same-length-5 t c = with_rest-length c.before.before.before.before.before.before.before.before.before.before.before.before.before.before.before.before.before.before.before.before.before.before.before.before.before.before.before.before.before.before.before.before.before.before.before.before.before.args.shifts.now c.before.before.before.before.before.before.before.before.before.before.before.before.before.before.before.s.given.0.0 c.before.before.before.before.before.before.fit.new.1.1.1.1.1.1.1.1.1.1.1.0 (omega (arith, c.before.before.before.before.before.before.before.before.before.before.before.before.before.before.before.before.before.before.before.before.before.before.before.before.before.before.before.before.before.before.before.before.before.before.before.before.before.requires.1.1.0, c.before.before.before.before.before.before.before.before.before.before.before.before.before.before.before.before.before.before.before.before.before.before.before.before.before.before.before.before.if1)) c.before.before.before.before.before.before.fit.auto.1.1.1.1.1.1.1.1.1.1.1.0
 
 fit-returns-3 : (t : ℕ) → fit-lts.Need-returns-3 (claims t) (fit_at t) fit.Post
 fit-returns-3 t c = found_more _ _ _ _ _ _ _ _ _ _ (front t c.before.before.before.before.before.before.before.before.before.before.before.before.before.before.before.before.before.before.before.before.before.before.before.before.before.before.before.before) c.before.before.before.before.before.before.before.before.before.before.before.before.before.before.before.before.before.before.before.before.before.fit-step.ensures _ c.before.before.before.before.before.before.before.before.before.before.before.before.before.before.before.before.before.before.before.before.before.before.before.before.before.before.before.before.before.before.before.before.before.before.before.before.before.args.shifts.now c.before.before.before.before.before.before.fit.new.1.1.1.1.1.1.1.1.1.1.1.0 (omega (arith, c.before.before.before.before.before.before.before.before.before.before.before.before.before.before.before.before.before.before.before.before.before.before.before.before.before.before.before.before.before.before.before.before.before.before.before.before.before.requires.1.1.0, c.before.before.before.before.before.before.before.before.before.before.before.before.before.before.before.before.before.before.before.before.before.before.before.before.before.before.before.before.if1)) c.before.before.before.before.before.before.before.before.before.before.before.before.before.before.before.s.given.1 c.before.before.before.before.before.before.fit.ensures

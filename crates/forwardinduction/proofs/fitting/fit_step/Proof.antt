@@ -1,6 +1,6 @@
 -- `fitting::fit_step` meets its contract. Assumes nothing.
 use mathlib.Core.Path.{refl}
-use Rattle.forwardinduction.specs.laws.Fitting.{current_length, step-refused, step-halted, step-moved}
+use Rattle.forwardinduction.specs.laws.Fitting.{current-length, step-refused, step-halted, step-moved}
 use borrow.Author.Rules.{rules}
 use Rattle.forwardinduction.proofs.fitting.fit_step.Statement.{statement}
 use Rattle.forwardinduction.proofs.fitting.fit_step.Tie as tie
@@ -11,7 +11,7 @@ current-requires c κs = search rules
 layer-shift-requires : tie.Need-layer-shift-requires
 layer-shift-requires c κs =
     let p = c.before.before.before.before.before.before.before.before.requires in
-    (rw (c.current.ensures, current_length c.before.before.before.before.before.before.before.before.args.step c.before.before.before.before.before.before.before.before.args.count c.before.before.before.before.before.before.before.before.args.first.now c.before.before.before.before.before.before.before.before.args.second.now p.0.0 p.0.1) p.1.0.0.pairs, p.1.1)
+    (rw (c.current.ensures, current-length c.before.before.before.before.before.before.before.before.args.step c.before.before.before.before.before.before.before.before.args.count c.before.before.before.before.before.before.before.before.args.first.now c.before.before.before.before.before.before.before.before.args.second.now p.0.0 p.0.1) p.1.0.0.pairs, p.1.1)
 
 enum-known-s : tie.Need-enum-known-s
 enum-known-s c = c.match.keys1

@@ -7,7 +7,7 @@ use borrow.Fn.Kinds.{In}
 use borrow.Fn.PlainCycle.{Measures, is, falls, and}
 use lib.ListN.{length, set, length-set}
 use Rattle.lattice.specs.laws.Layering.{layers_last}
-use Rattle.lattice.specs.laws.Parts.{part_length, rest_length}
+use Rattle.lattice.specs.laws.Parts.{part_length, rest-length}
 use Rattle.layers.specs.laws.Behind.{untouched, front-room}
 use Rattle.latticetransitions.proofs.curved.Layering.{refused-here, pairs-room, threes-room, front-part, before-part, rows-room, laid-behind}
 use Rattle.latticetransitions.proofs.curved.layers.Reads as layers
@@ -197,8 +197,8 @@ layers-layers-requires t c κs =
     let probabilities = g.new.1.1.1.1.1.1.0 in
     let some = c.before.before.before.before.before.before.before.before.before.before.before.before.before.before.before.if1.false in
     let vs = part_length 1 a.variances.now in
-    let cs = rest_length a.counts.now a.count in
-    let ss = rest_length a.spacings.now a.spacing in
+    let cs = rest-length a.counts.now a.count in
+    let ss = rest-length a.spacings.now a.spacing in
     let s = c.before.before.before.before.before.before.next.given.0.0 in
     let n = c.before.before.before.before.before.before.next.given.0.1.0 in
     let e = c.before.before.before.before.before.before.next.given.1 in

@@ -5,7 +5,7 @@ use lib.ListN.{length-set}
 use lib.IntN.{pos}
 use Rattle.lattice.specs.laws.Growing.{room_left}
 use Rattle.lattice.specs.laws.RoomTest.{fitting}
-use Rattle.lattice.specs.laws.Rooted.{root_length, root-front, root-refused, root-laid, lays-nothing}
+use Rattle.lattice.specs.laws.Rooted.{root-length, root-front, root-refused, root-laid, lays-nothing}
 use Rattle.layers.specs.laws.Known.{before-none}
 use borrow.Author.Rules.{rules}
 use Rattle.latticetransitions.proofs.curved.rooted.Statement.{statement}
@@ -37,7 +37,7 @@ same-length-2 : tie.Need-same-length-2
 same-length-2 c = c.before.before.before.before.before.before.before.layers.auto.1.1.1.1.1.1.0
 
 same-length-3 : tie.Need-same-length-3
-same-length-3 c = c.before.before.before.before.before.before.before.layers.auto.1.1.1.1.1.1.1.0 ∙ root_length c.before.before.before.before.before.before.before.before.before.before.before.before.before.before.before.before.before.before.args.nodes.now
+same-length-3 c = c.before.before.before.before.before.before.before.layers.auto.1.1.1.1.1.1.1.0 ∙ root-length c.before.before.before.before.before.before.before.before.before.before.before.before.before.before.before.before.before.before.args.nodes.now
 
 same-length-4 : tie.Need-same-length-4
 same-length-4 c = c.before.before.before.before.before.before.before.layers.auto.1.1.1.1.1.1.1.1.0

@@ -4,7 +4,7 @@ use mathlib.Core.Path.{◌≡◌, refl}
 use mathlib.Core.List.{List, [], ◌∷◌}
 use lib.ListN.{get_or, take}
 use lib.Ieee.{Float, nan}
-use Rattle.forwardinduction.specs.laws.Fitting.{current_length}
+use Rattle.forwardinduction.specs.laws.Fitting.{current-length}
 use Rattle.forwardinduction.specs.laws.LaidFront.{fronted}
 use Rattle.backwardinduction.specs.laws.WalkRoot.{root-passed, root-refused}
 use Rattle.rollback.proofs.walking.root_value.Statement.{statement}
@@ -32,7 +32,7 @@ current-requires c κs =
 shared-slice-read-t26 : tie.Need-shared-slice-read-t26
 shared-slice-read-t26 c =
     let front = fronted c.before.before.before.before.before.before.before.before.before.before.before.before.before.before.before.before.before.before.before.before.before.before.requires.0 in
-    rw (c.before.current.ensures, current_length 0 1 c.before.before.before.before.before.before.before.before.before.before.walk.new.1.1.1.1.1.1.1.1.1.1.1.1.0 c.before.before.before.before.before.before.before.before.before.before.walk.new.1.1.1.1.1.1.1.1.1.1.1.1.1.0 (omega (arith, front.first_room, c.before.before.before.before.before.before.before.before.before.before.before.before.before.before.before.before.before.before.before.before.before.before.requires.1.0.0, c.before.before.before.before.before.before.before.before.before.before.walk.auto.1.1.1.1.1.1.1.1.1.1.1.1.0)) (omega (arith, front.second-room, c.before.before.before.before.before.before.before.before.before.before.before.before.before.before.before.before.before.before.before.before.before.before.requires.1.0.0, c.before.before.before.before.before.before.before.before.before.before.walk.auto.1.1.1.1.1.1.1.1.1.1.1.1.1.0))) (omega arith)
+    rw (c.before.current.ensures, current-length 0 1 c.before.before.before.before.before.before.before.before.before.before.walk.new.1.1.1.1.1.1.1.1.1.1.1.1.0 c.before.before.before.before.before.before.before.before.before.before.walk.new.1.1.1.1.1.1.1.1.1.1.1.1.1.0 (omega (arith, front.first_room, c.before.before.before.before.before.before.before.before.before.before.before.before.before.before.before.before.before.before.before.before.before.before.requires.1.0.0, c.before.before.before.before.before.before.before.before.before.before.walk.auto.1.1.1.1.1.1.1.1.1.1.1.1.0)) (omega (arith, front.second-room, c.before.before.before.before.before.before.before.before.before.before.before.before.before.before.before.before.before.before.before.before.before.before.requires.1.0.0, c.before.before.before.before.before.before.before.before.before.before.walk.auto.1.1.1.1.1.1.1.1.1.1.1.1.1.0))) (omega arith)
 
 same_length : tie.Need-same-length
 same_length c = c.before.before.before.before.before.before.before.before.before.before.walk.auto.1.1.1.1.1.1.1.1.1.1.1.1.0

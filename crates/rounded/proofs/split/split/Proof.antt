@@ -3,7 +3,7 @@ use mathlib.Core.Path.{sym, subst}
 use native.Mathlib.Omega.{arith}
 use lib.Dec.{T}
 use lib.Ieee.{binary64, fits}
-use Rattle.rounded.proofs.split.Fields.{finite_number, field-most, normal-parts, low_parts, zero_parts}
+use Rattle.rounded.proofs.split.Fields.{finite_number, field-most, normal-parts, low_parts, zero-parts}
 use borrow.Author.Rules.{rules}
 use Rattle.rounded.proofs.split.split.Statement.{statement}
 use Rattle.rounded.proofs.split.split.Tie as tie
@@ -43,7 +43,7 @@ returns-2 c =
     low_parts c.before.before.before.args.x (held c.before.before.before) c.before.before.before.requires r.neg r.digits r.place c.before.before.if1.false e.0 e.1 e.2
 
 returns-3 : tie.Need-returns-3
-returns-3 c = zero_parts c.before.before.args.x (held c.before.before) c.before.before.requires c.before.if1.false c.if2.false
+returns-3 c = zero-parts c.before.before.args.x (held c.before.before) c.before.before.requires c.before.if1.false c.if2.false
 
 pub split-spec : {M : Type 1} → statement M
 split-spec =

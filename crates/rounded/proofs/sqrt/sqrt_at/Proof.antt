@@ -5,7 +5,7 @@ use mathlib.Core.Bool.{false}
 use Rattle.floats.specs.Answers.{not_finite}
 use Rattle.rounded.specs.Root.{sqrt_at}
 use Rattle.floats.proofs.Laws.{answers}
-use Rattle.rounded.proofs.sqrt.Signs.{zero_value, positive-value, value_at_lem}
+use Rattle.rounded.proofs.sqrt.Signs.{zero-value, positive-value, value_at_lem}
 use Rattle.rounded.proofs.sqrt.sqrt_at.Statement.{statement}
 use Rattle.rounded.proofs.sqrt.sqrt_at.Tie as tie
 
@@ -28,7 +28,7 @@ returns-2 c = search answers
 
 returns-3 : tie.Need-returns-3
 returns-3 c =
-    value_at_lem _ _ _ (number c.before.before) c.before.if2.false (zero_value _ c.if3.true)
+    value_at_lem _ _ _ (number c.before.before) c.before.if2.false (zero-value _ c.if3.true)
 
 root-of-requires : tie.Need-root-of-requires
 root-of-requires c κs = positive-value _ (number c.before.before) c.before.if2.false c.if3.false

@@ -1,6 +1,6 @@
 -- `push_three` meets its contract: each of the three in turn, with the room that the last one has. Assumes nothing.
 use borrow.Author.Rules.{rules}
-use Rattle.lattice.specs.laws.Bounds.{within-numbered, numbered_suc, numbered_pred}
+use Rattle.lattice.specs.laws.Bounds.{within-numbered, numbered-suc, numbered_pred}
 use Rattle.widths.specs.laws.Spreading.{first_room, second-room, third-room, three_placed}
 use Rattle.lattice.proofs.Signed.{back-numbered, less_fits, less_is, more_fits, more_is}
 use Rattle.widths.proofs.layer.push_three.Statement.{statement}
@@ -34,7 +34,7 @@ push-requires-3 c κs =
     let p = less_is a.middle w in
     let q = back-numbered (within-numbered w) in
     let z = more_is a.middle w in
-    (third-room a.from a.r a.middle a.nodes.now c.before.before.before.before.before.before.before.requires.0 p c.before.before.before.before.before.push.ensures q c.before.before.push2.ensures z, rw z (numbered_suc w))
+    (third-room a.from a.r a.middle a.nodes.now c.before.before.before.before.before.before.before.requires.0 p c.before.before.before.before.before.push.ensures q c.before.before.push2.ensures z, rw z (numbered-suc w))
 
 same_length : tie.Need-same-length
 same_length c = search rules
