@@ -23,7 +23,7 @@ use terms::Check;
 use terms::refusing::refused_by;
 
 // What the short rate of a step is made of, and time_step.
-#[derive(Drop)]
+#[derive(Clone, Copy)]
 pub struct Rates {
     pub spacing: f64,
     pub dt: f64,

@@ -1,2 +1,4 @@
 // Price from yield and yield from price.
+#![tactic(auto)]
+
 pub mod yields;

@@ -1,4 +1,6 @@
 // Contractual cashflows, the issuer's calls and the holder's puts on a uniform time grid.
+#![tactic(auto)]
+
 pub mod calls;
 pub mod marks;
 pub mod principal;
@@ -13,14 +15,14 @@ use floats::min::lesser;
 use terms::Check;
 
 // Who exercises: the issuer calls, the holder puts.
-#[derive(Drop)]
+#[derive(Clone, Copy)]
 pub enum Side {
     Call,
     Put,
 }
 
 // Whether a price stands at a step, and the price, 0 without one.
-#[derive(Drop)]
+#[derive(Clone, Copy)]
 pub struct Exercise {
     pub marked: bool,
     pub price: f64,
@@ -65,7 +67,7 @@ impl Exercise {
 }
 
 // One step of the grid: its call and its put.
-#[derive(Drop)]
+#[derive(Clone, Copy)]
 pub struct CallStep {
     pub call: Exercise,
     pub put: Exercise,
@@ -84,7 +86,7 @@ impl CallStep {
 }
 
 // The grid; places past the last step are zero and unmarked.
-#[derive(Drop)]
+#[derive(Clone, Copy)]
 pub struct BondEventGrid {
     pub maturity_time: f64,
     pub steps: u32,

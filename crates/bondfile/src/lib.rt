@@ -1,4 +1,6 @@
 // Bond files: what their lines say, in order.
+#![tactic(auto)]
+
 use bondline::{Entry, Fault};
 
 pub mod entries;

@@ -1,4 +1,6 @@
 // The lines of a bond file: their words, values and forms.
+#![tactic(auto)]
+
 pub mod bytes;
 pub mod forms;
 pub mod lines;
@@ -30,7 +32,7 @@ pub enum ReadDay {
 }
 
 // Why a line is refused.
-#[derive(Drop)]
+#[derive(Clone, Copy)]
 pub enum Cause {
     Byte(u8),
     UnknownWord,
@@ -48,7 +50,7 @@ pub enum Cause {
 }
 
 // What is wrong in a line, and at which column.
-#[derive(Drop)]
+#[derive(Clone, Copy)]
 pub struct Fault {
     pub column: usize,
     pub cause: Cause,
@@ -84,7 +86,7 @@ pub enum Shape {
 
 // What a line says. The kinds are numbered: 0 nothing, 1 settlement, 2 units, 3 steps, 4 alpha, 5 spread, 6 cashflow, 7 call, 8 sigma, 9 pillar, 10 yield, 11 quote,
 // 12 a line that is refused.
-#[derive(Drop)]
+#[derive(Clone, Copy)]
 pub enum Entry {
     Blank,
     Settlement(u32),

@@ -1,4 +1,6 @@
 // What a bond is worth without its calls.
+#![tactic(auto)]
+
 ghost use Rattle.std.specs.Prelude.{◌≡◌, [], length};
 ghost use Rattle.floats.specs.Answers.{plus_zero};
 ghost use Rattle.terms.specs.Terms.{Leg};

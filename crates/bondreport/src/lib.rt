@@ -1,5 +1,7 @@
 // The lines of the report on a bond: 80 bytes each, blank where nothing stands, and the order in which its calls are read out.
 
+#![tactic(auto)]
+
 pub mod columns;
 pub mod figures;
 pub mod numbers;

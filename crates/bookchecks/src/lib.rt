@@ -1,4 +1,6 @@
 // A book of bonds: what each of them holds, and the input checks of all.
+#![tactic(auto)]
+
 use floats::Refusal;
 
 pub mod checks;
@@ -18,14 +20,14 @@ impl Book {
 }
 
 // A bond's entries in a list that holds those of the whole book: where they begin, and how many they are.
-#[derive(Drop)]
+#[derive(Clone, Copy)]
 pub struct Part {
     pub from: usize,
     pub count: usize,
 }
 
 // What the book's fields say of one bond, whether its code or a step setting is missing, and whether its fields don't add up.
-#[derive(Drop)]
+#[derive(Clone, Copy)]
 pub struct Holding {
     pub code: u32,
     pub units: f64,

@@ -1,4 +1,6 @@
 // A book in one go: each bond's value, their sum and each desk's node count, all or none.
+#![tactic(auto)]
+
 use bookchecks::BookCheck;
 use floats::Refusal;
 

@@ -1,2 +1,4 @@
 // bracketed_root: up to 64 widenings, then 256 halvings.
+#![tactic(auto)]
+
 pub mod solver;

@@ -1,10 +1,12 @@
 // The bracket of bracketed_root: widening and halving, for whatever is priced.
+#![tactic(auto)]
+
 use floats::Refusal;
 
 pub mod brackets;
 
 // A bracket: its ends, the objective there, and the evaluations so far.
-#[derive(Drop)]
+#[derive(Clone, Copy)]
 pub struct Bracket {
     pub lower: f64,
     pub upper: f64,

@@ -1,5 +1,7 @@
 // Day numbers and dates: day 0 is 1 January 1900, in the proleptic Gregorian calendar.
 
+#![tactic(auto)]
+
 pub mod dates;
 pub mod lengths;
 pub mod numbers;

@@ -1,4 +1,6 @@
 // Call notices: their checks, and the call list that those which stand give.
+#![tactic(auto)]
+
 pub mod checks;
 pub mod entry;
 pub mod ranges;

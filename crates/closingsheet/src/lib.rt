@@ -1,4 +1,6 @@
 // The closing sheet: a line of 35 bytes for a bond.
+#![tactic(auto)]
+
 use floats::Refusal;
 
 pub mod cell;

@@ -1,5 +1,7 @@
 // Decimal numbers as text, and the doubles nearest to them.
 
+#![tactic(auto)]
+
 pub mod division;
 pub mod reading;
 pub mod writing;

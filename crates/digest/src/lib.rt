@@ -1,4 +1,6 @@
 // A digest of lists of numbers, by which two people can tell which of their inputs differ.
+#![tactic(auto)]
+
 ghost use Rattle.std.specs.Prelude.{◌≡◌};
 ghost use Rattle.digest.specs.Digest.{mixed, wholes_digest, bits_of, numbers_digest};
 

@@ -1,5 +1,7 @@
 // exp, exp_m1, ln and powf, each equal to its definition bit for bit; and exp of a row of numbers.
 
+#![tactic(auto)]
+
 pub mod exp;
 pub mod exp_m1;
 pub mod exps;

@@ -1,4 +1,6 @@
 // The input checks of each entry, in number order.
+#![tactic(auto)]
+
 pub mod entries;
 pub mod grid_stages;
 pub mod late_stages;

@@ -1,2 +1,4 @@
 // The bond that a file says.
+#![tactic(auto)]
+
 pub mod parts;

@@ -1,2 +1,4 @@
 // The first thing wrong with a file.
+#![tactic(auto)]
+
 pub mod check;

@@ -1,4 +1,6 @@
 // What a bond file is worth: the straight value, the yield, the tree value and the spread behind a quote.
+#![tactic(auto)]
+
 use floats::Refusal;
 
 pub mod pricing;
@@ -6,7 +8,7 @@ pub mod tree;
 pub mod worth;
 
 // What the tree is asked: the value, what the calls are worth, or the spread behind a quote.
-#[derive(Drop)]
+#[derive(Clone, Copy)]
 pub enum Ask {
     Value,
     Calls,
@@ -14,7 +16,7 @@ pub enum Ask {
 }
 
 // A value or what calls are worth, and its nodes; or a spread and its tries.
-#[derive(Drop)]
+#[derive(Clone, Copy)]
 pub enum Reply {
     Found(f64, u64),
     Refused(Refusal),

@@ -1,6 +1,8 @@
 // Floats and what a function on them answers: the test that follows every operation, whole numbers, extremes and the
 // midpoint, each equal to its definition bit for bit.
 
+#![tactic(auto)]
+
 pub mod ceil;
 pub mod finite;
 pub mod max;
@@ -11,7 +13,7 @@ pub mod round;
 mod sign;
 
 // Why and where a call is refused.
-#[derive(Drop)]
+#[derive(Clone, Copy)]
 pub struct Refusal {
     pub number: u32,
     pub place: u32,
@@ -97,7 +99,7 @@ impl Refusal {
 }
 
 // What a function on floats answers.
-#[derive(Drop)]
+#[derive(Clone, Copy)]
 pub enum Answer {
     Value(f64),
     Refused(Refusal),

@@ -1,4 +1,6 @@
 // Forward induction over the layers: the fit to the curve.
+#![tactic(auto)]
+
 mod exps;
 pub mod fit;
 pub mod fitting;

@@ -1,5 +1,7 @@
 // The C interface: one thin function per public entry. Inputs come first, then the place, then the
 // outputs; the result is the refusal number, 0 where accepted. Outputs are 0 on a refusal.
+#![tactic(auto)]
+
 mod books;
 mod grids;
 mod handing;

@@ -1,4 +1,6 @@
 // Rate definitions, and price and derivative at a yield.
+#![tactic(auto)]
+
 use floats::Refusal;
 
 pub mod prices;
@@ -6,7 +8,7 @@ pub mod rates;
 pub mod rows;
 
 // How often interest is compounded in a year.
-#[derive(Drop)]
+#[derive(Clone, Copy)]
 pub enum Frequency {
     Annual,
     Semiannual,
@@ -22,7 +24,7 @@ pub enum Frequency {
 }
 
 // A compounding, with its frequency where it is used.
-#[derive(Drop)]
+#[derive(Clone, Copy)]
 pub enum Compounding {
     Simple,
     Compounded(Frequency),
@@ -31,7 +33,7 @@ pub enum Compounding {
     CompoundedThenSimple(Frequency),
 }
 
-#[derive(Drop)]
+#[derive(Clone, Copy)]
 pub struct RateDefinition {
     pub compounding: Compounding,
 }
@@ -44,7 +46,7 @@ pub enum YieldPrice {
 }
 
 // What a rate definition's codes give.
-#[derive(Drop)]
+#[derive(Clone, Copy)]
 pub enum FoundRate {
     Given(RateDefinition),
     Refused(Refusal),

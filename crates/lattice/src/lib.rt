@@ -1,4 +1,6 @@
 // The trinomial tree: what its layers and transitions are, and the transition of one node.
+#![tactic(auto)]
+
 ghost use Rattle.std.specs.Prelude.{◌≡◌};
 ghost use Rattle.lattice.specs.laws.MadeSteps.{step_refusal};
 ghost use Rattle.lattice.specs.laws.Growing.{layer_refusal};

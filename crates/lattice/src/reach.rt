@@ -5,7 +5,7 @@ ghost use Rattle.lattice.specs.laws.Reaching.{reach_one, reach, nothing_below};
 ghost use Rattle.lattice.specs.laws.Bounds.{Within};
 
 // The highest node reached, and how many are reached.
-#[derive(Drop)]
+#[derive(Clone, Copy)]
 pub struct Reach {
     pub top: i32,
     pub count: usize,

@@ -1,2 +1,4 @@
 // The value of a fitted tree: grid, tree and walk back.
+#![tactic(auto)]
+
 pub mod value;

@@ -1,5 +1,7 @@
 // Whose entry a refused input is about, so that a file's line can be named.
 
+#![tactic(auto)]
+
 pub mod days;
 pub mod numbers;
 pub mod refused;

@@ -1,5 +1,7 @@
 // Prices bonds from bond files: those that are named, or standard input. Behind the word --check only `ok` or the
 // refusals are written.
+#![tactic(auto)]
+
 mod inputs;
 mod messages;
 mod printing;

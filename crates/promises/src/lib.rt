@@ -1,1 +1,3 @@
 // No function: theorems about what the entries answer stand in specs.
+
+#![tactic(auto)]

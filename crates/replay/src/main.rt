@@ -1,5 +1,7 @@
 // Replays a stored sample against the proved code: reads records from standard input, works each
 // out anew, and writes how many of each kind were replayed and how many differ.
+#![tactic(auto)]
+
 mod books;
 mod entries;
 mod grids;

@@ -1,2 +1,4 @@
 // The walk back over all layers.
+#![tactic(auto)]
+
 pub mod walking;

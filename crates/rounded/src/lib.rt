@@ -1,5 +1,7 @@
 // What is worked out in whole numbers and rounded once: mul_add and sqrt, each equal to its definition bit for bit.
 
+#![tactic(auto)]
+
 mod digits;
 mod guess;
 pub mod mul_add;

@@ -1,4 +1,6 @@
 // How large the slices of the tree value must be.
+#![tactic(auto)]
+
 use floats::Refusal;
 
 pub mod entry;

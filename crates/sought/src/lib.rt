@@ -1,18 +1,20 @@
 // What bracketed_root evaluates: a yield's price or a spread's tree value, less the target.
+#![tactic(auto)]
+
 use interestrate::RateDefinition;
 use terms::Epoch;
 
 pub mod objectives;
 
 // What is priced at a tried argument: the cashflows at a yield, or the fitted tree at a spread.
-#[derive(Drop)]
+#[derive(Clone, Copy)]
 pub enum Priced {
     Yield,
     Spread,
 }
 
 // What the solver looks for: where what is priced is worth the target. A yield uses the rate and the settlement, a spread the tree's time step and whether it is flat.
-#[derive(Drop)]
+#[derive(Clone, Copy)]
 pub struct Sought {
     pub priced: Priced,
     pub rate: RateDefinition,

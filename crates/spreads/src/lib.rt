@@ -1,2 +1,4 @@
 // Spread from price.
+#![tactic(auto)]
+
 pub mod spreads;

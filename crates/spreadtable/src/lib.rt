@@ -1,4 +1,6 @@
 // The spread by sigma table: a page with a row for each shift and a column for each spread.
+#![tactic(auto)]
+
 use floats::Refusal;
 
 mod cells;

@@ -1,4 +1,6 @@
 // What a call brings: its limits, the input checks, day times and the discount curve.
+#![tactic(auto)]
+
 use floats::Refusal;
 
 pub mod calls;
@@ -16,14 +18,14 @@ pub mod sigma;
 pub mod time;
 
 // The settlement day, and the day-count code by which every time from it is counted.
-#[derive(Drop)]
+#[derive(Clone, Copy)]
 pub struct Settlement {
     pub day: u32,
     pub code: u32,
 }
 
 // Settlement and its own count, from which the times of all days are worked out.
-#[derive(Drop)]
+#[derive(Clone, Copy)]
 pub struct Epoch {
     pub day: u32,
     pub code: u32,
@@ -31,7 +33,7 @@ pub struct Epoch {
 }
 
 // What an input check finds.
-#[derive(Drop)]
+#[derive(Clone, Copy)]
 pub enum Check {
     Passed,
     Refused(Refusal),

@@ -1,4 +1,6 @@
 // Trinomial-tree valuation of a callable bond.
+#![tactic(auto)]
+
 use floats::Refusal;
 
 pub mod fitted;

@@ -1,2 +1,4 @@
 // The tree value entry: checks, value, and the lent slices zeroed.
+#![tactic(auto)]
+
 pub mod tree;
