@@ -1,0 +1,58 @@
+-- `walk::discounts` meets its contract: exp of each exponent. Assumes nothing.
+use Prim.Native.Nat.{ℕ, ◌+◌, ◌≤◌}
+use mathlib.Core.Path.{◌≡◌, sym, ◌∙◌}
+use mathlib.Core.List.{List, ◌++◌}
+use native.Mathlib.Omega.{arith}
+use lib.ListN.{length, take, drop, replicate, length-append}
+use lib.Seq.{length-take-le}
+use lib.Ieee.{Float}
+use Rattle.floats.specs.Answers.{plus_zero}
+use Rattle.backwardinduction.specs.laws.Discounts.{discounts_are}
+use Rattle.backwardinduction.proofs.walk.discounts.Goals as goal
+
+abbrev zeros : List Float
+zeros = replicate 64 plus_zero
+
+-- n places of the 64, and ys written there
+module _ (n : ℕ) (h : n ≤ 64) where
+  room : length (take n zeros) ≡ n
+  room = length-take-le n zeros h
+
+  module _ (ys : List Float) (e : length ys ≡ length (take n zeros)) where
+    inside : n ≤ length (ys ++ drop n zeros)
+    inside = omega (arith, e ∙ room, length-append ys (drop n zeros))
+
+    written : length (take n (ys ++ drop n zeros)) ≡ n
+    written = length-take-le n (ys ++ drop n zeros) inside
+
+pub slice_bounds-exponents-end : goal.slice_bounds-exponents-end
+slice_bounds-exponents-end c = sym (room _ c.requires.0)
+
+pub exponents-requires : goal.exponents-requires
+exponents-requires c = let start = c in omega (arith, room _ start.requires.0, start.requires.1)
+
+pub slice_bounds-xs-end-2 : goal.slice_bounds-xs-end-2
+slice_bounds-xs-end-2 c = let xs = c.exponents in inside _ c.requires.0 xs.new.1.1.1.0 xs.ensures.kept
+
+pub slice_bounds-exp_row-end : goal.slice_bounds-exp_row-end
+slice_bounds-exp_row-end c = let xs = c.exponents in sym (written _ c.requires.0 xs.new.1.1.1.0 xs.ensures.kept)
+
+pub slice_bounds-exp_row-end-2 : goal.slice_bounds-exp_row-end-2
+slice_bounds-exp_row-end-2 c = sym (length-take-le _ _ (omega arith))
+
+pub slice_bounds-exp_row-end-3 : goal.slice_bounds-exp_row-end-3
+slice_bounds-exp_row-end-3 c = sym (length-take-le _ _ (omega arith))
+
+pub exp_row-requires : goal.exp_row-requires
+exp_row-requires c =
+    let xs = c.exponents in
+    let few = c.requires.0 in
+    let n = sym (written _ few xs.new.1.1.1.0 xs.ensures.kept) in
+    (n, room _ few ∙ n, room _ few ∙ n)
+
+pub returns : goal.returns
+returns c =
+    let called = c in
+    let xs = called.before.before.before.before.before.before.exponents in
+    let start = called.before.before.before.before.before.before.before.before.before in
+    discounts_are (drop (length start.args.es.now) zeros) xs.ensures (room _ start.requires.0) called.exp-row.auto.1.0 called.exp-row.ensures

@@ -1,0 +1,19 @@
+-- `bondevents::principal::window_principals` meets its contract: the loop's invariant is `Filling`. Assumes nothing.
+use Prim.Native.Nat.{◌-◌, ◌≤◌}
+use mathlib.Core.Path.{◌≡◌}
+use lib.ListN.{length}
+use lib.Dec.{ltb}
+use lib.Ieee.{nan}
+use Rattle.floats.specs.Answers.{plus_zero}
+use Rattle.bondevents.specs.Calls.{redemptions}
+use Rattle.bondevents.proofs.Filling.{Filling}
+use Rattle.bondevents.proofs.principal.window_principals.Given as goal
+
+abbrev pub invariant-loop-step : goal.invariant-loop-step
+invariant-loop-step l =
+    (l.step ≤ l.steps)
+    × (length l.reached ≡ 256)
+    × Filling (λ k. redemptions (ltb k) l.reached l.kinds l.amounts plus_zero) nan 513 l.step l.table
+
+abbrev pub decreases-loop-step : goal.decreases-loop-step
+decreases-loop-step l = l.steps - l.step

@@ -1,0 +1,25 @@
+-- `until` meets its contract: what was passed is not the byte that stops. Assumes nothing.
+use Prim.Native.Nat.{◌-◌}
+use Rattle.bondline.proofs.Running.{running}
+use Rattle.bondline.proofs.bytes.until.Goals as goal
+
+pub loop-i-init : goal.loop-i-init
+loop-i-init c = search running
+
+pub bounds-text-i : goal.bounds-text-i
+bounds-text-i c = search running
+
+pub returns-then-text-i : goal.returns-then-text-i
+returns-then-text-i c = search running
+
+pub overflow_add-i : goal.overflow_add-i
+overflow_add-i c = search running
+
+pub loop-i-smaller : goal.loop-i-smaller
+loop-i-smaller c = search running
+
+pub loop-i-preserved : goal.loop-i-preserved
+loop-i-preserved c = search running
+
+pub returns : goal.returns
+returns c = search running

@@ -1,0 +1,18 @@
+-- `holdings` meets its contract: in the loop, the bonds before i stand in their places. Assumes nothing.
+use Prim.Native.Nat.{◌-◌}
+use lib.ListN.{length}
+use Rattle.bookchecks.specs.Book.{holding_at}
+use Rattle.bookchecks.specs.laws.Holdings.{Filling, past_end}
+use Rattle.bookchecks.proofs.holdings.holdings.Given as goal
+
+abbrev pub invariant-loop-i : goal.invariant-loop-i
+invariant-loop-i l =
+    Filling
+    (holding_at (record { l.codes = l.codes; l.cashflows = l.cashflows; l.units = l.units; l.calls = l.calls; l.puts = l.puts; per_year = l.yearly; l.maximum = l.maximum; l.spreads = l.spreads; l.desks = l.desks }))
+    past_end
+    32
+    l.i
+    l.table
+
+abbrev pub decreases-loop-i : goal.decreases-loop-i
+decreases-loop-i l = length l.cashflows - l.i

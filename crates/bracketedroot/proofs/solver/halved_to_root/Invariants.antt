@@ -1,0 +1,12 @@
+-- `solver::halved_to_root` meets its contract. Assumes nothing.
+use Rattle.sought.specs.laws.Sought.{tree_parts, sought_at, Rows}
+use Rattle.bracketedroot.proofs.solver.Rounds.{Halving}
+use Rattle.interestrate.proofs.Laws.{prices}
+use Rattle.bracketedroot.proofs.solver.halved_to_root.Given as goal
+
+abbrev pub invariant-loop-left : goal.invariant-loop-left
+invariant-loop-left l =
+    Halving (sought_at l.sought l.days l.amounts (tree_parts l.nodes l.probabilities l.counts l.spacings l.shifts l.cashflows l.marks l.prices)) l.initial.b l.left l.b × Rows l.initial.first l.initial.second l.first l.second
+
+abbrev pub decreases-loop-left : goal.decreases-loop-left
+decreases-loop-left l = l.left

@@ -1,0 +1,12 @@
+-- `listed` meets its contract: in the loop, the entries of the series so far stand in the three rows (`Listing`). Assumes nothing.
+use Prim.Native.Nat.{◌-◌}
+use Rattle.callnotices.proofs.Listing.{Listing}
+use Rattle.callnotices.proofs.entry.listed.Given as goal
+
+abbrev pub invariant-loop-s : goal.invariant-loop-s
+invariant-loop-s l =
+    Listing (record { l.series = l.series; l.versions = l.versions; l.actions = l.actions; l.starts = l.starts; l.ends = l.ends; l.strikes = l.strikes }) l.s l.count l.call_starts l.call_ends l.call_strikes
+
+abbrev pub decreases-loop-s : goal.decreases-loop-s
+decreases-loop-s l =
+    64 - l.s

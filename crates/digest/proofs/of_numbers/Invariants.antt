@@ -1,0 +1,13 @@
+-- `of_numbers` meets its contract. Assumes nothing.
+use Prim.Native.Nat.{◌-◌}
+use lib.ListN.{length, get_or}
+use Rattle.floats.specs.Answers.{plus_zero}
+use Rattle.digest.specs.Digest.{bits_of}
+use Rattle.digest.proofs.Mixing.{Mixing}
+use Rattle.digest.proofs.of_numbers.Given as goal
+
+abbrev pub invariant-loop-i : goal.invariant-loop-i
+invariant-loop-i l = Mixing l.h (λ k. bits_of (get_or l.xs k plus_zero)) (length l.xs) l.d l.i
+
+abbrev pub decreases-loop-i : goal.decreases-loop-i
+decreases-loop-i l = length l.xs - l.i

@@ -1,0 +1,33 @@
+-- `straight_numbers` meets its contract: the checks follow one another as in the definition. Assumes nothing.
+use Rattle.terms.proofs.Laws.{sequence}
+use Rattle.entrychecks.proofs.straight_stages.straight_numbers.Goals as goal
+
+pub spread_range-a-requires : goal.spread_range-a-requires
+spread_range-a-requires c = search sequence
+
+pub enum_told-1 : goal.enum_told-1
+enum_told-1 c = search sequence
+
+pub enum_told-in_default : goal.enum_told-in_default
+enum_told-in_default c = search sequence
+
+pub returns-in_default : goal.returns-in_default
+returns-in_default c = search sequence
+
+pub all_within-b-requires : goal.all_within-b-requires
+all_within-b-requires c = search sequence
+
+pub enum_told-in-Passed-b : goal.enum_told-in-Passed-b
+enum_told-in-Passed-b c = search sequence
+
+pub enum_told-in_default-b : goal.enum_told-in_default-b
+enum_told-in_default-b c = search sequence
+
+pub returns-in_default-b : goal.returns-in_default-b
+returns-in_default-b c = search sequence
+
+pub factor_range-requires : goal.factor_range-requires
+factor_range-requires c = search sequence
+
+pub returns : goal.returns
+returns c = search sequence

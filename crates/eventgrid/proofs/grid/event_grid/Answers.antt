@@ -1,0 +1,29 @@
+-- `bondevents::grid::event_grid` meets its contract: the definition's parts, put together (`Grids`). Assumes nothing.
+use borrow.Author.Rules.{rules}
+use native.Mathlib.Nat.{lt_of_le_of_lt}
+use lib.Dec.{lit<}
+use Rattle.bondevents.proofs.Grids.{bounded, grid-refused, grid-given}
+use Rattle.eventgrid.proofs.grid.event_grid.Goals as goal
+
+pub call_steps-answer-requires : goal.call_steps-answer-requires
+call_steps-answer-requires c =
+    let start = c in
+    (bounded _ _ c.steps_of-steps.ensures start.requires.0.0 start.requires.0.1, start.requires.1)
+
+pub returns-in_default : goal.returns-in_default
+returns-in_default c =
+    grid-refused _ _ _ _ _ _ _ _ c.epoch_of-epoch.ensures c.last_day.ensures c.time_from-maturity.ensures c.steps_of-steps.ensures c.call_steps-answer.ensures c.in_default.is c.zero_grid.ensures
+
+pub paid_into-cashflows-requires : goal.paid_into-cashflows-requires
+paid_into-cashflows-requires c =
+    let start = c in
+    (bounded _ _ c.steps_of-steps.ensures start.requires.0.0 start.requires.0.1, start.requires.1.0.2)
+
+pub overflow_cast-result : goal.overflow_cast-result
+overflow_cast-result c =
+    let start = c in
+    record { fits = lt_of_le_of_lt (bounded _ _ c.steps_of-steps.ensures start.requires.0.0 start.requires.0.1).1 (lit< tt) }
+
+pub returns : goal.returns
+returns c =
+    grid-given _ _ _ _ _ _ _ _ c.epoch_of-epoch.ensures c.last_day.ensures c.time_from-maturity.ensures c.steps_of-steps.ensures c.call_steps-answer.ensures (search rules) c.paid_into-cashflows.ensures

@@ -1,0 +1,12 @@
+-- `pricing::yielded` meets its contract. Assumes nothing.
+use mathlib.Core.Path.{refl}
+use Rattle.filevalue.proofs.Stored.{leg-held}
+use Rattle.filevalue.proofs.pricing.yielded.Goals as goal
+
+pub returns : goal.returns
+returns c =
+    rw (
+      ← leg-held refl refl refl c.cashflows_of-n.ensures c.days_of.ensures c.bytes_of.ensures c.Numbers-of.ensures,
+      ← c.fields_of-f.ensures.settled,
+    )
+    c.yield_from_price.ensures

@@ -1,0 +1,28 @@
+-- `not_finite` meets its contract: a number between the two infinities is finite, and every other is not. Assumes nothing.
+use mathlib.Core.Path.{◌≡◌, refl, ap, ◌∙◌}
+use mathlib.Core.Bool.{true, false, not}
+use mathlib.Core.Logic.{⊎_elim}
+use lib.Ieee.{Float, nan, inf, fin, neg, lt, div, of_bits}
+use Rattle.floats.specs.Answers.{not_finite}
+use Rattle.floats.proofs.finite.not_finite.Goals as goal
+
+-- Above −∞ the second test decides.
+above : (x : Float) → lt (inf true) x ≡ true → not (lt x (inf false)) ≡ not_finite x
+unfolding lt
+above nan e = refl
+above (inf true) e = e
+above (inf false) e = refl
+above (fin s m e) t = refl
+
+-- Nothing finite fails the first test.
+under : (x : Float) → lt (inf true) x ≡ false → true ≡ not_finite x
+unfolding lt
+under nan e = refl
+under (inf s) e = refl
+under (fin s m e) t = t
+
+pub returns : goal.returns
+unfolding neg div of_bits
+returns c =
+    ⊎_elim (λ w. ap not w.1 ∙ above c.args.x w.0.taken) (λ w. ap not (w.1 ∙ w.0.left) ∙ under c.args.x w.0.left)
+    c.if-infinity-x.branch

@@ -1,0 +1,21 @@
+-- `midpoint` meets its contract: the arguments are tested, and the rest is `midpoint_at`. Assumes nothing.
+use Rattle.floats.proofs.Laws.{answers}
+use Rattle.floats.proofs.midpoint.midpoint.Goals as goal
+
+pub not_finite-requires : goal.not_finite-requires
+not_finite-requires c = search answers
+
+pub returns-then-not_finite : goal.returns-then-not_finite
+returns-then-not_finite c = search answers
+
+pub not_finite-requires-2 : goal.not_finite-requires-2
+not_finite-requires-2 c = search answers
+
+pub returns-then-not_finite-2 : goal.returns-then-not_finite-2
+returns-then-not_finite-2 c = search answers
+
+pub midpoint_at-requires : goal.midpoint_at-requires
+midpoint_at-requires c = search answers
+
+pub returns : goal.returns
+returns c = search answers

@@ -1,0 +1,334 @@
+-- `fit::onward` meets its contract. The invariant: what is left from node i on, over the row as it is, is the whole, and the exps of the part that i stands in are kept. Assumes nothing.
+use Prim.Native.Nat.{ℕ, ◌+◌, ◌-◌, ◌*◌, ◌≤◌, ◌<◌}
+use mathlib.Core.Path.{◌≡◌, refl, sym, ◌∙◌}
+use mathlib.Core.Bool.{Bool, false}
+use mathlib.Core.List.{List}
+use native.Mathlib.Omega.{arith}
+use mir.Facts.{to_z-of_z}
+use lib.ListN.{length, get_or, drop, drop_of_length-le}
+use lib.IntN.{ℤ, pos}
+use lib.Ieee.{Float, nan}
+use Rattle.floats.specs.declared.Refusal.{Refusal}
+use Rattle.floats.specs.declared.Answer.{Answer}
+use Rattle.floats.specs.declared.Answer.TheVariants.{Value, Refused}
+use Rattle.floats.specs.Answers.{on_answer}
+use Rattle.terms.specs.declared.Check.{Check}
+use Rattle.terms.specs.declared.Check.TheVariants.{Passed, Refused}
+use Rattle.terms.specs.Outcomes.{Outcome, refused, follow, valued}
+use Rattle.lattice.specs.declared.reach.Reach.{Reach}
+use Rattle.lattice.specs.Layers.{node_float}
+use Rattle.lattice.specs.laws.Stored.{middles_in}
+use Rattle.lattice.specs.laws.StoredAt.{drop_one, drop_two, drop_three, middles_from_lem}
+use Rattle.lattice.specs.laws.Bounds.{Within}
+use Rattle.lattice.specs.laws.Reaching.{reach, nothing_below}
+use Rattle.lattice.specs.laws.Positions.{start_of, Layered, Roomy, Held, roomy_next}
+use Rattle.terms.specs.Checks.{refused_by}
+use Rattle.lattice.specs.laws.Rows.{outcome_of}
+use Rattle.lattice.specs.laws.Binds.{went_on, stopped_at}
+use Rattle.forwardinduction.specs.laws.FitSteps.{discounted_of, add_three, onward_at}
+use Rattle.forwardinduction.specs.laws.Exps.{rate_argument, Kept, kept-none, kept_more, ready-here}
+use Rattle.forwardinduction.proofs.Outcomes.{passes, refuses-call, followed, halted}
+use Rattle.floats.proofs.Laws.{answers}
+use Rattle.forwardinduction.proofs.fit.onward.Goals as goal
+
+module _ (nodes : List ℤ) (probabilities row next₀ : List Float) (flat : Bool) (spacing dt shift : Float) (place : ℕ) where
+  abbrev whole : Outcome (List Float)
+  whole = onward_at spacing dt shift place flat (start_of nodes) nodes probabilities row next₀
+
+  abbrev from : Reach → ℕ → List Float → Outcome (List Float)
+  from r i next = onward_at spacing dt shift place flat r (drop (i * 2) nodes) (drop (i * 3) probabilities) (drop i row) next
+
+  record At (next es : List Float) (good : Bool) (r : Reach) (i : ℕ) : Type 0 where
+    within : i ≤ length row
+    same : length next ≡ length next₀
+    room : Roomy flat (length next₀) r (middles_in (drop (i * 2) nodes))
+    kept : Kept (rate_argument spacing dt shift) nodes (length row) good i es
+    left : from r i next ≡ whole
+
+  module _ (l : Layered flat (length next₀) nodes probabilities (length row)) where
+    start : {r : Reach} {z : ℤ} (es : List Float) → length es ≡ 64 → z ≡ get_or nodes 1 (pos 0) → r ≡ nothing_below z → At next₀ es false r 0
+    start es k e f =
+        rw (f, e) (record { within = omega arith; same = refl; room = l.roomy; kept = kept-none _ _ _ _ _ k; left = refl })
+
+    first : {z : ℤ} → z ≡ get_or nodes 1 (pos 0) → Within z
+    first e = let b : 0 * 2 + 1 < length nodes = omega (arith, l.pairs, l.some-node) in rw e (roomy_next (rw (middles_from_lem nodes 0 b) at l.roomy)).within
+
+module _ {nodes : List ℤ} {probabilities row next₀ next es : List Float} {flat good : Bool} {spacing dt shift : Float} {place i : ℕ} {r : Reach}
+    (a : At nodes probabilities row next₀ flat spacing dt shift place next es good r i) (l : Layered flat (length next₀) nodes probabilities (length row)) where
+  abbrev all : Outcome (List Float)
+  all = whole nodes probabilities row next₀ flat spacing dt shift place
+
+  abbrev onwards : Reach → ℕ → List Float → Outcome (List Float)
+  onwards = from nodes probabilities row next₀ flat spacing dt shift place
+
+  done : length row ≤ i → outcome_of Passed next ≡ all
+  unfolding onward_at
+  done h =
+      let b : length nodes ≤ i * 2 = omega (arith, l.pairs) in
+      passes next ∙ rw (drop_of_length-le nodes b) at a.left
+
+  module _ (h : i < length row) where
+    abbrev number : ℤ
+    number = get_or nodes (i * 2) (pos 0)
+
+    abbrev middle : ℤ
+    middle = get_or nodes (i * 2 + 1) (pos 0)
+
+    held : {z : ℤ} → z ≡ middle → Held flat (length next₀) r z (middles_in (drop ((i + 1) * 2) nodes))
+    held e = let b : i * 2 + 1 < length nodes = omega (arith, l.pairs) in rw e (roomy_next (rw (middles_from_lem nodes i b) at a.room))
+
+    three : Float → Outcome (List Float)
+    three price = add_three place flat r.count (reach r middle).count price (get_or probabilities (i * 3) nan) (get_or probabilities (i * 3 + 1) nan) (get_or probabilities (i * 3 + 2) nan) next
+
+    turn : onwards r i next ≡ valued (discounted_of spacing dt shift place (node_float number) (get_or row i nan)) λ price. follow (three price) λ out. onwards (reach r middle) (i + 1) out
+    unfolding onward_at three
+    turn =
+        let b : i * 2 + 1 < length nodes = omega (arith, l.pairs) in
+        let d : i * 3 + 2 < length probabilities = omega (arith, l.threes) in
+        rw (drop_two nodes (pos 0) i b, drop_three probabilities nan i d, drop_one row nan i h)
+
+    module _ {s : Answer} {z : ℤ} (n : z ≡ number) (w : s ≡ discounted_of spacing dt shift place (node_float z) (get_or row i nan)) where
+      price-stopped : {q : Refusal} (x : List Float) {t : Check} → s ≡ Refused q → t ≡ refused_by s → outcome_of t x ≡ all
+      unfolding on_answer outcome_of
+      price-stopped x v e = rw (e, v) (sym (turn ∙ stopped_at _ _ (rw n at w) v) ∙ a.left)
+
+      module _ {price : Float} (v : s ≡ Value price) {m : ℤ} (g : m ≡ middle) {after : Reach} (k : after ≡ reach r m) where
+        here : onwards r i next ≡ follow (three price) λ out. onwards (reach r middle) (i + 1) out
+        here = turn ∙ went_on _ _ (rw n at w) v
+
+        abbrev added : Outcome (List Float)
+        added = add_three place flat r.count after.count price (get_or probabilities (i * 3) nan) (get_or probabilities (i * 3 + 1) nan) (get_or probabilities (i * 3 + 2) nan) next
+
+        row-stopped : {t : Check} {q : Refusal} (x : List Float) → outcome_of t x ≡ added → t ≡ Refused q → outcome_of t x ≡ all
+        unfolding three
+        row-stopped x o u = refuses-call x u ∙ halted x refused _ (rw (k, g) at o) u refl ∙ sym here ∙ a.left
+
+        stepped : {t : Check} {fs : List Float} {fine : Bool} (x : List Float) → outcome_of t x ≡ added → t ≡ Passed → length x ≡ length next → Kept (rate_argument spacing dt shift) nodes (length row) fine (i + 1) fs
+            → At nodes probabilities row next₀ flat spacing dt shift place x fs fine after (i + 1)
+        unfolding three
+        stepped x o u lx ready =
+            rw (k, g)
+            (record {
+              within = omega arith;
+              same = lx ∙ a.same;
+              room = (held refl).rest;
+              kept = ready;
+              left = followed refused _ (rw (k, g) at o) u refl ∙ sym here ∙ a.left;
+            })
+
+pub bounds-nodes-1 : goal.bounds-nodes-1
+bounds-nodes-1 c =
+    let p = c.requires in
+    omega (arith, p.pairs, p.threes, p.some-node)
+
+pub nothing_below-r-requires : goal.nothing_below-r-requires
+nothing_below-r-requires c =
+    let a = c.args in
+    first a.nodes.now a.probabilities.now a.row.now a.next.now a.flat a.spacing a.dt a.shift a.place c.requires (to_z-of_z (record { sfits = c.nothing_below-arg-1.given }))
+
+pub loop-i-init : goal.loop-i-init
+loop-i-init c =
+    let a = c.args in
+    start a.nodes.now a.probabilities.now a.row.now a.next.now a.flat a.spacing a.dt a.shift a.place c.requires _ refl (to_z-of_z (record { sfits = c.nothing_below-arg-1.given })) c.nothing_below-r.ensures
+
+pub slice_bounds-discounts-end : goal.slice_bounds-discounts-end
+slice_bounds-discounts-end c = sym c.loop-i.invariant.kept.full
+
+pub discounts-good-requires : goal.discounts-good-requires
+discounts-good-requires c = (c.requires.pairs, c.loop-i-test.true, c.loop-i.invariant.kept)
+
+pub overflow_mul-node : goal.overflow_mul-node
+overflow_mul-node c = search answers
+
+pub offset_bounds-nodes-i : goal.offset_bounds-nodes-i
+offset_bounds-nodes-i c = search answers
+
+pub bounds-nodes-i : goal.bounds-nodes-i
+bounds-nodes-i c = search answers
+
+pub overflow_mul-middle : goal.overflow_mul-middle
+overflow_mul-middle c = search answers
+
+pub overflow_add-middle : goal.overflow_add-middle
+overflow_add-middle c = search answers
+
+pub offset_bounds-nodes-i-in-loop-i : goal.offset_bounds-nodes-i-in-loop-i
+offset_bounds-nodes-i-in-loop-i c = search answers
+
+pub bounds-nodes-i-in-loop-i : goal.bounds-nodes-i-in-loop-i
+bounds-nodes-i-in-loop-i c = search answers
+
+pub offset_bounds-es-i : goal.offset_bounds-es-i
+offset_bounds-es-i c = search answers
+
+pub bounds-es-i : goal.bounds-es-i
+bounds-es-i c = search answers
+
+pub int_to_float-node : goal.int_to_float-node
+int_to_float-node c = tt
+
+pub offset_bounds-row-i : goal.offset_bounds-row-i
+offset_bounds-row-i c = search answers
+
+pub bounds-row-i : goal.bounds-row-i
+bounds-row-i c = search answers
+
+pub discounted-d-requires : goal.discounted-d-requires
+discounted-d-requires c =
+    let exps = c in
+    let test = exps.before.before in
+    let entry = test.before.before.before.before.before.before.before in
+    let number = to_z-of_z (record { sfits = c.node-1.given }) in
+    let a = entry.args in
+    let f = rate_argument a.spacing a.dt a.shift in
+    ready-here f a.nodes.now (length a.row.now) a.place exps.discounts.ensures test.loop-test.true number
+
+pub enum_known-d : goal.enum_known-d
+enum_known-d c = c.in-Value.keys1
+
+pub enum_told-1 : goal.enum_told-1
+enum_told-1 c = c.in_default.keys2
+
+pub refused_by-requires : goal.refused_by-requires
+refused_by-requires c = tt
+
+pub shape_of-next-in_default : goal.shape_of-next-in_default
+shape_of-next-in_default c = search answers
+
+pub returns-in_default : goal.returns-in_default
+returns-in_default c =
+    let read = c in
+    let test = read.before.before.before.before in
+    let head = test.before in
+    let entry = head.before.before.before.before.before.before in
+    let number = to_z-of_z (record { sfits = read.node.given }) in
+    let l = head.loop in
+    price-stopped l.invariant entry.requires test.loop-test.true number c.discounted-d.ensures _ c.in_default.is c.refused_by.ensures
+
+pub reached-after-requires : goal.reached-after-requires
+reached-after-requires c =
+    let read = c in
+    let test = read.before.before.before.before.before in
+    let head = test.before in
+    let entry = head.before.before.before.before.before.before in
+    let middle = to_z-of_z (record { sfits = read.middle.given }) in
+    let h = held head.loop.invariant entry.requires test.loop-test.true middle in
+    (omega (arith, h.counted, entry.well-formed), h.within)
+
+pub overflow_mul-i : goal.overflow_mul-i
+overflow_mul-i c = search answers
+
+pub offset_bounds-probabilities-i : goal.offset_bounds-probabilities-i
+offset_bounds-probabilities-i c =
+    let test = c in
+    let entry = test.before.before.before.before.before.before.before in
+    omega (arith, test.loop-test.true, entry.requires.threes, entry.well-formed)
+
+pub bounds-probabilities-i : goal.bounds-probabilities-i
+bounds-probabilities-i c = search answers
+
+pub overflow_mul-i-in-loop-i : goal.overflow_mul-i-in-loop-i
+overflow_mul-i-in-loop-i c = search answers
+
+pub overflow_add-i : goal.overflow_add-i
+overflow_add-i c = search answers
+
+pub offset_bounds-probabilities-i-in-loop-i : goal.offset_bounds-probabilities-i-in-loop-i
+offset_bounds-probabilities-i-in-loop-i c =
+    let test = c in
+    let entry = test.before.before.before.before.before.before.before in
+    omega (arith, test.loop-test.true, entry.requires.threes, entry.well-formed)
+
+pub bounds-probabilities-i-in-loop-i : goal.bounds-probabilities-i-in-loop-i
+bounds-probabilities-i-in-loop-i c = search answers
+
+pub overflow_mul-i-in-loop-i-2 : goal.overflow_mul-i-in-loop-i-2
+overflow_mul-i-in-loop-i-2 c = search answers
+
+pub overflow_add-i-in-loop-i : goal.overflow_add-i-in-loop-i
+overflow_add-i-in-loop-i c = search answers
+
+pub offset_bounds-probabilities-i-in-loop-i-2 : goal.offset_bounds-probabilities-i-in-loop-i-2
+offset_bounds-probabilities-i-in-loop-i-2 c =
+    let test = c in
+    let entry = test.before.before.before.before.before.before.before in
+    omega (arith, test.loop-test.true, entry.requires.threes, entry.well-formed)
+
+pub bounds-probabilities-i-in-loop-i-2 : goal.bounds-probabilities-i-in-loop-i-2
+bounds-probabilities-i-in-loop-i-2 c = search answers
+
+pub add_three-a-requires : goal.add_three-a-requires
+add_three-a-requires c =
+    let after = c in
+    let read = after.before.before.before.before.before.before.before in
+    let test = read.before.before.before.before.before in
+    let head = test.before in
+    let entry = head.before.before.before.before.before.before in
+    let middle = to_z-of_z (record { sfits = read.middle.given }) in
+    let l = head.loop in
+    let h = held l.invariant entry.requires test.loop-test.true middle in
+    rw after.reached.ensures (h.three, rw l.invariant.same h.spot)
+
+pub enum_told-in-Passed : goal.enum_told-in-Passed
+enum_told-in-Passed c = c.in-Passed.keys1
+
+pub enum_told-in_default-a : goal.enum_told-in_default-a
+enum_told-in_default-a c = c.in_default-a.keys2
+
+pub shape_of-next-in_default-a : goal.shape_of-next-in_default-a
+shape_of-next-in_default-a c = search answers
+
+pub returns-in_default-a : goal.returns-in_default-a
+returns-in_default-a c =
+    let sum = c in
+    let after = sum.before.before.before.before.before in
+    let worth = after.before.before.before.before in
+    let read = worth.before.before.before in
+    let test = read.before.before.before.before.before in
+    let head = test.before in
+    let entry = head.before.before.before.before.before.before in
+    let number = to_z-of_z (record { sfits = read.before.node.given }) in
+    let middle = to_z-of_z (record { sfits = read.middle.given }) in
+    let price = worth.discounted.ensures in
+    let value = after.before.before.d.given.1 in
+    let taken = test.loop-test.true in
+    let added = sum.add-three in
+    row-stopped head.loop.invariant entry.requires taken number price value middle after.reached.ensures _ added.ensures c.in_default-a.is
+
+pub overflow_add-i-in-loop-i-2 : goal.overflow_add-i-in-loop-i-2
+overflow_add-i-in-loop-i-2 c =
+    let test = c in
+    let entry = test.before.before.before.before.before.before.before in
+    let taken = test.loop-test.true in
+    omega (arith, taken, entry.well-formed)
+
+pub loop-i-smaller : goal.loop-i-smaller
+loop-i-smaller c = search answers
+
+pub loop-i-preserved : goal.loop-i-preserved
+loop-i-preserved c =
+    let sum = c in
+    let after = sum.before.before.before.before.before in
+    let worth = after.before.before.before.before in
+    let read = worth.before.before.before in
+    let refill = read.before.before.before in
+    let test = refill.before.before in
+    let head = test.before in
+    let entry = head.before.before.before.before.before.before in
+    let number = to_z-of_z (record { sfits = read.before.node.given }) in
+    let middle = to_z-of_z (record { sfits = read.middle.given }) in
+    let price = worth.discounted.ensures in
+    let value = after.before.before.d.given.1 in
+    let taken = test.loop-test.true in
+    let l = head.loop in
+    let exps = refill.discounts in
+    let kept = kept_more _ _ _ (exps.auto.1.1.1.1.1.1.1.0 ∙ l.invariant.kept.full) exps.ensures in
+    let added = sum.add-three in
+    stepped l.invariant entry.requires taken number price value middle after.reached.ensures _ added.ensures c.in-Passed.is added.auto.0 kept
+
+pub shape_of-next : goal.shape_of-next
+shape_of-next c = search answers
+
+pub returns : goal.returns
+returns c =
+    done c.loop-i.invariant c.requires c.loop-i-test.false

@@ -1,0 +1,18 @@
+-- `curved::decay_of` meets its contract. Assumes nothing.
+use Rattle.floats.proofs.Laws.{answers}
+use Rattle.latticetransitions.proofs.curved.decay_of.Goals as goal
+
+pub not_finite-requires : goal.not_finite-requires
+not_finite-requires c = tt
+
+pub overflow-requires : goal.overflow-requires
+overflow-requires c = tt
+
+pub returns-then-not_finite : goal.returns-then-not_finite
+returns-then-not_finite c = search answers
+
+pub exp_at-requires : goal.exp_at-requires
+exp_at-requires c = tt
+
+pub returns : goal.returns
+returns c = search answers

@@ -1,0 +1,63 @@
+-- `grow` meets its contract: by the case of the step, which is upright where it is made, and knows the transitions of the layer before where that was made alike. Assumes nothing.
+use Prim.Native.Nat.{◌*◌}
+use mathlib.Core.Path.{refl, sym}
+use lib.ListN.{drop}
+use Rattle.terms.specs.laws.Outcomes.{given_of}
+use Rattle.lattice.specs.laws.Stored.{numbers_in}
+use Rattle.lattice.specs.laws.Laid.{front_nodes}
+use Rattle.lattice.specs.laws.NextLayer.{step-sound, upright}
+use Rattle.lattice.specs.laws.Growing.{room_left}
+use Rattle.lattice.specs.laws.Grown.{grown-refused, next_given, next_refused}
+use Rattle.layers.specs.laws.Known.{known_of, known-few}
+use Rattle.layers.specs.laws.Behind.{untouched}
+use Rattle.layers.proofs.grow.grow.Goals as goal
+
+pub step_of-made-requires : goal.step_of-made-requires
+step_of-made-requires c = tt
+
+pub enum_known-made : goal.enum_known-made
+enum_known-made c = c.in-Made.keys1
+
+pub enum_told-1 : goal.enum_told-1
+enum_told-1 c = c.in_default.keys2
+
+pub refusal-requires : goal.refusal-requires
+refusal-requires c = tt
+
+pub returns-in_default : goal.returns-in_default
+returns-in_default c =
+    let a = c.args in
+    let m = sym (rw c.in_default.is at (c.step_of-made.ensures.step a.spacing a.decay)) in
+    let d = drop (a.before * 2) a.nodes.now in
+    let q = drop (a.before * 3) a.probabilities.now in
+    let room = room_left d q a.one a.two in
+    let n = next_refused room a.decay a.spacing (numbers_in (front_nodes a.count d)) a.step a.variance m in
+    rw (c.refusal.ensures, c.in_default.is) (record { grown = grown-refused _ a.count d d q q n refl refl; behind = untouched a.before a.nodes.now a.probabilities.now })
+
+pub known_count-known-requires : goal.known_count-known-requires
+known_count-known-requires c = tt
+
+pub grow_by-requires : goal.grow_by-requires
+grow_by-requires c =
+    let a = c.args in
+    let p = c.requires in
+    let f = p.0.0 in
+    let m = sym (rw c.in-Made.is at (c.step_of-made.ensures.step a.spacing a.decay)) in
+    let k = c.known_count-known.ensures in
+    let u = upright (given_of (step-sound a.spacing a.decay a.variance a.step) m) f.spacing-above f.decay-above in
+    ((f, u, p.0.1), (known-few k, known_of k p.1 a.step m))
+
+pub shape_of-nodes : goal.shape_of-nodes
+shape_of-nodes c = c.grow_by.ensures.behind.kept
+
+pub shape_of-probabilities : goal.shape_of-probabilities
+shape_of-probabilities c = c.grow_by.ensures.behind.kept_too
+
+pub returns : goal.returns
+returns c =
+    let a = c.args in
+    let m = sym (rw c.in-Made.is at (c.step_of-made.ensures.step a.spacing a.decay)) in
+    let d = drop (a.before * 2) a.nodes.now in
+    let q = drop (a.before * 3) a.probabilities.now in
+    let room = room_left d q a.one a.two in
+    rw (next_given room a.decay a.spacing (numbers_in (front_nodes a.count d)) a.variance m) c.grow_by.ensures

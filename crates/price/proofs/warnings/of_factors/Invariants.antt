@@ -1,0 +1,10 @@
+-- `price::warnings::of_factors` is safe and ends: nothing has to hold from turn to turn. Assumes nothing.
+use Prim.Native.Nat.{◌-◌}
+use lib.ListN.{length}
+use Rattle.price.proofs.warnings.of_factors.Given as goal
+
+abbrev pub invariant-loop-i : goal.invariant-loop-i
+invariant-loop-i l = Unit {0}
+
+abbrev pub decreases-loop-i : goal.decreases-loop-i
+decreases-loop-i l = length l.factors - i

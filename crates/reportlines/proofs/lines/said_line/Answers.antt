@@ -1,0 +1,6 @@
+-- `lines::said_line` meets its contract. Assumes nothing.
+
+use Rattle.reportlines.proofs.lines.said_line.Goals as goal
+
+pub returns : goal.returns
+returns c = cc

@@ -1,0 +1,24 @@
+-- `sized` meets its contract: by the case of what was found. Assumes nothing.
+use native.Mathlib.Omega.{arith}
+use Rattle.sizing.proofs.entry.sized.Goals as goal
+
+pub enum_known-found : goal.enum_known-found
+enum_known-found c = c.in-Found.keys1
+
+pub enum_told-1 : goal.enum_told-1
+enum_told-1 c = c.in_default.keys2
+
+pub refusal-requires : goal.refusal-requires
+refusal-requires c = tt
+
+pub returns-in_default : goal.returns-in_default
+returns-in_default c = rw (c.refusal.ensures, c.in_default.is)
+
+pub overflow_mul-result : goal.overflow_mul-result
+overflow_mul-result c = let h = c.requires.few _ _ c.in-Found.is in record { fits = omega arith }
+
+pub overflow_mul-result-2 : goal.overflow_mul-result-2
+overflow_mul-result-2 c = record { fits = c.requires.few _ _ c.in-Found.is }
+
+pub returns : goal.returns
+returns c = rw c.in-Found.is

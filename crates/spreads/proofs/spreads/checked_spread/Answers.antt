@@ -1,0 +1,33 @@
+-- `checked_spread` meets its contract: the grid, then the root (`SpreadSolved`). Assumes nothing.
+use Rattle.treebasedbondpricer.specs.laws.Entered.{steps_of-grid}
+use Rattle.spreads.specs.laws.SpreadSolved.{root_unchecked, root-checked}
+use Rattle.spreads.proofs.spreads.checked_spread.Goals as goal
+
+pub enum_known-check : goal.enum_known-check
+enum_known-check c = c.in-Refused.keys1
+
+pub returns-in-Refused : goal.returns-in-Refused
+returns-in-Refused c = root_unchecked _ _ _ c.event_grid-answer.ensures c.in-Refused.is
+
+pub enum_told-1 : goal.enum_told-1
+enum_told-1 c = c.in_default.keys2
+
+pub solve_grid-requires : goal.solve_grid-requires
+solve_grid-requires c =
+    let start = c in
+    steps_of-grid _ _ _ _ c.event_grid-answer.ensures c.in_default.is start.requires.0.0 start.requires.0.1
+
+pub shape_of-nodes : goal.shape_of-nodes
+shape_of-nodes c = c.solve_grid.auto.1.1.1.1.1.1.1.0
+
+pub shape_of-probabilities : goal.shape_of-probabilities
+shape_of-probabilities c = c.solve_grid.auto.1.1.1.1.1.1.1.1.0
+
+pub shape_of-first : goal.shape_of-first
+shape_of-first c = c.solve_grid.auto.1.1.1.1.1.1.1.1.1.0
+
+pub shape_of-second : goal.shape_of-second
+shape_of-second c = c.solve_grid.auto.1.1.1.1.1.1.1.1.1.1.0
+
+pub returns : goal.returns
+returns c = root-checked _ _ _ c.event_grid-answer.ensures c.requires.curve_times_value c.in_default.is c.solve_grid.ensures

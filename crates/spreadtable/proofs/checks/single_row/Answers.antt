@@ -1,0 +1,29 @@
+-- `single_row` meets its contract. Assumes nothing.
+use mathlib.Core.Path.{refl, sym, ◌∙◌}
+use Rattle.terms.specs.laws.EntryChecks.{tree-grid, tree-few-pillars}
+use Rattle.bondevents.proofs.Grids.{settled, leg-sized, calls-sized, puts-sized}
+use Rattle.spreadtable.specs.laws.Refusing.{terms_of, calls_of_lem, row_unchecked, row-checked}
+use Rattle.treebasedbondpricer.specs.Tree.{room_of}
+use Rattle.spreadtable.proofs.Lanes.{lent_of}
+use Rattle.spreadtable.proofs.checks.single_row.Goals as goal
+
+pub returns-in_default : goal.returns-in_default
+returns-in_default c =
+    let a = c.args in
+    row_unchecked (terms_of a.settlement a.days.now a.kinds.now a.amounts.now a.units (calls_of_lem a.put-starts.now a.put-ends.now a.put-strikes.now) a.yearly a.maximum a.alpha a.times.now a.sigmas.now a.pillars.now a.factors.now) (calls_of_lem a.starts.now a.ends.now a.strikes.now) a.w a.spreads.now (room_of (lent_of a.nodes.now a.probabilities.now a.first.now a.second.now)) c.tree_checks-check.ensures c.in_default.is c.unchecked_row.ensures refl
+
+pub checked_row-requires : goal.checked_row-requires
+checked_row-requires c =
+    let p = c.requires in
+    let all = sym c.tree_checks-check.ensures ∙ c.in-Passed.is in
+    let passed = sym (tree-grid _ _ all) in
+    let steps = settled _ _ _ _ passed refl in
+    let leg = leg-sized _ _ _ _ passed refl in
+    let calls = (calls-sized _ _ _ _ passed refl).entries in
+    let puts = (puts-sized _ _ _ _ passed refl).entries in
+    (p.0, ((steps.some-steps, steps.few-steps), ((leg.few, leg.kinds_too, leg.amounts_too), ((calls.ends_too, calls.strikes_too), ((puts.ends_too, puts.strikes_too), p.1.timed (tree-few-pillars _ _ all))))))
+
+pub returns : goal.returns
+returns c =
+    let a = c.args in
+    row-checked (terms_of a.settlement a.days.now a.kinds.now a.amounts.now a.units (calls_of_lem a.put-starts.now a.put-ends.now a.put-strikes.now) a.yearly a.maximum a.alpha a.times.now a.sigmas.now a.pillars.now a.factors.now) (calls_of_lem a.starts.now a.ends.now a.strikes.now) a.w a.spreads.now (room_of (lent_of a.nodes.now a.probabilities.now a.first.now a.second.now)) c.tree_checks-check.ensures c.in-Passed.is c.checked_row.ensures

@@ -1,0 +1,20 @@
+-- `checked_row` meets its contract. Assumes nothing.
+use Rattle.treebasedbondpricer.specs.laws.Entered.{steps_of-grid}
+use Rattle.spreadtable.specs.laws.FittedOnce.{grid-stopped, grid-walked}
+use Rattle.spreadtable.proofs.fits.checked_row.Goals as goal
+
+pub event_grid-answer-requires : goal.event_grid-answer-requires
+event_grid-answer-requires c = let p = c.requires in (p.1.0, (p.1.1.0, (p.1.1.1.0, p.1.1.1.1.0)))
+
+pub returns-in-Refused : goal.returns-in-Refused
+returns-in-Refused c = grid-stopped _ _ _ c.args.w c.args.spreads.now c.event_grid-answer.ensures c.in-Refused.is c.stopped_row.ensures
+
+pub row_on-requires : goal.row_on-requires
+row_on-requires c =
+    let p = c.requires in
+    (p.0, steps_of-grid _ _ _ _ c.event_grid-answer.ensures c.in_default.is p.1.0.0 p.1.0.1)
+
+pub returns : goal.returns
+returns c =
+    let start = c in
+    grid-walked _ _ _ start.args.w start.args.spreads.now c.event_grid-answer.ensures start.requires.1.1.1.1.1 c.in_default.is c.row_on.ensures

@@ -1,0 +1,13 @@
+-- `walks::walked_cell` meets its contract. Assumes nothing.
+use lib.Ieee.{of_int, of_bits}
+use Rattle.floats.proofs.Laws.{answers}
+use Rattle.spreadtable.proofs.Texts.{walked_as}
+use Rattle.spreadtable.proofs.walks.walked_cell.Goals as goal
+
+pub returns-then-not_within : goal.returns-then-not_within
+unfolding of_int of_bits
+returns-then-not_within c = search answers
+
+pub returns : goal.returns
+unfolding of_int of_bits
+returns c = search (walked_as, answers)

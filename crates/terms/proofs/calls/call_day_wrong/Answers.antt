@@ -1,0 +1,27 @@
+-- `call_day_wrong` meets its contract: each test of the code is the definition's, in its order. Assumes nothing.
+use Rattle.terms.proofs.Laws.{tests}
+use Rattle.terms.proofs.calls.call_day_wrong.Goals as goal
+
+pub offset_bounds-starts-i : goal.offset_bounds-starts-i
+offset_bounds-starts-i c = search tests
+
+pub bounds-starts-i : goal.bounds-starts-i
+bounds-starts-i c = search tests
+
+pub no_day-requires : goal.no_day-requires
+no_day-requires c = search tests
+
+pub returns-then-no_day : goal.returns-then-no_day
+returns-then-no_day c = search tests
+
+pub offset_bounds-ends-i : goal.offset_bounds-ends-i
+offset_bounds-ends-i c = search tests
+
+pub bounds-ends-i : goal.bounds-ends-i
+bounds-ends-i c = search tests
+
+pub no_day-requires-2 : goal.no_day-requires-2
+no_day-requires-2 c = search tests
+
+pub returns : goal.returns
+returns c = search tests

@@ -1,0 +1,12 @@
+-- `leg_count` meets its contract: the counts are tested, and the one cause becomes the check. Assumes nothing.
+use Rattle.terms.proofs.Laws.{tests}
+use Rattle.terms.proofs.counts.leg_count.Goals as goal
+
+pub three_wrong-requires : goal.three_wrong-requires
+three_wrong-requires c = search tests
+
+pub single-requires : goal.single-requires
+single-requires c = search tests
+
+pub returns : goal.returns
+returns c = search tests

@@ -1,0 +1,11 @@
+-- `curve_at` meets its contract: in the loop, the time is not before pillar i, and what is left of the curve from there on is the whole. Assumes nothing.
+use Prim.Native.Nat.{◌-◌}
+use lib.ListN.{length}
+use Rattle.terms.proofs.Curving.{Curving}
+use Rattle.terms.proofs.curve.curve_at.Given as goal
+
+abbrev pub invariant-loop-i : goal.invariant-loop-i
+invariant-loop-i l = Curving l.t l.place l.times l.factors l.i
+
+abbrev pub decreases-loop-i : goal.decreases-loop-i
+decreases-loop-i l = length l.times - l.i

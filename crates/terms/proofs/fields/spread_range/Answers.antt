@@ -1,0 +1,11 @@
+-- `spread_range` meets its contract: the limit in the code is the definition's. Assumes nothing.
+use lib.Ieee.{of_int, of_bits}
+use Rattle.terms.proofs.Laws.{tests}
+use Rattle.terms.proofs.fields.spread_range.Goals as goal
+
+pub within-requires : goal.within-requires
+within-requires c = search tests
+
+pub returns : goal.returns
+unfolding of_int of_bits
+returns c = c.within.ensures
