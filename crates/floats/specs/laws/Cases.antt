@@ -26,16 +26,16 @@ abbrev pub RefusedOnly : (ℕ → Type 0) → Answer → Type 0
 RefusedOnly P (Value x) = Unit
 RefusedOnly P (Refused r) = P r.number
 
-pub value-only : {P : ℕ → Type 0} (x : Float) → Holds (RefusedOnly P) (Value x)
-value-only x = record { it = tt }
+pub value-only : (P : ℕ → Type 0) (x : Float) → Holds (RefusedOnly P) (Value x)
+value-only P x = record { it = tt }
 
-pub refused-only : {P : ℕ → Type 0} (r : Refusal) → P r.number → Holds (RefusedOnly P) (Refused r)
-refused-only r h = record { it = h }
+pub refused-only : (P : ℕ → Type 0) (r : Refusal) → P r.number → Holds (RefusedOnly P) (Refused r)
+refused-only P r h = record { it = h }
 
 -- andThen
-pub then_only : {P : ℕ → Type 0} (a : Answer) (k : Float → Answer) → Holds (RefusedOnly P) a → ((x : Float) → Holds (RefusedOnly P) (k x)) → Holds (RefusedOnly P) (on_answer a Refused k)
+pub then_only : (P : ℕ → Type 0) (a : Answer) (k : Float → Answer) → Holds (RefusedOnly P) a → ((x : Float) → Holds (RefusedOnly P) (k x)) → Holds (RefusedOnly P) (on_answer a Refused k)
 unfolding on_answer
-then_only (Value x) k h q = q x
-then_only (Refused r) k h q = h
+then_only P (Value x) k h q = q x
+then_only P (Refused r) k h q = h
 
 pub ruleset refusing = (of_cond, value-only, refused-only, then_only)

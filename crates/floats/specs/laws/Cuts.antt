@@ -92,6 +92,8 @@ room m a l E h =
 
 -- a value that the format holds and that is a whole number is what that number rounds to
 exact-whole : (f : Format) (x : Float) (s : Bool) (n : ℕ) → T (fits f x) → HasValue x s n 1 → HasValue (round f s n 1) s n 1
+exact-whole f nan s n p v = elim v [ ]
+exact-whole f (inf _) s n p v = elim v [ ]
 exact-whole f (fin t zero e) s n p v =
     let z : n ≡ 0 = zero_of n (down e) (down_pos e) (sym v.1 ∙ mul-one (0 * up e) ∙ zero-mul (up e)) in
     round_whole f s n (le_trans (le_of_eq z) zero-le)

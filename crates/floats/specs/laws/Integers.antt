@@ -5,7 +5,7 @@ use Rattle.std.specs.Bool.{beq}
 use Rattle.std.proofs.Math.Nat.{mul-sub}
 use Rattle.std.proofs.lemmas.Bool.{lt-leb}
 use Rattle.std.proofs.Math.Dec.{nleb→lt}
-use Rattle.std.specs.Float.{fin, Format}
+use Rattle.std.specs.Float.{nan, inf, fin, Format}
 use Rattle.std.specs.Float.Ieee.{up, down, minus, round, sum, add}
 use Rattle.std.specs.Float.Ieee.Fits.{down_pos}
 use Rattle.std.specs.Float.Ieee.Exact.{HasValue}
@@ -69,6 +69,10 @@ sum-scale f s a t b d h = go (beq s t)
 
 pub add-whole : (f : Format) (x y : Float) (s : Bool) (a : ℕ) (t : Bool) (b : ℕ) → HasValue x s a 1 → HasValue y t b 1 → add f x y ≡ sum f s a t b 1
 unfolding add
+add-whole f nan y s a t b v w = elim v [ ]
+add-whole f (inf _) y s a t b v w = elim v [ ]
+add-whole f (fin s' m e) nan s a t b v w = elim w [ ]
+add-whole f (fin s' m e) (inf _) s a t b v w = elim w [ ]
 add-whole f (fin s' m e) (fin t' n d) s a t b v w =
     let p : m * up e * down d ≡ a * (down e * down d) = sym (ap (λ (z : ℕ). z * down d) (mul-one (m * up e))) ∙ ap (λ (z : ℕ). z * down d) v.1 ∙ mul_assoc a (down e) (down d) in
     let q : n * up d * down e ≡ b * (down e * down d) = sym (ap (λ (z : ℕ). z * down e) (mul-one (n * up d))) ∙ ap (λ (z : ℕ). z * down e) w.1 ∙ mul_assoc b (down d) (down e) ∙ ap (λ (z : ℕ). b * z) (mul_comm (down d) (down e)) in

@@ -5,6 +5,7 @@ use mathlib.Core.Logic.{⊎_elim}
 use lib.Ieee.{Float, nan, inf, fin, neg, lt, div, of_bits}
 use Rattle.floats.specs.Answers.{not_finite}
 use Rattle.floats.proofs.finite.not_finite.Goals as goal
+use Rattle.floats.proofs.finite.not_finite.Goals.{then-infinity-x, else-infinity-x}
 
 -- Above −∞ the second test decides.
 above : (x : Float) → lt (inf true) x ≡ true → not (lt x (inf false)) ≡ not_finite x
@@ -24,5 +25,7 @@ under (fin s m e) t = t
 pub returns : goal.returns
 unfolding neg div of_bits
 returns c =
-    ⊎_elim (λ w. ap not w.1 ∙ above c.args.x w.0.taken) (λ w. ap not (w.1 ∙ w.0.left) ∙ under c.args.x w.0.left)
-    c.if-infinity-x.branch
+    elim c.if-infinity-x.branch [
+      | then-infinity-x w ↦ ap not w.result-is ∙ above c.args.x w.if-infinity-x.true
+      | else-infinity-x w ↦ ap not (w.result-is ∙ w.if-infinity-x.false) ∙ under c.args.x w.if-infinity-x.false
+    ]
