@@ -57,4 +57,4 @@ module _ (m : ℤ) (w : Within m) where
   two_less_fits = rw (back-numbered (within-numbered w), minus_two_lem m) (let h = two_less_size in record { sfits = omega arith })
 
   pub two_less_is : back (back m -ℤ pos 2) ≡ pred_ℤ (pred_ℤ m)
-  two_less_is = rw (back-numbered (within-numbered w), minus_two_lem m) (to_z-of_z (let h = two_less_size in record { sfits = omega arith }))
+  two_less_is = rw (back-numbered (within-numbered w), minus_two_lem m) (to_z-of_z {w = w32} (let h = two_less_size in record { sfits = omega arith }))

@@ -27,7 +27,7 @@ up_to-pos (suc m) n = let e : suc (suc m) + n ≡ suc (suc m + n) = omega arith 
 up_negsuc : (n g : ℕ) → up (negsuc (n + g)) g ≡ negsuc n
 unfolding up
 up_negsuc n zero = let e : n + 0 ≡ n = omega arith in ap negsuc e
-up_negsuc n (suc g) = let e : n + suc g ≡ suc (n + g) = omega arith in rw e (sym (up_shift (negsuc (suc (n + g))) g) ∙ up_negsuc n g)
+up_negsuc n (suc g) = let e : n + suc g ≡ suc (n + g) = omega arith in subst (λ (k : ℕ). up (negsuc k) (suc g) ≡ negsuc n) (sym e) (sym (up_shift (negsuc (suc (n + g))) g) ∙ up_negsuc n g)
 
 pub gap_of : (a b : ℤ) → T (le_z a b) → Gap a b
 gap_of (pos m) (pos n) h =

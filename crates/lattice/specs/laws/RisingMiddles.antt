@@ -210,12 +210,12 @@ alone m = at_base Alone based_alone m
 pub around-laid : (c : ℕ) (m : ℤ) (ms : List ℤ) → Rising m ms → around (m ∷ ms) ≡ pred_ℤ m ∷ m ∷ suc_ℤ m ∷ laid (done_at m c) ms
 unfolding around laid Alone Into
 around-laid c m [] ends = alone m
-around-laid c m (m' ∷ ms) (next g r) = rw (around-laid (grew c g) (up m g) ms r, reach-gap c g m) (into_gap c g (laid (done_at (up m g) (grew c g)) ms) m)
+around-laid c m ms' (next {ms = ms} g r) = rw (around-laid (grew c g) (up m g) ms r, reach-gap c g m) (into_gap c g (laid (done_at (up m g) (grew c g)) ms) m)
 
 laid-climbs : (c : ℕ) (m : ℤ) (ms : List ℤ) → Rising m ms → Climbs (suc_ℤ m) (laid (done_at m c) ms)
 unfolding laid Climbing
 laid-climbs c m [] ends = none
-laid-climbs c m (m' ∷ ms) (next g r) =
+laid-climbs c m ms' (next {ms = ms} g r) =
     rw (reach-gap c g m) (climb_gap c g (laid (done_at (up m g) (grew c g)) ms) m (laid-climbs (grew c g) (up m g) ms r))
 
 -- It rises.

@@ -22,25 +22,25 @@ not_finite-requires c = tt
 pub returns-then-not_finite : goal.returns-then-not_finite
 returns-then-not_finite c =
     let a = c.args in
-    let s = step_from a.spacing a.decay a.new_spacing_lem plus_zero plus_zero a.place in
+    let s = step_from a.spacing a.decay a.new_spacing plus_zero plus_zero a.place in
     rw (c.overflow_refusal-not_finite_here.ensures, ← to_z-of_z c.ranges.node) (quotient-stopped s (back a.node) (sym c.not_finite.ensures ∙ c.if-not_finite.true))
 
 pub near-middle-requires : goal.near-middle-requires
 near-middle-requires c =
     let a = c.args in
-    let s = step_from a.spacing a.decay a.new_spacing_lem plus_zero plus_zero a.place in
+    let s = step_from a.spacing a.decay a.new_spacing plus_zero plus_zero a.place in
     finite_by_call (quotient_of s (back a.node)) c.not_finite.ensures c.if-not_finite.false
 
 pub held-requires : goal.held-requires
 held-requires c =
     let a = c.args in
-    let s = step_from a.spacing a.decay a.new_spacing_lem plus_zero plus_zero a.place in
+    let s = step_from a.spacing a.decay a.new_spacing plus_zero plus_zero a.place in
     let q = quotient_of s (back a.node) in
     rw c.near-middle.ensures (rounded-whole q (search rules) (finite_by_call q c.not_finite.ensures c.if-not_finite.false))
 
 pub returns : goal.returns
 returns c =
     let a = c.args in
-    let s = step_from a.spacing a.decay a.new_spacing_lem plus_zero plus_zero a.place in
+    let s = step_from a.spacing a.decay a.new_spacing plus_zero plus_zero a.place in
     let e = sym c.not_finite.ensures ∙ c.if-not_finite.false in
     rw (← to_z-of_z c.ranges.node, from_quotient s (back a.node) (search rules) e) (rw c.near-middle.ensures at c.held.ensures)

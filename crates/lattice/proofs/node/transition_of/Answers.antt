@@ -8,21 +8,15 @@ use Rattle.lattice.proofs.node.transition_of.Goals as goal
 pub middle_of-made-requires : goal.middle_of-made-requires
 middle_of-made-requires c = tt
 
-pub enum_known-made : goal.enum_known-made
-enum_known-made c = c.in-Made.keys1
-
 pub centred-requires : goal.centred-requires
 centred-requires c =
-    made-within (step_from c.args.spacing c.args.decay c.args.new_spacing_lem c.args.denominator c.args.scale c.args.place) c.args.node _ (rw (to_z-of_z c.ranges.node) at c.middle_of-made.ensures) _ c.in-Made.is
-
-pub enum_told-1 : goal.enum_told-1
-enum_told-1 c = c.in_default.keys2
+    made-within (step_from c.args.spacing c.args.decay c.args.new_spacing c.args.denominator c.args.scale c.args.place) c.args.node _ (rw (to_z-of_z c.ranges.node) at c.middle_of-made.ensures) _ c.in-Made.is
 
 pub refusal-requires : goal.refusal-requires
 refusal-requires c = tt
 
 pub returns-in_default : goal.returns-in_default
-returns-in_default c = rw (c.refusal.ensures, c.in_default.is) (made-refused (step_from c.args.spacing c.args.decay c.args.new_spacing_lem c.args.denominator c.args.scale c.args.place) c.args.node _ (rw (to_z-of_z c.ranges.node) at c.middle_of-made.ensures) _ c.in_default.is)
+returns-in_default c = rw (c.refusal.ensures, c.in_default.is) (made-refused (step_from c.args.spacing c.args.decay c.args.new_spacing c.args.denominator c.args.scale c.args.place) c.args.node _ (rw (to_z-of_z c.ranges.node) at c.middle_of-made.ensures) _ c.in_default.is)
 
 pub returns : goal.returns
-returns c = c.centred.ensures ∙ made-transition (step_from c.args.spacing c.args.decay c.args.new_spacing_lem c.args.denominator c.args.scale c.args.place) c.args.node _ (rw (to_z-of_z c.ranges.node) at c.middle_of-made.ensures) _ c.in-Made.is
+returns c = c.centred.ensures ∙ made-transition (step_from c.args.spacing c.args.decay c.args.new_spacing c.args.denominator c.args.scale c.args.place) c.args.node _ (rw (to_z-of_z c.ranges.node) at c.middle_of-made.ensures) _ c.in-Made.is
