@@ -86,5 +86,5 @@ pub returns-in_default : goal.returns-in_default
 unfolding form_at
 returns-in_default c =
     let k = c.args.k in
-    let r = c.in_default.rest in
+    let r = c.in_default.in_default-own.rest in
     no_form k c.args.line.now (beyond k 10 (beyond k 9 (beyond k 8 (beyond k 7 (beyond k 6 (beyond k 5 (beyond k 4 (beyond k 3 (beyond k 2 (beyond k 1 (beyond k 0 zero-le r.0.0.0.0.0.0.0.0.0.0.1) r.0.0.0.0.0.0.0.0.0.1) r.0.0.0.0.0.0.0.0.1) r.0.0.0.0.0.0.0.1) r.0.0.0.0.0.0.1) r.0.0.0.0.0.1) r.0.0.0.0.1) r.0.0.0.1) r.0.0.1) r.0.1) r.1)

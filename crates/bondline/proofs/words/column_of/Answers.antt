@@ -10,7 +10,7 @@ pub span_of-s-requires : goal.span_of-s-requires
 span_of-s-requires c = tt
 
 pub overflow_add-result : goal.overflow_add-result
-overflow_add-result c = let a = c.args in omega (arith, found-order a.line.now a.n c.Span-of.ensures, found_within a.line.now a.n c.Span-of.ensures, c.well_formed.0)
+overflow_add-result c = let a = c.args in omega (arith, found-order a.line.now a.n c.span_of-s.ensures, found_within a.line.now a.n c.span_of-s.ensures, c.well_formed.0)
 
 pub returns : goal.returns
-returns c = ap (λ (s : Span). s.start + 1) c.Span-of.ensures
+returns c = ap (λ (s : Span). s.start + 1) c.span_of-s.ensures

@@ -9,4 +9,4 @@ pub span_of-s-requires : goal.span_of-s-requires
 span_of-s-requires c = tt
 
 pub returns : goal.returns
-returns c = ap (λ (s : Span). ltb s.start (length c.args.line.now)) c.Span-of.ensures
+returns c = ap (λ (s : Span). ltb s.start (length c.args.line.now)) c.span_of-s.ensures

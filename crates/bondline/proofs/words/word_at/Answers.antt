@@ -9,13 +9,13 @@ pub span_of-s-requires : goal.span_of-s-requires
 span_of-s-requires c = tt
 
 pub slice_bounds-result-count : goal.slice_bounds-result-count
-slice_bounds-result-count c = found-order _ _ c.Span-of.ensures
+slice_bounds-result-count c = found-order _ _ c.span_of-s.ensures
 
 pub slice_bounds-result-start : goal.slice_bounds-result-start
-slice_bounds-result-start c = found-order _ _ c.Span-of.ensures
+slice_bounds-result-start c = found-order _ _ c.span_of-s.ensures
 
 pub slice_bounds-result-end : goal.slice_bounds-result-end
-slice_bounds-result-end c = found_within _ _ c.Span-of.ensures
+slice_bounds-result-end c = found_within _ _ c.span_of-s.ensures
 
 pub returns : goal.returns
-returns c = ap (λ (s : Span). between s.start s.end c.args.line.now) c.Span-of.ensures
+returns c = ap (λ (s : Span). between s.start s.end c.args.line.now) c.span_of-s.ensures
