@@ -6,6 +6,7 @@ use bondfile::stored::{cashflows_of, pillars_of, sigmas_of};
 use digest::{NOTHING, bits_of, mix, of_bytes, of_days, of_numbers};
 use filebond::parts::{bytes_of, days_of, numbers_of};
 use reportlines::lines::{count_line, number_line};
+use std::rt::Stdout;
 
 // The pillars' days and factors.
 fn curve_digest(text: &[u8]) -> u64 {
@@ -41,23 +42,26 @@ fn fields_digest(text: &[u8]) -> u64 {
 }
 
 // All that was typed but the calls, which are read out above.
-fn print_inputs(text: &[u8], times: &[f64], sigmas: &[f64]) {
+fn print_inputs(out: Stdout, text: &[u8], times: &[f64], sigmas: &[f64]) {
     let f = fields_of(text);
-    print(number_line(b"Alpha", f.alpha, 4));
-    print(count_line(b"Steps a year", f.yearly as u64));
-    print(count_line(b"Steps at most", f.maximum as u64));
-    print(number_line(b"First sigma", number_at(sigmas, 0), 4));
-    print(count_line(b"Sigma entries", sigmas.len() as u64));
-    print(count_line(b"Curve digest", curve_digest(text)));
-    print(count_line(b"Cashflow digest", cashflow_digest(text)));
+    print(out, number_line(b"Alpha", f.alpha, 4));
+    print(out, count_line(b"Steps a year", f.yearly as u64));
+    print(out, count_line(b"Steps at most", f.maximum as u64));
+    print(out, number_line(b"First sigma", number_at(sigmas, 0), 4));
+    print(out, count_line(b"Sigma entries", sigmas.len() as u64));
+    print(out, count_line(b"Curve digest", curve_digest(text)));
+    print(out, count_line(b"Cashflow digest", cashflow_digest(text)));
     let settings = of_numbers(fields_digest(text), times);
-    print(count_line(b"Settings digest", of_numbers(settings, sigmas)));
+    print(
+        out,
+        count_line(b"Settings digest", of_numbers(settings, sigmas)),
+    );
 }
 
-pub(crate) fn inputs(text: &[u8]) {
+pub(crate) fn inputs(out: Stdout, text: &[u8]) {
     let mut times = [0.0; 64];
     let mut sigmas = [0.0; 64];
     let mut lines = [0usize; 64];
     let n = sigmas_of(text, &mut times, &mut sigmas, &mut lines);
-    print_inputs(text, numbers_of(&times, n), numbers_of(&sigmas, n));
+    print_inputs(out, text, numbers_of(&times, n), numbers_of(&sigmas, n));
 }

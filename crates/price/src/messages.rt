@@ -1,171 +1,236 @@
 // Why a bond file isn't read: a plain sentence or two for each cause.
-use crate::printing::{print, say};
+use crate::printing::{print, say, say_number};
 use crate::typed::kind_typed;
 use bondfile::FileCheck;
 use bondline::{Cause, Fault};
 use reportlines::lines::text_line;
+use std::rt::Stdout;
 
-fn at_line(line: usize) {
-    say(b"Refused          line ");
-    io::print_decimal(1, line as u64);
+fn at_line(out: Stdout, line: usize) {
+    say(out, b"Refused          line ");
+    say_number(out, line as u64);
 }
 
-fn say_byte(byte: u8) {
+fn say_byte(out: Stdout, byte: u8) {
     if byte == 9 {
-        print(text_line(b"A tab stands here (byte 9): type spaces."));
+        print(out, text_line(b"A tab stands here (byte 9): type spaces."));
         return;
     }
     if byte == 13 {
-        print(text_line(b"The line ends with a CR (byte 13). Run: dos2unix FILE"));
+        print(
+            out,
+            text_line(b"The line ends with a CR (byte 13). Run: dos2unix FILE"),
+        );
         return;
     }
     if byte == 239 {
-        print(text_line(b"A byte order mark starts with byte 239. Run: dos2unix FILE"));
+        print(
+            out,
+            text_line(b"A byte order mark starts with byte 239. Run: dos2unix FILE"),
+        );
     }
-    say(b"                 Byte ");
-    io::print_decimal(1, byte as u64);
+    say(out, b"                 Byte ");
+    say_number(out, byte as u64);
     if byte > 126 {
-        say(b" stands here: such letters may stand in comments alone.\n");
+        say(
+            out,
+            b" stands here: such letters may stand in comments alone.\n",
+        );
         return;
     }
-    say(b" stands here: type plain letters, digits and signs.\n");
+    say(
+        out,
+        b" stands here: type plain letters, digits and signs.\n",
+    );
 }
 
 // What a line of a kind takes; the kinds are counted from 0 here.
-fn say_values(kind: usize) {
+fn say_values(out: Stdout, kind: usize) {
     match kind {
-        0 => print(text_line(b"settlement takes a day: settlement 2026-11-17")),
-        1 => print(text_line(b"units takes a number: units 100")),
-        2 => print(text_line(b"steps takes two counts, a year and at most: steps 12 512")),
-        3 => print(text_line(b"alpha takes a number: alpha 0.03")),
-        4 => print(text_line(b"spread takes a number: spread 0.0085")),
-        5 => print(text_line(b"cashflow takes a day, coupon or redemption, and an amount.")),
-        6 => print(text_line(b"call takes two days and a strike, as 2029-11-15 2029-11-15 102")),
-        7 => print(text_line(b"sigma takes a time in years and a volatility: sigma 0 0.0092")),
-        8 => print(text_line(b"pillar takes a day and a factor: pillar 2027-11-17 0.9662")),
-        9 => print(text_line(b"yield takes a price, a compounding and a frequency.")),
-        _ => print(text_line(b"quote takes a price: quote 99.90")),
+        0 => print(
+            out,
+            text_line(b"settlement takes a day: settlement 2026-11-17"),
+        ),
+        1 => print(out, text_line(b"units takes a number: units 100")),
+        2 => print(
+            out,
+            text_line(b"steps takes two counts, a year and at most: steps 12 512"),
+        ),
+        3 => print(out, text_line(b"alpha takes a number: alpha 0.03")),
+        4 => print(out, text_line(b"spread takes a number: spread 0.0085")),
+        5 => print(
+            out,
+            text_line(b"cashflow takes a day, coupon or redemption, and an amount."),
+        ),
+        6 => print(
+            out,
+            text_line(b"call takes two days and a strike, as 2029-11-15 2029-11-15 102"),
+        ),
+        7 => print(
+            out,
+            text_line(b"sigma takes a time in years and a volatility: sigma 0 0.0092"),
+        ),
+        8 => print(
+            out,
+            text_line(b"pillar takes a day and a factor: pillar 2027-11-17 0.9662"),
+        ),
+        9 => print(
+            out,
+            text_line(b"yield takes a price, a compounding and a frequency."),
+        ),
+        _ => print(out, text_line(b"quote takes a price: quote 99.90")),
     }
 }
 
-fn say_words() {
-    print(text_line(b"No line starts with this word. The names are: settlement,"));
-    print(text_line(b"units, steps, alpha, spread, cashflow, call, sigma, pillar,"));
-    print(text_line(b"yield, quote, name; a comment starts with #."));
+fn say_words(out: Stdout) {
+    print(
+        out,
+        text_line(b"No line starts with this word. The names are: settlement,"),
+    );
+    print(
+        out,
+        text_line(b"units, steps, alpha, spread, cashflow, call, sigma, pillar,"),
+    );
+    print(
+        out,
+        text_line(b"yield, quote, name; a comment starts with #."),
+    );
 }
 
 // Why a value of a line isn't read.
-fn say_value(cause: Cause) {
+fn say_value(out: Stdout, cause: Cause) {
     match cause {
-        Cause::NotACount => print(text_line(
-            b"Type a whole number here: digits only, nine at the most.",
-        )),
-        Cause::NotADay => print(text_line(
-            b"Type a date here, such as 2026-11-15, or a day number.",
-        )),
-        Cause::NoDate => print(text_line(b"There is no such date: look at its month and its day.")),
-        Cause::DateOutside => print(text_line(
-            b"Dates go from 1900-01-01 to 2447-08-01: look at the year.",
-        )),
-        Cause::NotANumber => print(text_line(b"Type a number here, such as 5, 0.0125 or -0.5.")),
-        Cause::LongNumber => print(text_line(
-            b"This digit is one too many: 17 in all, 22 behind the point.",
-        )),
-        Cause::NotAKind => print(text_line(b"Type coupon or redemption here.")),
-        Cause::NotACompounding => print(text_line(
-            b"This compounding is not known: the README has the five.",
-        )),
-        Cause::NotAFrequency => print(text_line(
-            b"This frequency is not known: the README has the eleven.",
-        )),
+        Cause::NotACount => print(
+            out,
+            text_line(b"Type a whole number here: digits only, nine at the most."),
+        ),
+        Cause::NotADay => print(
+            out,
+            text_line(b"Type a date here, such as 2026-11-15, or a day number."),
+        ),
+        Cause::NoDate => print(
+            out,
+            text_line(b"There is no such date: look at its month and its day."),
+        ),
+        Cause::DateOutside => print(
+            out,
+            text_line(b"Dates go from 1900-01-01 to 2447-08-01: look at the year."),
+        ),
+        Cause::NotANumber => print(
+            out,
+            text_line(b"Type a number here, such as 5, 0.0125 or -0.5."),
+        ),
+        Cause::LongNumber => print(
+            out,
+            text_line(b"This digit is one too many: 17 in all, 22 behind the point."),
+        ),
+        Cause::NotAKind => print(out, text_line(b"Type coupon or redemption here.")),
+        Cause::NotACompounding => print(
+            out,
+            text_line(b"This compounding is not known: the README has the five."),
+        ),
+        Cause::NotAFrequency => print(
+            out,
+            text_line(b"This frequency is not known: the README has the eleven."),
+        ),
         _ => {}
     }
 }
 
-fn say_cause(cause: Cause, kind: usize) {
+fn say_cause(out: Stdout, cause: Cause, kind: usize) {
     match cause {
-        Cause::Byte(b) => say_byte(b),
-        Cause::UnknownWord => say_words(),
+        Cause::Byte(b) => say_byte(out, b),
+        Cause::UnknownWord => say_words(out),
         Cause::TooFewWords => {
-            print(text_line(b"This line has too few values."));
-            say_values(kind)
+            print(out, text_line(b"This line has too few values."));
+            say_values(out, kind)
         }
         Cause::TooManyWords => {
-            print(text_line(b"This line has too many values; a comment starts with #."));
-            print(text_line(b"Spaces separate values: for 2 000 000 type 2000000."))
+            print(
+                out,
+                text_line(b"This line has too many values; a comment starts with #."),
+            );
+            print(
+                out,
+                text_line(b"Spaces separate values: for 2 000 000 type 2000000."),
+            )
         }
-        _ => say_value(cause),
+        _ => say_value(out, cause),
     }
 }
 
-fn wrong(text: &[u8], line: usize, fault: Fault) {
+fn wrong(out: Stdout, text: &[u8], line: usize, fault: Fault) {
     let cause = fault.cause;
-    at_line(line);
-    say(b", column ");
-    io::print_decimal(1, fault.column as u64);
-    say(b"\n");
-    say_cause(cause, kind_typed(text, line));
+    at_line(out, line);
+    say(out, b", column ");
+    say_number(out, fault.column as u64);
+    say(out, b"\n");
+    say_cause(out, cause, kind_typed(text, line));
 }
 
 // The name of a line of a kind.
-fn say_name(kind: usize) {
+fn say_name(out: Stdout, kind: usize) {
     match kind {
-        1 => say(b"settlement"),
-        2 => say(b"units"),
-        3 => say(b"steps"),
-        4 => say(b"alpha"),
-        5 => say(b"spread"),
-        6 => say(b"cashflow"),
-        7 => say(b"call"),
-        8 => say(b"sigma"),
-        9 => say(b"pillar"),
-        10 => say(b"yield"),
-        _ => say(b"quote"),
+        1 => say(out, b"settlement"),
+        2 => say(out, b"units"),
+        3 => say(out, b"steps"),
+        4 => say(out, b"alpha"),
+        5 => say(out, b"spread"),
+        6 => say(out, b"cashflow"),
+        7 => say(out, b"call"),
+        8 => say(out, b"sigma"),
+        9 => say(out, b"pillar"),
+        10 => say(out, b"yield"),
+        _ => say(out, b"quote"),
     }
 }
 
-fn twice(line: usize, kind: usize) {
-    at_line(line);
-    say(b"\n                 A second line for ");
-    say_name(kind);
-    say(b": keep the one that is right.\n");
+fn twice(out: Stdout, line: usize, kind: usize) {
+    at_line(out, line);
+    say(out, b"\n                 A second line for ");
+    say_name(out, kind);
+    say(out, b": keep the one that is right.\n");
 }
 
 // At most 256 cashflows and pillars, 64 calls and sigma entries.
-fn too_many(line: usize, kind: usize) {
-    at_line(line);
-    say(b"\n                 One ");
-    say_name(kind);
+fn too_many(out: Stdout, line: usize, kind: usize) {
+    at_line(out, line);
+    say(out, b"\n                 One ");
+    say_name(out, kind);
     if kind == 6 || kind == 9 {
-        say(b" too many: 256 are the most.\n");
+        say(out, b" too many: 256 are the most.\n");
         return;
     }
-    say(b" too many: 64 are the most.\n");
+    say(out, b" too many: 64 are the most.\n");
 }
 
-fn missing(kind: usize) {
-    say(b"Refused          the file as a whole\n                 No line for ");
-    say_name(kind);
-    say(b": add one.\n");
-}
-
-fn too_large() {
+fn missing(out: Stdout, kind: usize) {
     say(
+        out,
+        b"Refused          the file as a whole\n                 No line for ",
+    );
+    say_name(out, kind);
+    say(out, b": add one.\n");
+}
+
+fn too_large(out: Stdout) {
+    say(
+        out,
         b"Refused          the file as a whole\n                 The file is larger than 65,536 bytes.\n",
     );
 }
 
 // Says what is wrong with a file; whether nothing is.
-pub(crate) fn is_good(text: &[u8], found: FileCheck) -> bool {
+pub(crate) fn is_good(out: Stdout, text: &[u8], found: FileCheck) -> bool {
     match found {
         FileCheck::Good => {
             return true;
         }
-        FileCheck::TooLarge => too_large(),
-        FileCheck::Wrong(line, fault) => wrong(text, line, fault),
-        FileCheck::Twice(line, kind) => twice(line, kind),
-        FileCheck::TooMany(line, kind) => too_many(line, kind),
-        FileCheck::Missing(kind) => missing(kind),
+        FileCheck::TooLarge => too_large(out),
+        FileCheck::Wrong(line, fault) => wrong(out, text, line, fault),
+        FileCheck::Twice(line, kind) => twice(out, line, kind),
+        FileCheck::TooMany(line, kind) => too_many(out, line, kind),
+        FileCheck::Missing(kind) => missing(out, kind),
     }
     false
 }

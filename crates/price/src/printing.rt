@@ -1,19 +1,26 @@
-// Lines on standard output.
+// Lines on standard output. What cannot be written is lost without a word.
 use bondreport::columns::used;
 use filebond::parts::bytes_of;
 use floats::Refusal;
 use reportlines::lines::{count_line, refused_line};
 use reportlines::sentences::what_to_do;
+use std::io::Write;
+use std::rt::Stdout;
 
-pub(crate) fn say(text: &[u8]) {
-    io::write_all(1, text);
+pub(crate) fn say(mut out: Stdout, text: &[u8]) {
+    let _ = out.write_all(text);
+}
+
+// A number in decimal digits.
+pub(crate) fn say_number(mut out: Stdout, n: u64) {
+    let _ = write!(out, "{n}");
 }
 
 // A line of the report, without the blanks at its end.
-pub(crate) fn print(line: [u8; 80]) {
+pub(crate) fn print(out: Stdout, line: [u8; 80]) {
     let n = used(line);
-    say(bytes_of(&line, n));
-    say(b"\n");
+    say(out, bytes_of(&line, n));
+    say(out, b"\n");
 }
 
 fn small(line: usize) -> u32 {
@@ -24,12 +31,12 @@ fn small(line: usize) -> u32 {
 }
 
 // A label, and in place of a figure the number of the refusal.
-pub(crate) fn blank_line(label: &[u8], q: Refusal) {
-    print(count_line(label, q.number as u64));
+pub(crate) fn blank_line(out: Stdout, label: &[u8], q: Refusal) {
+    print(out, count_line(label, q.number as u64));
 }
 
 // A refusal of the pricer, the file's line where there is one, and what to do.
-pub(crate) fn refuse(q: Refusal, line: usize) {
-    print(refused_line(q.number, small(line)));
-    print(what_to_do(q.number));
+pub(crate) fn refuse(out: Stdout, q: Refusal, line: usize) {
+    print(out, refused_line(q.number, small(line)));
+    print(out, what_to_do(q.number));
 }

@@ -4,41 +4,60 @@ use fileline::origin::{line_behind, whose};
 use floats::Refusal;
 use places::Whose;
 use reportlines::lines::text_line;
+use std::rt::Stdout;
 
-fn say_range(field: Whose) {
+fn say_range(out: Stdout, field: Whose) {
     match field {
-        Whose::Units => print(text_line(b"units is above 0 and at most 1,000,000,000,000.")),
-        Whose::Alpha => print(text_line(
-            b"alpha lies between -10 and 10: 0.03 is 3 percent a year.",
-        )),
-        Whose::Spread => print(text_line(
-            b"spread lies between -1 and 1: 0.0085 is 85 basis points.",
-        )),
-        Whose::Cashflow => print(text_line(b"An amount lies within 1,000,000,000,000 of 0.")),
-        Whose::Call => print(text_line(b"A strike is above 0 and at most 1,000,000.")),
-        Whose::Sigma => print(text_line(
-            b"A sigma's time is 0 to 600 years, the sigma itself 0 to 10.",
-        )),
-        Whose::Pillar => print(text_line(b"A discount factor lies within 1,000 of 0.")),
+        Whose::Units => print(
+            out,
+            text_line(b"units is above 0 and at most 1,000,000,000,000."),
+        ),
+        Whose::Alpha => print(
+            out,
+            text_line(b"alpha lies between -10 and 10: 0.03 is 3 percent a year."),
+        ),
+        Whose::Spread => print(
+            out,
+            text_line(b"spread lies between -1 and 1: 0.0085 is 85 basis points."),
+        ),
+        Whose::Cashflow => print(
+            out,
+            text_line(b"An amount lies within 1,000,000,000,000 of 0."),
+        ),
+        Whose::Call => print(
+            out,
+            text_line(b"A strike is above 0 and at most 1,000,000."),
+        ),
+        Whose::Sigma => print(
+            out,
+            text_line(b"A sigma's time is 0 to 600 years, the sigma itself 0 to 10."),
+        ),
+        Whose::Pillar => print(out, text_line(b"A discount factor lies within 1,000 of 0.")),
         _ => {}
     }
 }
 
 // Of the bond's terms.
-pub(crate) fn refuse_input(text: &[u8], q: Refusal) {
-    refuse(q, line_behind(text, q));
+pub(crate) fn refuse_input(out: Stdout, text: &[u8], q: Refusal) {
+    refuse(out, q, line_behind(text, q));
     if q.number == Refusal::DAY {
-        print(text_line(b"A day number is at most 200,000; a date has dashes: 2026-11-15."));
+        print(
+            out,
+            text_line(b"A day number is at most 200,000; a date has dashes: 2026-11-15."),
+        );
     }
     if q.number == Refusal::NUMBER {
-        say_range(whose(text, q.number, q.place as usize));
+        say_range(out, whose(text, q.number, q.place as usize));
     }
 }
 
 // Of a price that was asked about.
-pub(crate) fn refuse_price(q: Refusal, line: usize) {
-    refuse(q, line);
+pub(crate) fn refuse_price(out: Stdout, q: Refusal, line: usize) {
+    refuse(out, q, line);
     if q.number == Refusal::NUMBER {
-        print(text_line(b"A price lies within 1,000,000,000,000,000 of 0."));
+        print(
+            out,
+            text_line(b"A price lies within 1,000,000,000,000,000 of 0."),
+        );
     }
 }

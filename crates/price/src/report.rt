@@ -22,38 +22,40 @@ use reportlines::lines::{
     stands_apart, strike_line,
 };
 use reportlines::typed::typed_word;
+use std::rt::Stdout;
 
 // A call with its strike as it was typed.
-fn print_call(call: Call, strike: &[u8]) {
-    print(call_line(call.start, call.end, strike, call.strike));
+fn print_call(out: Stdout, call: Call, strike: &[u8]) {
+    print(out, call_line(call.start, call.end, strike, call.strike));
     if stands_apart(strike) {
-        print(strike_line(strike));
+        print(out, strike_line(strike));
     }
 }
 
 // The calls as they are read out, in whatever order they were typed.
-fn calls(text: &[u8], starts: &[u32], ends: &[u32], strikes: &[f64]) {
+fn calls(out: Stdout, text: &[u8], starts: &[u32], ends: &[u32], strikes: &[f64]) {
     let mut k = 0;
     while k < starts.len() {
         let i = at_rank(starts, ends, strikes, k);
         let call = call_at(starts, ends, strikes, i);
-        print_call(call, typed_word(text, line_of(text, CALL, i), 3));
+        print_call(out, call, typed_word(text, line_of(text, CALL, i), 3));
         k += 1;
     }
 }
 
-fn call_list(text: &[u8]) {
+fn call_list(out: Stdout, text: &[u8]) {
     let mut starts = [0u32; 64];
     let mut ends = [0u32; 64];
     let mut strikes = [0.0; 64];
     let mut lines = [0usize; 64];
     let n = calls_of(text, &mut starts, &mut ends, &mut strikes, &mut lines);
     if n == 0 {
-        print(no_calls());
+        print(out, no_calls());
         return;
     }
-    print(call_heading());
+    print(out, call_heading());
     calls(
+        out,
         text,
         days_of(&starts, n),
         days_of(&ends, n),
@@ -62,36 +64,39 @@ fn call_list(text: &[u8]) {
 }
 
 // The day of the first pillar.
-fn curve_date(text: &[u8]) {
+fn curve_date(out: Stdout, text: &[u8]) {
     let Entry::Pillar(day, _) = first_of(text, PILLAR) else {
-        print(no_pillar());
+        print(out, no_pillar());
         return;
     };
-    print(day_line(b"Curve date", day));
+    print(out, day_line(b"Curve date", day));
 }
 
-fn head(text: &[u8]) {
+fn head(out: Stdout, text: &[u8]) {
     let f = fields_of(text);
-    print_name(text);
-    print(said_line(b"Full prices", b"prices include accrued interest"));
-    print(day_line(b"Settlement", f.settlement));
-    call_list(text);
-    curve_date(text);
-    print(number_line(b"Spread", f.spread, 6));
-    inputs(text);
-    say(b"\n");
+    print_name(out, text);
+    print(
+        out,
+        said_line(b"Full prices", b"prices include accrued interest"),
+    );
+    print(out, day_line(b"Settlement", f.settlement));
+    call_list(out, text);
+    curve_date(out, text);
+    print(out, number_line(b"Spread", f.spread, 6));
+    inputs(out, text);
+    say(out, b"\n");
 }
 
 // What the bond is worth without its calls, on no tree; whether that is accepted.
-fn straight_part(text: &[u8], quiet: bool) -> bool {
+fn straight_part(out: Stdout, text: &[u8], quiet: bool) -> bool {
     match straight(text) {
         Answer::Refused(q) => {
-            refuse(q, 0);
+            refuse(out, q, 0);
             false
         }
         Answer::Value(x) => {
             if !quiet {
-                print(number_line(b"Straight value", x, 2));
+                print(out, number_line(b"Straight value", x, 2));
             }
             true
         }
@@ -99,87 +104,87 @@ fn straight_part(text: &[u8], quiet: bool) -> bool {
 }
 
 // What the calls are worth; where the tree without them has no value, its refusal's number alone.
-fn calls_part(text: &[u8]) {
+fn calls_part(out: Stdout, text: &[u8]) {
     match asked(text, Ask::Calls) {
-        Reply::Refused(q) => blank_line(b"Calls are worth  refused with", q),
-        Reply::Found(x, _) => print(number_line(b"Calls are worth", x, 2)),
+        Reply::Refused(q) => blank_line(out, b"Calls are worth  refused with", q),
+        Reply::Found(x, _) => print(out, number_line(b"Calls are worth", x, 2)),
     }
 }
 
-fn yield_part(text: &[u8], quiet: bool) -> bool {
+fn yield_part(out: Stdout, text: &[u8], quiet: bool) -> bool {
     let Entry::Yield(price, compounding, frequency) = first_of(text, YIELD) else {
         return true;
     };
     match yielded(text, price, compounding, frequency) {
         Root::Refused(q, _) => {
-            refuse_price(q, line_of(text, YIELD, 0));
+            refuse_price(out, q, line_of(text, YIELD, 0));
             false
         }
         Root::Found(x, n) => {
             if quiet {
                 return true;
             }
-            print(number_line(b"Yield", x, 4));
-            print(count_line(b"Yield tries", n as u64));
+            print(out, number_line(b"Yield", x, 4));
+            print(out, count_line(b"Yield tries", n as u64));
             true
         }
     }
 }
 
-fn quote_part(text: &[u8], quiet: bool) -> bool {
+fn quote_part(out: Stdout, text: &[u8], quiet: bool) -> bool {
     let Entry::Quote(price) = first_of(text, QUOTE) else {
         return true;
     };
     match asked(text, Ask::Spread(price)) {
         Reply::Refused(q) => {
-            refuse_price(q, line_of(text, QUOTE, 0));
+            refuse_price(out, q, line_of(text, QUOTE, 0));
             false
         }
         Reply::Found(x, n) => {
             if quiet {
                 return true;
             }
-            print(number_line(b"Quoted spread", x, 6));
-            print(count_line(b"Spreads tried", n));
+            print(out, number_line(b"Quoted spread", x, 6));
+            print(out, count_line(b"Spreads tried", n));
             true
         }
     }
 }
 
-fn value_part(text: &[u8], quiet: bool, value: f64, nodes: u64) -> bool {
+fn value_part(out: Stdout, text: &[u8], quiet: bool, value: f64, nodes: u64) -> bool {
     if !quiet {
-        print(number_line(b"Value", value, 2));
-        print(count_line(b"Nodes", nodes));
-        calls_part(text);
+        print(out, number_line(b"Value", value, 2));
+        print(out, count_line(b"Nodes", nodes));
+        calls_part(out, text);
     }
-    let a = straight_part(text, quiet);
-    let b = yield_part(text, quiet);
-    let c = quote_part(text, quiet);
+    let a = straight_part(out, text, quiet);
+    let b = yield_part(out, text, quiet);
+    let c = quote_part(out, text, quiet);
     a && b && c
 }
 
 // Whether all that the file asks for is accepted.
-fn priced(text: &[u8], quiet: bool) -> bool {
+fn priced(out: Stdout, text: &[u8], quiet: bool) -> bool {
     match asked(text, Ask::Value) {
         Reply::Refused(q) => {
-            refuse_input(text, q);
+            refuse_input(out, text, q);
             false
         }
-        Reply::Found(x, n) => value_part(text, quiet, x, n),
+        Reply::Found(x, n) => value_part(out, text, quiet, x, n),
     }
 }
 
 // The whole report; or, where it is to be quiet, `ok` or the refusals alone.
-pub(crate) fn report(text: &[u8], quiet: bool) {
-    if !is_good(text, checked(text)) {
+pub(crate) fn report(out: Stdout, text: &[u8], quiet: bool) {
+    if !is_good(out, text, checked(text)) {
         return;
     }
-    warnings(text);
+    warnings(out, text);
     if !quiet {
-        head(text);
+        head(out, text);
     }
-    let good = priced(text, quiet);
+    let good = priced(out, text, quiet);
     if quiet && good {
-        say(b"ok\n");
+        say(out, b"ok\n");
     }
 }

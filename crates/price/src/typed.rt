@@ -6,6 +6,7 @@ use bondline::words::{is_same, place_in, span_of, word_at};
 use filebond::parts::bytes_of;
 use reportlines::lines::said_line;
 use reportlines::typed::typed_word;
+use std::rt::Stdout;
 
 // The line from an index on, up to its comment.
 fn line_from(text: &[u8], at: usize) -> &[u8] {
@@ -31,13 +32,13 @@ fn rest_of(line: &[u8]) -> &[u8] {
 }
 
 // The bond's name, where the file has a line for it.
-pub(crate) fn print_name(text: &[u8]) {
+pub(crate) fn print_name(out: Stdout, text: &[u8]) {
     let mut at = 0;
     let mut left = text.len();
     while left > 0 {
         let line = line_from(text, at);
         if is_same(word_at(line, 0), b"name") {
-            print(said_line(b"Name", rest_of(line)));
+            print(out, said_line(b"Name", rest_of(line)));
             return;
         }
         at = next_line(text, at);

@@ -1,14 +1,15 @@
 // What is accepted and yet likely to be a slip. A warning refuses nothing.
-use crate::printing::say;
+use crate::printing::{say, say_number};
 use bondfile::singles::fields_of;
 use bondfile::stored::{cashflows_of, pillars_of, sigmas_of};
 use filebond::parts::{bytes_of, days_of, numbers_of};
 use fileline::lines::{CASHFLOW, PILLAR, SIGMA, SPREAD, line_of};
+use std::rt::Stdout;
 
-fn warn(text: &[u8], kind: usize, place: usize) {
-    say(b"Warning          line ");
-    io::print_decimal(1, line_of(text, kind, place) as u64);
-    say(b": ");
+fn warn(out: Stdout, text: &[u8], kind: usize, place: usize) {
+    say(out, b"Warning          line ");
+    say_number(out, line_of(text, kind, place) as u64);
+    say(out, b": ");
 }
 
 pub(crate) fn number_at(xs: &[f64], i: usize) -> f64 {
@@ -47,15 +48,15 @@ fn alike(days: &[u32], kinds: &[u8], amounts: &[f64], i: usize) -> usize {
     i
 }
 
-fn doubles(text: &[u8], days: &[u32], kinds: &[u8], amounts: &[f64]) {
+fn doubles(out: Stdout, text: &[u8], days: &[u32], kinds: &[u8], amounts: &[f64]) {
     let mut i = 0;
     while i < days.len() {
         let j = alike(days, kinds, amounts, i);
         if j < i {
-            warn(text, CASHFLOW, i);
-            say(b"the same cashflow stands on line ");
-            io::print_decimal(1, line_of(text, CASHFLOW, j) as u64);
-            say(b".\n");
+            warn(out, text, CASHFLOW, i);
+            say(out, b"the same cashflow stands on line ");
+            say_number(out, line_of(text, CASHFLOW, j) as u64);
+            say(out, b".\n");
         }
         i += 1;
     }
@@ -74,7 +75,7 @@ fn is_short(from: u32, to: u32, life: u32, yearly: u32, maximum: u32) -> bool {
 }
 
 // The coupons after settlement; said once.
-fn gaps(text: &[u8], days: &[u32], kinds: &[u8], life: u32) {
+fn gaps(out: Stdout, text: &[u8], days: &[u32], kinds: &[u8], life: u32) {
     let f = fields_of(text);
     let mut before = f.settlement;
     let mut coupons = 0;
@@ -83,8 +84,11 @@ fn gaps(text: &[u8], days: &[u32], kinds: &[u8], life: u32) {
         let day = day_at(days, i);
         if kind_at(kinds, i) == 0 && day > f.settlement {
             if coupons > 0 && is_short(before, day, life, f.yearly, f.maximum) {
-                warn(text, CASHFLOW, i);
-                say(b"fewer than two steps lie between this coupon and the one before.\n");
+                warn(out, text, CASHFLOW, i);
+                say(
+                    out,
+                    b"fewer than two steps lie between this coupon and the one before.\n",
+                );
                 return;
             }
             before = day;
@@ -94,7 +98,7 @@ fn gaps(text: &[u8], days: &[u32], kinds: &[u8], life: u32) {
     }
 }
 
-fn of_cashflows(text: &[u8]) {
+fn of_cashflows(out: Stdout, text: &[u8]) {
     let mut days = [0u32; 256];
     let mut kinds = [0u8; 256];
     let mut amounts = [0.0; 256];
@@ -102,6 +106,7 @@ fn of_cashflows(text: &[u8]) {
     let n = cashflows_of(text, &mut days, &mut kinds, &mut amounts, &mut lines);
     let f = fields_of(text);
     doubles(
+        out,
         text,
         days_of(&days, n),
         bytes_of(&kinds, n),
@@ -111,6 +116,7 @@ fn of_cashflows(text: &[u8]) {
         let last = day_at(&days, n - 1);
         if last > f.settlement {
             gaps(
+                out,
                 text,
                 days_of(&days, n),
                 bytes_of(&kinds, n),
@@ -120,60 +126,66 @@ fn of_cashflows(text: &[u8]) {
     }
 }
 
-fn of_factors(text: &[u8], factors: &[f64]) {
+fn of_factors(out: Stdout, text: &[u8], factors: &[f64]) {
     let mut i = 0;
     while i < factors.len() {
         if i == 0 {
             if number_at(factors, 0) != 1.0 {
-                warn(text, PILLAR, 0);
-                say(b"the first factor isn't 1.\n");
+                warn(out, text, PILLAR, 0);
+                say(out, b"the first factor isn't 1.\n");
             }
         } else if number_at(factors, i) > 1.1 * number_at(factors, i - 1) {
-            warn(text, PILLAR, i);
-            say(b"this factor is above the one before it by more than a tenth.\n");
+            warn(out, text, PILLAR, i);
+            say(
+                out,
+                b"this factor is above the one before it by more than a tenth.\n",
+            );
         }
         i += 1;
     }
 }
 
-fn of_curve(text: &[u8]) {
+fn of_curve(out: Stdout, text: &[u8]) {
     let mut days = [0u32; 256];
     let mut factors = [0.0; 256];
     let mut lines = [0usize; 256];
     let n = pillars_of(text, &mut days, &mut factors, &mut lines);
-    of_factors(text, numbers_of(&factors, n));
+    of_factors(out, text, numbers_of(&factors, n));
 }
 
-fn of_levels(text: &[u8], sigmas: &[f64]) {
+fn of_levels(out: Stdout, text: &[u8], sigmas: &[f64]) {
     let mut i = 0;
     while i < sigmas.len() {
         if number_at(sigmas, i) > 0.1 {
-            warn(text, SIGMA, i);
-            say(b"this sigma is above 0.1: 0.01 is 1 percent a year.\n");
+            warn(out, text, SIGMA, i);
+            say(out, b"this sigma is above 0.1: 0.01 is 1 percent a year.\n");
         }
         i += 1;
     }
 }
 
-fn of_sigmas(text: &[u8]) {
+fn of_sigmas(out: Stdout, text: &[u8]) {
     let mut times = [0.0; 64];
     let mut sigmas = [0.0; 64];
     let mut lines = [0usize; 64];
     let n = sigmas_of(text, &mut times, &mut sigmas, &mut lines);
-    of_levels(text, numbers_of(&sigmas, n));
+    of_levels(out, text, numbers_of(&sigmas, n));
 }
 
-fn of_spread(text: &[u8]) {
+fn of_spread(out: Stdout, text: &[u8]) {
     let f = fields_of(text);
     if f.spread > 0.2 || f.spread < -0.2 {
-        warn(text, SPREAD, 0);
-        say(b"the spread is beyond 0.2: 0.0085 is 85 basis points.\n");
+        warn(out, text, SPREAD, 0);
+        say(
+            out,
+            b"the spread is beyond 0.2: 0.0085 is 85 basis points.\n",
+        );
     }
 }
 
-pub(crate) fn warnings(text: &[u8]) {
-    of_cashflows(text);
-    of_curve(text);
-    of_sigmas(text);
-    of_spread(text);
+pub(crate) fn warnings(out: Stdout, text: &[u8]) {
+    of_cashflows(out, text);
+    of_curve(out, text);
+    of_sigmas(out, text);
+    of_spread(out, text);
 }

@@ -15,8 +15,12 @@ mod sizes;
 mod tables;
 mod trees;
 
+ghost use Rattle.std.specs.Prelude.{◌≤◌, length};
+
 use crate::record::{any_nan, word};
 use crate::report::Tally;
+use std::io::Read;
+use std::rt::Stdin;
 
 // One more record in the tally. A record with a NaN in it counts as differing.
 fn tallied(tally: Tally, record: &[u8; 1784]) -> Tally {
@@ -88,10 +92,25 @@ struct Reading {
     more: bool,
 }
 
+// Reads until the room is full, the input ends or a read fails; how many bytes came.
+fn read_full(mut from: Stdin, room: &mut [u8]) -> usize
+    ensures { result ≤ length room.new }
+{
+    let mut done = 0;
+    while done < room.len() {
+        let n = from.read(&mut room[done..]).unwrap_or(0);
+        if n == 0 {
+            break;
+        }
+        done += n;
+    }
+    done
+}
+
 // Reads one record. One that is cut short counts as unknown.
-fn read_one(tally: Tally) -> Reading {
+fn read_one(from: Stdin, tally: Tally) -> Reading {
     let mut record = [0u8; 1784];
-    let got = io::read_full(0, &mut record);
+    let got = read_full(from, &mut record);
     if got == 0 {
         return Reading {
             tally: tally,
@@ -113,11 +132,11 @@ fn read_one(tally: Tally) -> Reading {
 }
 
 // Reads at most 4,096 records.
-fn replayed() -> Tally {
+fn replayed(from: Stdin) -> Tally {
     let mut tally = Tally::new();
     let mut left: u32 = 4096;
     while left > 0 {
-        let read = read_one(tally);
+        let read = read_one(from, tally);
         tally = read.tally;
         if !read.more {
             return tally;
@@ -127,7 +146,7 @@ fn replayed() -> Tally {
     tally
 }
 
-fn main() {
-    let tally = replayed();
-    tally.write();
+fn main(rt: HostRuntime) {
+    let tally = replayed(rt.stdin());
+    tally.write(rt.stdout());
 }

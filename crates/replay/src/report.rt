@@ -1,6 +1,7 @@
 // How many records were replayed and how many differ.
 
-use std::num::wrapping_add_u64;
+use std::io::Write;
+use std::rt::Stdout;
 
 #[derive(Drop)]
 pub struct Tally {
@@ -26,7 +27,7 @@ pub struct Tally {
 }
 
 fn one_more(count: u64) -> u64 {
-    wrapping_add_u64(count, 1)
+    count.wrapping_add(1)
 }
 
 fn one_more_unless(same: bool, count: u64) -> u64 {
@@ -36,12 +37,9 @@ fn one_more_unless(same: bool, count: u64) -> u64 {
     one_more(count)
 }
 
-fn write_line(name: &[u8], replayed: u64, differ: u64) {
-    io::write_all(1, name);
-    io::print_decimal(1, replayed);
-    io::write_all(1, b" replayed, ");
-    io::print_decimal(1, differ);
-    io::write_all(1, b" differ\n");
+fn write_line(mut out: Stdout, name: &[u8], replayed: u64, differ: u64) {
+    let _ = out.write_all(name);
+    let _ = writeln!(out, "{replayed} replayed, {differ} differ");
 }
 
 impl Tally {
@@ -128,18 +126,22 @@ impl Tally {
         self
     }
 
-    pub(crate) fn write(self) {
-        write_line(b"elementary ", self.elementary, self.elementary_differ);
-        write_line(b"grid ", self.grid, self.grid_differ);
-        write_line(b"tree value ", self.tree, self.tree_differ);
-        write_line(b"spread from price ", self.spread, self.spread_differ);
-        write_line(b"call notices ", self.notices, self.notices_differ);
-        write_line(b"closing sheet ", self.sheet, self.sheet_differ);
-        write_line(b"sizing ", self.sizes, self.sizes_differ);
-        write_line(b"spread by sigma table ", self.table, self.table_differ);
-        write_line(b"book ", self.book, self.book_differ);
-        io::write_all(1, b"unknown ");
-        io::print_decimal(1, self.unknown);
-        io::write_all(1, b"\n");
+    pub(crate) fn write(self, mut out: Stdout) {
+        write_line(out, b"elementary ", self.elementary, self.elementary_differ);
+        write_line(out, b"grid ", self.grid, self.grid_differ);
+        write_line(out, b"tree value ", self.tree, self.tree_differ);
+        write_line(out, b"spread from price ", self.spread, self.spread_differ);
+        write_line(out, b"call notices ", self.notices, self.notices_differ);
+        write_line(out, b"closing sheet ", self.sheet, self.sheet_differ);
+        write_line(out, b"sizing ", self.sizes, self.sizes_differ);
+        write_line(
+            out,
+            b"spread by sigma table ",
+            self.table,
+            self.table_differ,
+        );
+        write_line(out, b"book ", self.book, self.book_differ);
+        let unknown = self.unknown;
+        let _ = writeln!(out, "unknown {unknown}");
     }
 }
