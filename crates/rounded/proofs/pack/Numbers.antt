@@ -29,6 +29,7 @@ lifted a k s lo hi e =
 -- ---- the nearest whole number
 
 even : (p : ℕ) → 1 ≤ p → 2 ^ p % 2 ≡ 0
+even zero h = elim h [ ]
 even (suc p) h = ap (λ (z : ℕ). z % 2) (pow-succ' 2 p) ∙ omega arith
 
 module _ (v b : ℕ) (b-pos : 0 < b) (b-even : b % 2 ≡ 0) where
@@ -57,6 +58,7 @@ pub nearest_stay : (v p : ℕ) → (1 ≤ p) × (p ≤ 63) → v % unit p + v / 
 nearest_stay v p h l = stay_at v (2 ^ p) (pow_pos p) (even p h.0) (subst (λ (u : ℕ). v % u + v / 2 ^ p % 2 ≤ u / 2) (unit-is p h.1) l)
 
 pub half_of : (v p : ℕ) → 1 ≤ p → v / 2 ^ p ≤ v / 2
+half_of v zero h = elim h [ ]
 half_of v (suc p) h =
     le_trans (le_of_eq (ap (λ (z : ℕ). v / z) (pow-succ' 2 p) ∙ sym (div-div-eq-div-mul v 2 (2 ^ p)))) (div-le_self (v / 2) (2 ^ p))
 

@@ -8,7 +8,7 @@ pub returns-then-high-top : goal.returns-then-high-top
 returns-then-high-top c = above_yes _ _ _ _ _ c.product-p.ensures c.ranges.low.fits c.if-high-top.true
 
 pub returns-then-top-high : goal.returns-then-top-high
-returns-then-top-high c = above_no _ _ _ _ _ c.product-p.ensures (omega (arith, c.product-p.type-inv)) c.if-top-high.true
+returns-then-top-high c = above_no _ _ _ _ _ c.product-p.ensures (omega (arith, c.product-p.type_inv)) c.if-top-high.true
 
 pub returns : goal.returns
 returns c = above_low _ _ _ _ _ c.product-p.ensures c.if-high-top.false c.if-top-high.false

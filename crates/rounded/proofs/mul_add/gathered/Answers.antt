@@ -28,7 +28,10 @@ join-requires c =
     let a = c.args in
     let p = c.requires in
     let w = c.product-p.result in
-    (joinable a.a a.b a.c w.high w.low p.0.0 p.0.1 p.0.2 (omega (arith, c.product-p.type-inv)) c.product-p.ensures (some a.a c.if-a-eq0.false) (some a.b c.if-b-eq0.false) (some a.c c.if-c-eq0.false), p.1)
+    record {
+      joinable = joinable a.a a.b a.c w.high w.low p.digits.0 p.digits.1 p.digits.2 (omega (arith, c.product-p.type_inv)) c.product-p.ensures (some a.a c.if-a-eq0.false) (some a.b c.if-b-eq0.false) (some a.c c.if-c-eq0.false);
+      le_e = p.le_e;
+    }
 
 pub returns : goal.returns
 returns c =

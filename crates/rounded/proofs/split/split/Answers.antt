@@ -2,31 +2,26 @@
 use mathlib.Core.Path.{sym, subst}
 use native.Mathlib.Omega.{arith}
 use lib.Dec.{T}
-use lib.Ieee.{binary64, fits}
 use Rattle.rounded.proofs.split.Fields.{finite_number, field-most, normal-parts, low_parts, zero-parts}
 use Rattle.rounded.proofs.split.split.Goals as goal
-
--- an f64 is a value of the format
-held : (c : tie.Start) → T (fits binary64 c.args.x)
-held c = subst T (sym c.well-formed.0.1) tt
 
 pub float_to_bits-bits : goal.float_to_bits-bits
 float_to_bits-bits c = finite_number c.args.x c.requires
 
 pub raised-requires : goal.raised-requires
-raised-requires c = (omega arith, omega arith, field-most c.args.x (held c) c.requires c.if-field-gt0.true)
+raised-requires c = (omega arith, omega arith, field-most c.args.x (subst T (sym c.well_formed.0.1) tt) c.requires c.if-field-gt0.true)
 
 pub returns-then-field-gt0 : goal.returns-then-field-gt0
 returns-then-field-gt0 c =
     let r = c.raised.result in
     let e = c.raised.ensures in
-    normal-parts c.args.x (held c) c.requires r.neg r.digits r.place c.if-field-gt0.true e.0 e.1 e.2
+    normal-parts c.args.x (subst T (sym c.well_formed.0.1) tt) c.requires r.neg r.digits r.place c.if-field-gt0.true e.0 e.1 e.2
 
 pub returns-then-tail-gt0 : goal.returns-then-tail-gt0
 returns-then-tail-gt0 c =
     let r = c.raised-then-tail-gt0.result in
     let e = c.raised-then-tail-gt0.ensures in
-    low_parts c.args.x (held c) c.requires r.neg r.digits r.place c.if-field-gt0.false e.0 e.1 e.2
+    low_parts c.args.x (subst T (sym c.well_formed.0.1) tt) c.requires r.neg r.digits r.place c.if-field-gt0.false e.0 e.1 e.2
 
 pub returns : goal.returns
-returns c = zero-parts c.args.x (held c) c.requires c.if-field-gt0.false c.if-tail-gt0.false
+returns c = zero-parts c.args.x (subst T (sym c.well_formed.0.1) tt) c.requires c.if-field-gt0.false c.if-tail-gt0.false

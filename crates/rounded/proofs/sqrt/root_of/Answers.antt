@@ -1,25 +1,18 @@
 -- `sqrt::root_of` meets its contract: x is digits × 2^place / 2^1136, and digits × 2^44, or × 2^45, has the root's digits.
 -- Assumes nothing.
 use mathlib.Core.Path.{sym, ◌∙◌, subst}
-use Prim.Native.Nat.{◌+◌, ◌*◌, ◌/◌, ◌%◌, ◌^◌, ◌≤◌}
+use Prim.Native.Nat.{◌+◌, ◌*◌, ◌/◌, ◌%◌, ◌^◌}
 use native.Mathlib.Omega.{arith}
 use lib.Dec.{T}
-use lib.Ieee.{binary64, fits}
 use lib.Ieee.Positive.{positive-finite}
 use Rattle.rounded.proofs.sqrt.Places.{full, packed}
 use Rattle.rounded.proofs.sqrt.root_of.Goals as goal
-
-held : (c : tie.Start) → T (fits binary64 c.args.x)
-held c = subst T (sym c.well-formed.0.1) tt
-
-digits-full : (c : tie.After-split) → 4611686018427387904 ≤ c.split.result.digits
-digits-full c = full c.before.args.x _ _ _ c.before.requires c.split.ensures
 
 pub split-parts-requires : goal.split-parts-requires
 split-parts-requires c = positive-finite c.args.x c.requires
 
 pub guess-start-requires : goal.guess-start-requires
-guess-start-requires c = omega (arith, digits-full c)
+guess-start-requires c = omega (arith, full c.args.x _ _ _ c.requires c.split-parts.ensures)
 
 pub returns-then-place-eq0 : goal.returns-then-place-eq0
 returns-then-place-eq0 c =
@@ -32,11 +25,11 @@ returns-then-place-eq0 c =
     (c.split-parts.result.place / 2 + 484)
     (c.split-parts.result.place / 2 + 1745)
     _
-    (held c)
+    (subst T (sym c.well_formed.0.1) tt)
     (omega arith)
     (omega arith)
     (omega arith)
-    (omega (arith, digits-full c))
+    (omega (arith, full c.args.x _ _ _ c.requires c.split-parts.ensures))
     c.doubled-w.ensures
 
 pub returns : goal.returns
@@ -50,9 +43,9 @@ returns c =
     (c.split-parts.result.place / 2 + 484)
     (c.split-parts.result.place / 2 + 1745)
     _
-    (held c)
+    (subst T (sym c.well_formed.0.1) tt)
     (omega arith)
     (omega arith)
     (omega arith)
-    (omega (arith, digits-full c))
+    (omega (arith, full c.args.x _ _ _ c.requires c.split-parts.ensures))
     c.doubled-w-2.ensures
