@@ -33,7 +33,7 @@ pub on_piece-requires : goal.on_piece-requires
 on_piece-requires c = search curving
 
 pub returns-then-before_next : goal.returns-then-before_next
-returns-then-before_next c = found _ _ _ _ _ c.loop-i.invariant (omega arith) (omega arith) c-next.ensures c.if-before_next.true c.on_piece.ensures
+returns-then-before_next c = found _ _ _ _ _ c.loop-i.invariant (omega arith) (omega arith) c.before_next.ensures c.if-before_next.true c.on_piece.ensures
 
 pub overflow_add-i-in-loop-i-2 : goal.overflow_add-i-in-loop-i-2
 overflow_add-i-in-loop-i-2 c = search curving
@@ -42,7 +42,7 @@ pub loop-i-smaller : goal.loop-i-smaller
 loop-i-smaller c = search curving
 
 pub loop-i-preserved : goal.loop-i-preserved
-loop-i-preserved c = turn _ _ _ _ _ c.loop-i.invariant (omega arith) (omega arith) c-next.ensures c.if-before_next.false
+loop-i-preserved c = turn _ _ _ _ _ c.loop-i.invariant (omega arith) (omega arith) c.before_next.ensures c.if-before_next.false
 
 pub number_at-requires-2 : goal.number_at-requires-2
 number_at-requires-2 c = search curving

@@ -11,4 +11,4 @@ pub not_within-requires : goal.not_within-requires
 not_within-requires c = search tests
 
 pub returns : goal.returns
-returns c = c.not-Within.ensures ∙ ap (beyond c.args.limit) c.number_at.ensures
+returns c = c.not_within.ensures ∙ ap (beyond c.args.limit) c.number_at.ensures
