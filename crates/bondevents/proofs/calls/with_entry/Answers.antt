@@ -24,4 +24,4 @@ pub returns : goal.returns
 returns c =
     let start = c in
     let window = c.if-start-end.false in
-    window-call _ _ _ _ start.requires.0.0 _ _ _ _ c.if-end-settlement.false window (start.requires.1.1 window) c.time_from-from.ensures c.time_from-to.ensures c.over_window.ensures
+    window-call _ _ _ _ start.requires.le_steps.0 _ _ _ _ c.if-end-settlement.false window (start.requires.principals window) c.time_from-from.ensures c.time_from-to.ensures c.over_window.ensures

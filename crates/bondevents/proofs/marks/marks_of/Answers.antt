@@ -16,4 +16,4 @@ unfolding side_mark
 loop-i-preserved c = more _ _ 513 _ _ c.loop-i.invariant (omega arith) (c.mark_of-mark.ensures ∙ ap mark_of c.side_of-exercise.ensures)
 
 pub returns : goal.returns
-returns c = copied (side_mark _) past_end 513 c.args.t2 _ _ (search rules) (omega arith) c.loop-i.invariant
+returns c = copied (side_mark _) past_end 513 c.args.steps _ _ (search rules) (omega arith) c.loop-i.invariant

@@ -17,4 +17,4 @@ unfolding side_price
 loop-i-preserved c = more _ _ 513 _ _ c.loop-i.invariant (omega arith) (ap (λ (e : Exercise). e.price) c.side_of-exercise.ensures)
 
 pub returns : goal.returns
-returns c = copied (side_price _) past_end 513 c.args.t2 _ _ (search rules) (omega arith) c.loop-i.invariant
+returns c = copied (side_price _) past_end 513 c.args.steps _ _ (search rules) (omega arith) c.loop-i.invariant

@@ -13,4 +13,4 @@ pub loop-i-preserved : goal.loop-i-preserved
 loop-i-preserved c = more _ 0 513 _ _ c.loop-i.invariant (omega arith) c.step_mark-mark.ensures
 
 pub returns : goal.returns
-returns c = copied step_mark past_end 513 c.args.t1 _ _ c.well_formed.0.1.0.1 (omega arith) c.loop-i.invariant
+returns c = copied step_mark past_end 513 c.args.steps _ _ c.well_formed.0.1.0.1 (omega arith) c.loop-i.invariant

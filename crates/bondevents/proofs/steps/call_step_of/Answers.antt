@@ -1,10 +1,14 @@
 -- `bondevents::steps::call_step_of` meets its contract: the definition's quotient and product, through `near_to`, at the highest step that is not maturity. Assumes nothing.
-use Prim.Native.Nat.{◌-◌}
+use Prim.Native.Nat.{ℕ, ◌-◌}
 use native.Mathlib.Nat.{max-eq_left, max-eq_right}
 use native.Mathlib.Omega.{arith}
-use lib.Ieee.{mul, div}
+use mathlib.Core.Path.{ap, sym, ◌∙◌}
+use lib.Ieee.{Float, binary64, mul, div, to_unsigned}
+use Rattle.floats.specs.Whole.{rounded}
+use Rattle.terms.specs.Numbers.{float}
+use Rattle.bondevents.specs.Parts.{axis_at}
 use Rattle.floats.proofs.Laws.{answers}
-use Rattle.bondevents.specs.Steps.{raw_step}
+use Rattle.bondevents.specs.Steps.{clamp, raw_step}
 use Rattle.bondevents.proofs.steps.call_step_of.Goals as goal
 
 pub time_from-requires : goal.time_from-requires
@@ -21,11 +25,17 @@ near_to-requires c = search answers
 
 pub returns-then-steps-gt1 : goal.returns-then-steps-gt1
 unfolding raw_step mul div
-returns-then-steps-gt1 c = cc (max-eq_left {n = c.args.steps - 1} {m = 1} (omega arith))
+returns-then-steps-gt1 c =
+    let e = max-eq_left {n = c.args.steps - 1} {m = 1} (omega arith) in
+    let n = λ (t : Float). to_unsigned 64 (rounded (mul binary64 (div binary64 t c.args.maturity) (float c.args.steps))) in
+    c.near_to.ensures ∙ ap (λ (t : Float). clamp 1 (c.args.steps - 1) (n t)) c.time_from.ensures ∙ ap (λ (h : ℕ). clamp 1 h (raw_step (axis_at c.args.settlement c.args.maturity c.args.steps) c.args.day)) (sym e)
 
 pub near_to-requires-2 : goal.near_to-requires-2
 near_to-requires-2 c = search answers
 
 pub returns : goal.returns
 unfolding raw_step mul div
-returns c = cc (max-eq_right {n = c.args.steps - 1} {m = 1} (omega arith))
+returns c =
+    let e = max-eq_right {n = c.args.steps - 1} {m = 1} (omega arith) in
+    let n = λ (t : Float). to_unsigned 64 (rounded (mul binary64 (div binary64 t c.args.maturity) (float c.args.steps))) in
+    c.near_to-2.ensures ∙ ap (λ (t : Float). clamp 1 (1) (n t)) c.time_from.ensures ∙ ap (λ (h : ℕ). clamp 1 h (raw_step (axis_at c.args.settlement c.args.maturity c.args.steps) c.args.day)) (sym e)
