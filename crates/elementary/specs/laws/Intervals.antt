@@ -3,7 +3,7 @@
 use Prim.Native.Nat.{ℕ, zero, suc, ◌+◌}
 use Rattle.std.proofs.Common.{inl, inr, arith}
 use Rattle.std.proofs.Math.Bool.{Bool}
-use Rattle.std.specs.Prelude.{true, ◌&&◌, T, pos, negsuc, Float}
+use Rattle.std.specs.Prelude.{true, false, ◌&&◌, T, pos, negsuc, Float}
 use Rattle.std.specs.Float.{fin}
 use Rattle.std.specs.Float.Ieee.{binary64, of_bits, of_int, add, mul, div, lt, le}
 use Rattle.std.specs.Float.Ieee.Scale.{finite}
@@ -46,6 +46,14 @@ record Ready (n u v s t : Float) : Type 0 where
 
 eight : (a b c d e f g h : Bool) → T (a && b && c && d && e && f && g && h) → T a × T b × T c × T d × T e × T f × T g × T h
 eight true true true true true true true true x = (tt, tt, tt, tt, tt, tt, tt, tt)
+eight false b c d e f g h x = elim x [ ]
+eight true false c d e f g h x = elim x [ ]
+eight true true false d e f g h x = elim x [ ]
+eight true true true false e f g h x = elim x [ ]
+eight true true true true false f g h x = elim x [ ]
+eight true true true true true false g h x = elim x [ ]
+eight true true true true true true false h x = elim x [ ]
+eight true true true true true true true false x = elim x [ ]
 
 is_ready : (n u v s t : Float) → T (ready n u v s t) → Ready n u v s t
 unfolding ready

@@ -174,6 +174,14 @@ module _ (x : Float) (h : Small x) where
 
 eight : (a b c d e f g h : Bool) → T (a && b && c && d && e && f && g && h) → T a × T b × T c × T d × T e × T f × T g × T h
 eight true true true true true true true true x = (tt, tt, tt, tt, tt, tt, tt, tt)
+eight false b c d e f g h x = elim x [ ]
+eight true false c d e f g h x = elim x [ ]
+eight true true false d e f g h x = elim x [ ]
+eight true true true false e f g h x = elim x [ ]
+eight true true true true false f g h x = elim x [ ]
+eight true true true true true false g h x = elim x [ ]
+eight true true true true true true false h x = elim x [ ]
+eight true true true true true true true false x = elim x [ ]
 
 -- the products and quotients at the ends, for a divisor n
 kept-within : Float → Float → Float → Bool

@@ -6,9 +6,6 @@ use lib.Ieee.{Float}
 use Rattle.elementary.specs.laws.Exponential.{plain_term, plain_series}
 use Rattle.elementary.proofs.exp.terms.Goals as goal
 
-record At (r start : Float) (high low : ℕ) (p : Float) (n : ℕ) : Type 0 where
-  left : plain_series low (n - low) r p ≡ plain_series low (high - low) r start
-
 turn : (r : Float) (low : ℕ) (p : Float) (n : ℕ) → low < n → plain_series low (n - low) r p ≡ plain_series low (n - 1 - low) r (plain_term n r p)
 unfolding plain_series
 turn r low p n h =

@@ -1,7 +1,6 @@
 -- `exps::reduce_row` meets its contract. The invariant: of the entries passed, k and r are there, and each is reducible. Assumes nothing.
 use Prim.Native.Nat.{◌-◌}
 use mathlib.Core.Path.{refl}
-use borrow.Author.Tests.{not-false}
 use Rattle.elementary.specs.laws.Steps.{quotient-finite}
 use Rattle.elementary.specs.laws.Rows.{parting_none, parting_more, parting_done, false_not}
 use Rattle.elementary.proofs.exps.reduce_row.Goals as goal
@@ -13,10 +12,10 @@ pub returns-then-not-within : goal.returns-then-not-within
 returns-then-not-within c = λ h. false_not h
 
 pub near-k-requires : goal.near-k-requires
-near-k-requires c = quotient-finite _ (c.within.ensures (not-false _ c.if-not-within.false))
+near-k-requires c = quotient-finite _ (c.within.ensures c.if-not-within.false)
 
 pub loop-i-preserved : goal.loop-i-preserved
-loop-i-preserved c = parting_more _ _ c.loop-i.invariant c.loop-i-test.true c.requires.0 c.requires.1 (c.within.ensures (not-false _ c.if-not-within.false)) c.near-k.ensures refl
+loop-i-preserved c = parting_more _ _ c.loop-i.invariant c.loop-i-test.true c.requires.0 c.requires.1 (c.within.ensures c.if-not-within.false) c.near-k.ensures refl
 
 pub returns : goal.returns
 returns c = λ h. parting_done c.loop-i.invariant c.requires.0 c.requires.1 c.loop-i-test.false

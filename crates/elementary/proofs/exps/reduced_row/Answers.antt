@@ -1,6 +1,5 @@
 -- `exps::reduced_row` meets its contract: the loops one after the other give exp at each index. Assumes nothing.
 use mathlib.Core.Path.{sym, ◌∙◌}
-use borrow.Author.Tests.{not-false}
 use Rattle.elementary.specs.laws.Rows.{false_not, step_row, row_is}
 use Rattle.elementary.proofs.exps.reduced_row.Goals as goal
 
@@ -9,8 +8,8 @@ returns-then-not-reduce_row c = record { values = λ h. false_not h }
 
 pub raise_row-requires : goal.raise_row-requires
 raise_row-requires c =
-    let p = c.reduce-row.ensures (not-false _ c.if1.false) in
-    (c.series_row_lem.ensures.kept ∙ p.rest-kept ∙ sym p.steps-kept, step_row p)
+    let p = c.reduce_row.ensures c.if-not-reduce_row.false in
+    (c.series_row.ensures.kept ∙ p.rest-kept ∙ sym p.steps-kept, step_row p)
 
 pub returns : goal.returns
-returns c = row_is (c.reduce-row.ensures (not-false _ c.if1.false)) c.series_row_lem.ensures c.raise_row.ensures
+returns c = row_is (c.reduce_row.ensures c.if-not-reduce_row.false) c.series_row.ensures c.raise_row.ensures

@@ -6,10 +6,6 @@ use lib.Ieee.{Float, of_int, of_bits}
 use Rattle.elementary.specs.laws.Logarithm.{plain_log_term, plain_log_series, log_start}
 use Rattle.elementary.proofs.ln.series.Goals as goal
 
-record At (z q : Float) (j : ℕ) : Type 0 where
-  within : j ≤ 10
-  left : plain_log_series j z q ≡ plain_log_series 10 z log_start
-
 turn : (z q : Float) (j : ℕ) → 0 < j → plain_log_series j z q ≡ plain_log_series (j - 1) z (plain_log_term (j - 1) z q)
 unfolding plain_log_series
 turn z q j h = let e : j ≡ suc (j - 1) = omega arith in ap (λ (k : ℕ). plain_log_series k z q) e

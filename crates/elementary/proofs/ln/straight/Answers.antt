@@ -13,9 +13,9 @@ pub fraction_of-m-requires : goal.fraction_of-m-requires
 fraction_of-m-requires c = loggable-normal c.args.x (passes (fits binary64 c.args.x) c.well_formed.0.1) c.requires
 
 pub exponent_of-k-requires : goal.exponent_of-k-requires
-exponent_of-k-requires c = fraction-of-requires c
+exponent_of-k-requires c = loggable-normal c.args.x (passes (fits binary64 c.args.x) c.well_formed.0.1) c.requires
 
 pub returns : goal.returns
 returns c =
     let s = c in
-    cc (of_bits-to_bits binary64 s.args.x (passes (fits binary64 s.args.x) s.well-formed.0.1))
+    cc (of_bits-to_bits binary64 s.args.x (passes (fits binary64 s.args.x) s.well_formed.0.1))
