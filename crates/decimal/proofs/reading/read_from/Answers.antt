@@ -1,5 +1,4 @@
 -- `reading::read_from` meets its contract. Assumes nothing.
-use Prim.Native.Nat.{◌-◌}
 use Rattle.floats.proofs.Laws.{answers}
 use Rattle.decimal.specs.laws.Reading.{begin, turn, unfit, full, done}
 use Rattle.decimal.proofs.reading.read_from.Goals as goal

@@ -1,5 +1,4 @@
 -- `writing::hex_digits` meets its contract. Assumes nothing.
-use Prim.Native.Nat.{◌-◌}
 use Rattle.floats.proofs.Laws.{answers}
 use Rattle.decimal.proofs.writing.Hexadecimal.{begin, turn, done}
 use Rattle.decimal.proofs.writing.hex_digits.Goals as goal
