@@ -1,5 +1,5 @@
 -- Definitions only. ln, operation by operation, each result tested.
-use Rattle.std.specs.Prelude.{ℕ, zero, suc, ◌+◌, ◌-◌, ◌*◌, ◌^◌, Bool, cond, false, leb, ℤ, pos, ◌+ℤ◌, Float}
+use Rattle.std.specs.Prelude.{ℕ, zero, suc, ◌+◌, ◌-◌, ◌*◌, ◌^◌, cond, false, leb, pos, ◌+ℤ◌, Float}
 use Rattle.std.specs.Float.{nan, inf, fin, binary64}
 use Rattle.std.specs.Float.Ieee.{of_bits, of_int, size, minus, add, sub, mul, div, lt}
 use Rattle.floats.specs.declared.Answer.{Answer}

@@ -1,7 +1,7 @@
 -- exp's k: a whole number from -1010 to 1010, and the bits of 2^k. Assumes nothing.
 use Rattle.std.specs.Prelude.{ℕ, zero, suc, ◌+◌, ◌-◌, ◌*◌, ◌/◌, ◌^◌, ◌≤◌, ◌<◌, ◌≡◌, Bool, true, false, cond, T, ℤ, pos, negsuc, Float}
 use Rattle.std.proofs.Math.Path.{refl}
-use Rattle.std.proofs.Common.{sym, ap, ◌∙◌, subst, le_trans, div-lt_iff_lt-mul, mul-pos, arith, lt-ltb, le→leb, lt→ltb, lit<, lit≤}
+use Rattle.std.proofs.Common.{sym, ap, ◌∙◌, subst, div-lt_iff_lt-mul, mul-pos, arith, lt-ltb, le→leb, lt→ltb, lit<, lit≤}
 use Rattle.std.proofs.Math.Dec.{eqb-suc-zero}
 use Rattle.std.specs.Float.{nan, inf, fin}
 use Rattle.std.specs.Float.Ieee.{binary64, up, down, minus, round, sum, add, mul, neg, lt, le, of_int, of_bits, to_signed, to_unsigned, in_unsigned, in_float}

@@ -1,5 +1,4 @@
 -- `exps::first_terms` meets its contract. The invariant: the entries passed hold their terms, the others are as they were. Assumes nothing.
-use Prim.Native.Nat.{◌-◌}
 use native.Mathlib.Omega.{arith}
 use Rattle.elementary.specs.laws.Rows.{filled_none, filled_more, filled-end}
 use Rattle.elementary.proofs.exps.first_terms.Goals as goal

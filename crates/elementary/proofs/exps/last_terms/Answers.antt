@@ -1,5 +1,4 @@
 -- `exps::last_terms` meets its contract. The invariant: the entries passed hold their terms, the others are as they were. Assumes nothing.
-use Prim.Native.Nat.{◌-◌}
 use mathlib.Core.Path.{◌∙◌, ap}
 use native.Mathlib.Nat.{le_refl}
 use native.Mathlib.Omega.{arith}

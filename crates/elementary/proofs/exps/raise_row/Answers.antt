@@ -1,5 +1,4 @@
 -- `exps::raise_row` meets its contract. The invariant: the entries passed are raised and, while the flag holds, finite; the others are as they were. Assumes nothing.
-use Prim.Native.Nat.{◌-◌}
 use mathlib.Core.Path.{ap}
 use lib.Ieee.{binary64, mul}
 use Rattle.elementary.specs.laws.Rows.{raising_none, raising_more, raising_done}

@@ -1,5 +1,4 @@
 -- `exps::reduce_row` meets its contract. The invariant: of the entries passed, k and r are there, and each is reducible. Assumes nothing.
-use Prim.Native.Nat.{◌-◌}
 use mathlib.Core.Path.{refl}
 use Rattle.elementary.specs.laws.Steps.{quotient-finite}
 use Rattle.elementary.specs.laws.Rows.{parting_none, parting_more, parting_done, false_not}

@@ -1,5 +1,4 @@
 -- `exps::small_row` meets its contract. The invariant: while the flag holds, the entries passed are small. Assumes nothing.
-use Prim.Native.Nat.{◌-◌}
 use Rattle.elementary.specs.laws.Rows.{seeing_none, seeing_more, seeing_done}
 use Rattle.elementary.proofs.exps.small_row.Goals as goal
 

@@ -3,7 +3,7 @@ use Prim.Native.Nat.{ℕ, suc, ◌-◌, ◌≤◌, ◌<◌}
 use mathlib.Core.Path.{◌≡◌, refl, sym, ap, ◌∙◌}
 use native.Mathlib.Omega.{arith}
 use lib.Ieee.{Float, of_int, of_bits}
-use Rattle.elementary.specs.laws.Logarithm.{plain_log_term, plain_log_series, log_start}
+use Rattle.elementary.specs.laws.Logarithm.{plain_log_term, plain_log_series}
 use Rattle.elementary.proofs.ln.series.Goals as goal
 
 turn : (z q : Float) (j : ℕ) → 0 < j → plain_log_series j z q ≡ plain_log_series (j - 1) z (plain_log_term (j - 1) z q)
