@@ -11,8 +11,8 @@ abbrev pub invariant-loop-i : goal.invariant-loop-i
 invariant-loop-i l =
     Naming
     (λ k.
-    bond_check (shared_of l.day l.alpha (record { l.times = l.times; l.sigmas = l.sigmas }) (record { l.days = l.pillars; l.factors = l.factors }))
-    (lists_of (record { l.days = l.days; l.kinds = l.kinds; l.amounts = l.amounts }) (record { l.starts = l.starts; l.ends = l.ends; l.strikes = l.strikes }) (record { l.starts = l.put_starts; l.ends = l.put_ends; l.strikes = l.put_strikes }))
+    bond_check (shared_of l.day l.alpha (record { times = l.times; sigmas = l.sigmas }) (record { days = l.pillars; factors = l.factors }))
+    (lists_of (record { days = l.days; kinds = l.kinds; amounts = l.amounts }) (record { starts = l.starts; ends = l.ends; strikes = l.strikes }) (record { starts = l.put_starts; ends = l.put_ends; strikes = l.put_strikes }))
     (get_or l.held k past_end))
     l.size
     l.i

@@ -1,5 +1,6 @@
 -- `first_entry` meets its contract: in the loop, the sum of the counts before k. Assumes nothing.
 use Prim.Native.Nat.{◌-◌}
+use Rattle.bookchecks.proofs.Summing.{Summed}
 use Rattle.bookchecks.proofs.fields.first_entry.Given as goal
 
 abbrev pub invariant-loop-k : goal.invariant-loop-k

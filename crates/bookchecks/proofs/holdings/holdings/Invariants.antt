@@ -8,7 +8,7 @@ use Rattle.bookchecks.proofs.holdings.holdings.Given as goal
 abbrev pub invariant-loop-i : goal.invariant-loop-i
 invariant-loop-i l =
     Filling
-    (holding_at (record { l.codes = l.codes; l.cashflows = l.cashflows; l.units = l.units; l.calls = l.calls; l.puts = l.puts; per_year = l.yearly; l.maximum = l.maximum; l.spreads = l.spreads; l.desks = l.desks }))
+    (holding_at (record { codes = l.codes; cashflows = l.cashflows; units = l.units; calls = l.calls; puts = l.puts; per_year = l.yearly; maximum = l.maximum; spreads = l.spreads; desks = l.desks }))
     past_end
     32
     l.i

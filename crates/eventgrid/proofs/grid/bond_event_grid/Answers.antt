@@ -13,7 +13,12 @@ event_grid-answer-requires c =
     let leg = leg-sized _ _ _ _ checks passed in
     let calls = (calls-sized _ _ _ _ checks passed).entries in
     let puts = (puts-sized _ _ _ _ checks passed).entries in
-    ((steps.some-steps, steps.few-steps), ((leg.few, leg.kinds_too, leg.amounts_too), ((calls.ends_too, calls.strikes_too), (puts.ends_too, puts.strikes_too))))
+    record {
+      le_maximum = (steps.some-steps, steps.few-steps);
+      days_len_bound = (leg.few, leg.kinds_too, leg.amounts_too);
+      ends_len = (calls.ends_too, calls.strikes_too);
+      put_ends_len = (puts.ends_too, puts.strikes_too);
+    }
 
 pub returns : goal.returns
 returns c = answered _ _ _ _ c.grid_checks-check.ensures c.in-Passed.is c.event_grid-answer.ensures c.refusal_in-2.ensures

@@ -8,7 +8,12 @@ use Rattle.eventgrid.proofs.grid.event_grid.Goals as goal
 pub call_steps-answer-requires : goal.call_steps-answer-requires
 call_steps-answer-requires c =
     let start = c in
-    (bounded _ _ c.steps_of-steps.ensures start.requires.0.0 start.requires.0.1, start.requires.1)
+    record {
+      le_steps = bounded _ _ c.steps_of-steps.ensures start.requires.le_maximum.0 start.requires.le_maximum.1;
+      days_len_bound = start.requires.days_len_bound;
+      ends_len = start.requires.ends_len;
+      put_ends_len = start.requires.put_ends_len;
+    }
 
 pub returns-in_default : goal.returns-in_default
 returns-in_default c =
@@ -17,12 +22,15 @@ returns-in_default c =
 pub paid_into-cashflows-requires : goal.paid_into-cashflows-requires
 paid_into-cashflows-requires c =
     let start = c in
-    (bounded _ _ c.steps_of-steps.ensures start.requires.0.0 start.requires.0.1, start.requires.1.0.2)
+    record {
+      le_steps = bounded _ _ c.steps_of-steps.ensures start.requires.le_maximum.0 start.requires.le_maximum.1;
+      amounts_len = start.requires.days_len_bound.2;
+    }
 
 pub overflow_cast-result : goal.overflow_cast-result
 overflow_cast-result c =
     let start = c in
-    record { fits = lt_of_le_of_lt (bounded _ _ c.steps_of-steps.ensures start.requires.0.0 start.requires.0.1).1 (lit< tt) }
+    record { fits = lt_of_le_of_lt (bounded _ _ c.steps_of-steps.ensures start.requires.le_maximum.0 start.requires.le_maximum.1).1 (lit< tt) }
 
 pub returns : goal.returns
 returns c =

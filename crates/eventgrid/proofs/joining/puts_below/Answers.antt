@@ -27,8 +27,8 @@ above_at-requires c = omega arith
 pub returns-then-put_above : goal.returns-then-put_above
 returns-then-put_above c =
     let inv = c.loop-i.invariant in
-    sought-below c.args.t1 inv.0
-    (found 38 _ 513 _ inv.1 c.loop-i-test.true (c.put_above.ensures ∙ ap put_above (same_at c.args.t1 c.loop-i.i past_end new_step (omega (arith, inv.0)))) c.if-put_above.true c.above_at.ensures)
+    sought-below c.args.steps inv.0
+    (found 38 _ 513 _ inv.1 c.loop-i-test.true (c.put_above.ensures ∙ ap put_above (same_at c.args.steps c.loop-i.i past_end new_step (omega (arith, inv.0)))) c.if-put_above.true c.above_at.ensures)
 
 pub overflow_add-i : goal.overflow_add-i
 overflow_add-i c = search seeking
@@ -39,9 +39,9 @@ loop-i-smaller c = search seeking
 pub loop-i-preserved : goal.loop-i-preserved
 loop-i-preserved c =
     let inv = c.loop-i.invariant in
-    (inv.0, turn 38 _ 513 _ inv.1 c.loop-i-test.true (c.put_above.ensures ∙ ap put_above (same_at c.args.t1 c.loop-i.i past_end new_step (omega (arith, inv.0)))) c.if-put_above.false)
+    (inv.0, turn 38 _ 513 _ inv.1 c.loop-i-test.true (c.put_above.ensures ∙ ap put_above (same_at c.args.steps c.loop-i.i past_end new_step (omega (arith, inv.0)))) c.if-put_above.false)
 
 pub returns : goal.returns
 returns c =
     let inv = c.loop-i.invariant in
-    sought-below c.args.t1 inv.0 (done 38 _ 513 _ inv.1 (omega arith) refl)
+    sought-below c.args.steps inv.0 (done 38 _ 513 _ inv.1 (omega arith) refl)

@@ -33,7 +33,11 @@ bounds-strikes-at c = search entering
 pub with_entry-answer-requires : goal.with_entry-answer-requires
 with_entry-answer-requires c =
     let start = c in
-    (start.requires.0, (start.requires.1.0, λ window. start.requires.1.1.1 c.loop-i.i c.loop-i-test.true window))
+    record {
+      le_steps = start.requires.le_steps;
+      kinds_len = start.requires.kinds_len;
+      principals = λ window. start.requires.by_index c.loop-i.i c.loop-i-test.true window;
+    }
 
 pub enum_told-1 : goal.enum_told-1
 enum_told-1 c = search entering

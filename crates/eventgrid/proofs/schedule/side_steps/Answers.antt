@@ -5,9 +5,19 @@ use Rattle.eventgrid.proofs.schedule.side_steps.Goals as goal
 pub over_entries-requires : goal.over_entries-requires
 over_entries-requires c =
     let start = c in
-    (start.requires.0, ((start.requires.1.0.1, start.requires.1.0.2), (start.requires.1.1, λ i h window. c.window_principals-principals.ensures)))
+    record {
+      le_steps = start.requires.le_steps;
+      kinds_len = (start.requires.days_len_bound.1, start.requires.days_len_bound.2);
+      ends_len = start.requires.ends_len;
+      by_index = λ i h window. c.window_principals-principals.ensures;
+    }
 
 pub over_entries-requires-2 : goal.over_entries-requires-2
 over_entries-requires-2 c =
     let start = c in
-    (start.requires.0, ((start.requires.1.0.1, start.requires.1.0.2), (start.requires.1.1, λ i h window. absurd (window (c.any_window.ensures c.if-any_window.false i h)))))
+    record {
+      le_steps = start.requires.le_steps;
+      kinds_len = (start.requires.days_len_bound.1, start.requires.days_len_bound.2);
+      ends_len = start.requires.ends_len;
+      by_index = λ i h window. absurd (window (c.any_window.ensures c.if-any_window.false i h));
+    }
