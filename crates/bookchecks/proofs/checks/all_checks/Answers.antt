@@ -7,14 +7,8 @@ use Rattle.bookchecks.proofs.checks.all_checks.Goals as goal
 pub loop-i-init : goal.loop-i-init
 loop-i-init c = begin _ _
 
-pub enum_known-check : goal.enum_known-check
-enum_known-check c = c.in-Refused.keys1
-
 pub returns-in-Refused : goal.returns-in-Refused
 returns-in-Refused c = found _ _ _ c.loop-i.invariant (omega arith) c.bond_check-check.ensures c.in-Refused.is
-
-pub enum_told-1 : goal.enum_told-1
-enum_told-1 c = c.in_default.keys2
 
 pub loop-i-preserved : goal.loop-i-preserved
 loop-i-preserved c = turn _ _ _ c.loop-i.invariant (omega arith) c.bond_check-check.ensures c.in_default.is

@@ -12,4 +12,4 @@ returns-then-amounts-place c = search tests depth 12
 
 pub returns : goal.returns
 unfolding amount_wrong
-returns c = let e = c.not-Within.ensures ∙ ap (beyond amount_limit) c.number_at.ensures in search (tests, e) depth 12
+returns c = let e = c.not_within.ensures ∙ ap (beyond amount_limit) c.number_at.ensures in search (tests, e) depth 12
