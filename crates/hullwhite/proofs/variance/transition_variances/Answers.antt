@@ -6,7 +6,7 @@ use Rattle.hullwhite.specs.laws.EachStep.{reached-none, reached-refused, reached
 use Rattle.hullwhite.proofs.variance.transition_variances.Goals as goal
 
 pub loop-k-init : goal.loop-k-init
-loop-k-init c = reached-none (model_of c.args.alpha c.args.sigma-times.now c.args.sigmas.now) c.args.time-step c.args.steps c.args.variances.now c.requires
+loop-k-init c = reached-none (model_of c.args.alpha c.args.sigma_times.now c.args.sigmas.now) c.args.time_step c.args.steps c.args.variances.now c.requires
 
 pub step_variance-found-requires : goal.step_variance-found-requires
 step_variance-found-requires c = search answers
@@ -24,7 +24,7 @@ pub shape_of-variances-in_default : goal.shape_of-variances-in_default
 shape_of-variances-in_default c = c.loop-k.invariant.filling.kept
 
 pub returns-in_default : goal.returns-in_default
-returns-in_default c = reached-refused (model_of c.args.alpha c.args.sigma-times.now c.args.sigmas.now) c.args.time-step c.args.steps c.args.variances.now c.loop-k.variances c.loop-k.k c.loop-k.invariant c.loop-k-test.true c.step_variance-found.ensures c.in_default.is c.refused_by.ensures
+returns-in_default c = reached-refused (model_of c.args.alpha c.args.sigma_times.now c.args.sigmas.now) c.args.time_step c.args.steps c.args.variances.now c.loop-k.variances c.loop-k.k c.loop-k.invariant c.loop-k-test.true c.step_variance-found.ensures c.in_default.is c.refused_by.ensures
 
 pub overflow_cast-variances : goal.overflow_cast-variances
 overflow_cast-variances c = search answers
@@ -42,10 +42,10 @@ pub loop-k-smaller : goal.loop-k-smaller
 loop-k-smaller c = search answers
 
 pub loop-k-preserved : goal.loop-k-preserved
-loop-k-preserved c = reached_more (model_of c.args.alpha c.args.sigma-times.now c.args.sigmas.now) c.args.time-step c.args.steps c.args.variances.now c.loop-k.variances c.loop-k.k c.loop-k.invariant c.loop-k-test.true c.step_variance-found.ensures c.in-Value.is
+loop-k-preserved c = reached_more (model_of c.args.alpha c.args.sigma_times.now c.args.sigmas.now) c.args.time_step c.args.steps c.args.variances.now c.loop-k.variances c.loop-k.k c.loop-k.invariant c.loop-k-test.true c.step_variance-found.ensures c.in-Value.is
 
 pub shape_of-variances : goal.shape_of-variances
 shape_of-variances c = c.loop-k.invariant.filling.kept
 
 pub returns : goal.returns
-returns c = reached_all (model_of c.args.alpha c.args.sigma-times.now c.args.sigmas.now) c.args.time-step c.args.steps c.args.variances.now c.loop-k.variances c.loop-k.k c.loop-k.invariant c.loop-k-test.false
+returns c = reached_all (model_of c.args.alpha c.args.sigma_times.now c.args.sigmas.now) c.args.time_step c.args.steps c.args.variances.now c.loop-k.variances c.loop-k.k c.loop-k.invariant c.loop-k-test.false
