@@ -36,7 +36,7 @@ stands_after front m t c e =
 replays_on : (front : List ℤ) (m : ℤ) (ms : List ℤ) (c : ℕ) → length front + 3 ≡ c → Rising m ms → Replays (front ++ (pred_ℤ m ∷ m ∷ suc_ℤ m ∷ laid (done_at m c) ms)) (done_at m c) ms
 unfolding laid
 replays_on front m [] c e ends = done {r = done_at m c} (rw (length-append front (pred_ℤ m ∷ m ∷ suc_ℤ m ∷ [])) (omega arith))
-replays_on front m (m' ∷ ms) c e (next g r) =
+replays_on front m ms' c e (next {ms = ms} g r) =
     let t = laid (done_at (up m g) (grew c g)) ms in
     let v = moved c g t m in
     let p = front ++ v.front in

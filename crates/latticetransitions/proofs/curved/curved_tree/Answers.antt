@@ -10,12 +10,6 @@ use Rattle.latticetransitions.proofs.curved.curved_tree.Goals as goal
 pub decay_of-found-requires : goal.decay_of-found-requires
 decay_of-found-requires c = tt
 
-pub enum_known-found : goal.enum_known-found
-enum_known-found c = c.in-Value.keys1
-
-pub enum_told-1 : goal.enum_told-1
-enum_told-1 c = c.in_default.keys2
-
 pub refused_by-requires : goal.refused_by-requires
 refused_by-requires c = tt
 
@@ -24,12 +18,6 @@ returns-in_default c = lays-nothing (no_decay_lem (room_left c.args.nodes.now c.
 
 pub spacing_of-first-requires : goal.spacing_of-first-requires
 spacing_of-first-requires c = tt
-
-pub enum_known-first : goal.enum_known-first
-enum_known-first c = c.in-Value-first.keys1
-
-pub enum_told-in_default-first : goal.enum_told-in_default-first
-enum_told-in_default-first c = c.in_default-first.keys2
 
 pub refused_by-requires-in_default-first : goal.refused_by-requires-in_default-first
 refused_by-requires-in_default-first c = tt

@@ -15,12 +15,6 @@ use Rattle.layers.proofs.grow.grow.Goals as goal
 pub step_of-made-requires : goal.step_of-made-requires
 step_of-made-requires c = tt
 
-pub enum_known-made : goal.enum_known-made
-enum_known-made c = c.in-Made.keys1
-
-pub enum_told-1 : goal.enum_told-1
-enum_told-1 c = c.in_default.keys2
-
 pub refusal-requires : goal.refusal-requires
 refusal-requires c = tt
 
@@ -41,11 +35,11 @@ pub grow_by-requires : goal.grow_by-requires
 grow_by-requires c =
     let a = c.args in
     let p = c.requires in
-    let f = p.0.0 in
+    let f = p.front.0 in
     let m = sym (rw c.in-Made.is at (c.step_of-made.ensures.step a.spacing a.decay)) in
     let k = c.known_count-known.ensures in
     let u = upright (given_of (step-sound a.spacing a.decay a.variance a.step) m) f.spacing-above f.decay-above in
-    ((f, u, p.0.1), (known-few k, known_of k p.1 a.step m))
+    record { front = (f, u, p.front.1); known_le_before = (known-few k, known_of k p.before a.step m) }
 
 pub shape_of-nodes : goal.shape_of-nodes
 shape_of-nodes c = c.grow_by.ensures.behind.kept

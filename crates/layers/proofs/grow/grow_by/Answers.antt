@@ -15,11 +15,8 @@ pub fill-filled-requires : goal.fill-filled-requires
 fill-filled-requires c =
     let p = c.requires in
     let a = c.args in
-    let h = front-room a.before a.nodes.now a.probabilities.now p.0.0 in
-    ((h.0, h.1, p.1.0), p.1.1)
-
-pub enum_known-filled : goal.enum_known-filled
-enum_known-filled c = c.in-Refused.keys1
+    let h = front-room a.before a.nodes.now a.probabilities.now p.front.0 in
+    record { count_in_bounds = (h.0, h.1, p.known_le_before.0); known = p.known_le_before.1 }
 
 pub shape_of-nodes-in-Refused : goal.shape_of-nodes-in-Refused
 shape_of-nodes-in-Refused c = c.fill-filled.ensures.behind.kept
@@ -35,9 +32,6 @@ returns-in-Refused c =
     let d = drop (a.before * 2) a.nodes.now in
     let q = drop (a.before * 3) a.probabilities.now in
     record { grown = grown-stopped (room_left d q a.one a.two) p.0 (rw c.in-Refused.is at e.filled); behind = e.behind }
-
-pub enum_told-1 : goal.enum_told-1
-enum_told-1 c = c.in_default.keys2
 
 pub overflow_mul-pairs : goal.overflow_mul-pairs
 overflow_mul-pairs c = let a = c.args in let h = front-room a.before a.nodes.now a.probabilities.now c.requires.front.0 in let p = h.0 in let q = h.1 in search rules
@@ -63,7 +57,7 @@ lay_next-requires c =
     let e = c.fill-filled.ensures in
     let f = filled-front p.0 p.1 (rw c.in_default.is at e.filled) in
     let a = c.args in
-    rw (part_from_lem (a.before * 2) c.fill-filled.new.1.1.1.1.1.1.1.0) (f.some-node, f.pairs, f.within, p.2)
+    rw (part_from_lem (a.before * 2) c.fill-filled.new.nodes) (f.some-node, f.pairs, f.within, p.2)
 
 pub returns : goal.returns
 returns c =

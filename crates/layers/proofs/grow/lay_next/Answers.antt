@@ -15,7 +15,7 @@ has_room-requires c =
     let l = c.args.nodes.now in
     let n = ap (λ (r : Reach). r.count) c.count_next-reached.ensures in
     let f = reach_few (nothing_below (get_or l 1 (pos 0))) l 0 c.args.count in
-    omega (arith, c.requires.1, c.well-formed)
+    omega (arith, c.requires.1, c.well_formed)
 
 pub spread-requires : goal.spread-requires
 spread-requires c =
@@ -25,7 +25,7 @@ spread-requires c =
     (c.requires.0, omega arith, c.requires.2)
 
 pub shape_of-nodes-then-has_room : goal.shape_of-nodes-then-has_room
-shape_of-nodes-then-has_room c = c.spread.auto.1.0
+shape_of-nodes-then-has_room c = c.spread.auto.nodes
 
 pub returns-then-has_room : goal.returns-then-has_room
 returns-then-has_room c =

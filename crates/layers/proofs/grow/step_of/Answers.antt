@@ -10,12 +10,6 @@ returns-then-variance c = record { step = λ spacing decay. rw (← step_is spac
 pub spacing_of-found-requires : goal.spacing_of-found-requires
 spacing_of-found-requires c = tt
 
-pub enum_known-found : goal.enum_known-found
-enum_known-found c = c.in-Value.keys1
-
-pub enum_told-1 : goal.enum_told-1
-enum_told-1 c = c.in_default.keys2
-
 pub refusal_of-requires : goal.refusal_of-requires
 refusal_of-requires c = tt
 

@@ -11,107 +11,101 @@ use Rattle.layers.specs.laws.Behind.{behind-begun, still_known, pairs-there, thr
 use Rattle.layers.proofs.layers.fill.Goals as goal
 
 pub loop-i-init : goal.loop-i-init
-loop-i-init c = let p = c.requires in behind-begun p.0.0 p.0.1 p.0.2 p.1
+loop-i-init c = let p = c.requires in let q = p.count_in_bounds in behind-begun q.0 q.1 q.2 p.known
 
 pub overflow_add-at : goal.overflow_add-at
-overflow_add-at c = let g = c in let f = g.before.loop.invariant in let p = pairs-there f g.loop-test.true in let q = threes-there f g.loop-test.true in let k = f.behind.kept in let l = f.behind.kept_too in search rules
+overflow_add-at c = let g = c in let f = g.loop-i.invariant in let p = pairs-there f g.loop-i-test.true in let q = threes-there f g.loop-i-test.true in let k = f.behind.kept in let l = f.behind.kept_too in search rules
 
 pub overflow_mul-node : goal.overflow_mul-node
-overflow_mul-node c = let g = c in let f = g.before.loop.invariant in let p = pairs-there f g.loop-test.true in let q = threes-there f g.loop-test.true in let k = f.behind.kept in let l = f.behind.kept_too in search rules
+overflow_mul-node c = let g = c in let f = g.loop-i.invariant in let p = pairs-there f g.loop-i-test.true in let q = threes-there f g.loop-i-test.true in let k = f.behind.kept in let l = f.behind.kept_too in search rules
 
 pub offset_bounds-nodes-at : goal.offset_bounds-nodes-at
-offset_bounds-nodes-at c = let g = c in let f = g.before.loop.invariant in let p = pairs-there f g.loop-test.true in let q = threes-there f g.loop-test.true in let k = f.behind.kept in let l = f.behind.kept_too in search rules
+offset_bounds-nodes-at c = let g = c in let f = g.loop-i.invariant in let p = pairs-there f g.loop-i-test.true in let q = threes-there f g.loop-i-test.true in let k = f.behind.kept in let l = f.behind.kept_too in search rules
 
 pub slice_copy_out-node : goal.slice_copy_out-node
-slice_copy_out-node c = let g = c in let f = g.before.loop.invariant in let p = pairs-there f g.loop-test.true in let q = threes-there f g.loop-test.true in let k = f.behind.kept in let l = f.behind.kept_too in search rules
+slice_copy_out-node c = let g = c in let f = g.loop-i.invariant in let p = pairs-there f g.loop-i-test.true in let q = threes-there f g.loop-i-test.true in let k = f.behind.kept in let l = f.behind.kept_too in search rules
 
 pub not_below-j-requires : goal.not_below-j-requires
-not_below-j-requires c = (still_known c.loop.invariant).pairs
+not_below-j-requires c = (still_known c.loop-i.invariant).pairs
 
 pub known_or_made-made-requires : goal.known_or_made-made-requires
-known_or_made-made-requires c = still_known c.loop.invariant
-
-pub enum_known-made : goal.enum_known-made
-enum_known-made c = c.in-Made.keys1
-
-pub enum_told-1 : goal.enum_told-1
-enum_told-1 c = c.in_default.keys2
+known_or_made-made-requires c = still_known c.loop-i.invariant
 
 pub unmade-requires : goal.unmade-requires
 unmade-requires c = tt
 
 pub shape_of-nodes-in_default : goal.shape_of-nodes-in_default
-shape_of-nodes-in_default c = c.loop.invariant.behind.kept
+shape_of-nodes-in_default c = c.loop-i.invariant.behind.kept
 
 pub shape_of-probabilities-in_default : goal.shape_of-probabilities-in_default
-shape_of-probabilities-in_default c = c.loop.invariant.behind.kept_too
+shape_of-probabilities-in_default c = c.loop-i.invariant.behind.kept_too
 
 pub returns-in_default : goal.returns-in_default
 returns-in_default c =
     let g = c in
     let m = c.known_or_made-made in
-    let read = to_z-of_z {w = w32} (record { sfits = c.node.given }) in
-    behind-stopped g.before.loop.invariant m.result g.loop-test.true read m.ensures c.in_default.is c.unmade.ensures
+    let read = to_z-of_z {w = w32} (record { sfits = c.node-1.given }) in
+    behind-stopped g.loop-i.invariant m.result g.loop-i-test.true read m.ensures c.in_default.is c.unmade.ensures
 
 pub overflow_mul-middle : goal.overflow_mul-middle
-overflow_mul-middle c = let g = c in let f = g.before.loop.invariant in let p = pairs-there f g.loop-test.true in let q = threes-there f g.loop-test.true in let k = f.behind.kept in let l = f.behind.kept_too in search rules
+overflow_mul-middle c = let g = c in let f = g.loop-i.invariant in let p = pairs-there f g.loop-i-test.true in let q = threes-there f g.loop-i-test.true in let k = f.behind.kept in let l = f.behind.kept_too in search rules
 
 pub overflow_add-middle : goal.overflow_add-middle
-overflow_add-middle c = let g = c in let f = g.before.loop.invariant in let p = pairs-there f g.loop-test.true in let q = threes-there f g.loop-test.true in let k = f.behind.kept in let l = f.behind.kept_too in search rules
+overflow_add-middle c = let g = c in let f = g.loop-i.invariant in let p = pairs-there f g.loop-i-test.true in let q = threes-there f g.loop-i-test.true in let k = f.behind.kept in let l = f.behind.kept_too in search rules
 
 pub offset_bounds-nodes-at-in-loop-i : goal.offset_bounds-nodes-at-in-loop-i
-offset_bounds-nodes-at-in-loop-i c = let g = c in let f = g.before.loop.invariant in let p = pairs-there f g.loop-test.true in let q = threes-there f g.loop-test.true in let k = f.behind.kept in let l = f.behind.kept_too in search rules
+offset_bounds-nodes-at-in-loop-i c = let g = c in let f = g.loop-i.invariant in let p = pairs-there f g.loop-i-test.true in let q = threes-there f g.loop-i-test.true in let k = f.behind.kept in let l = f.behind.kept_too in search rules
 
 pub bounds-nodes-at : goal.bounds-nodes-at
-bounds-nodes-at c = let g = c in let f = g.before.loop.invariant in let p = pairs-there f g.loop-test.true in let q = threes-there f g.loop-test.true in let k = f.behind.kept in let l = f.behind.kept_too in search rules
+bounds-nodes-at c = let g = c in let f = g.loop-i.invariant in let p = pairs-there f g.loop-i-test.true in let q = threes-there f g.loop-i-test.true in let k = f.behind.kept in let l = f.behind.kept_too in search rules
 
 pub overflow_mul-probabilities : goal.overflow_mul-probabilities
-overflow_mul-probabilities c = let g = c in let f = g.before.loop.invariant in let p = pairs-there f g.loop-test.true in let q = threes-there f g.loop-test.true in let k = f.behind.kept in let l = f.behind.kept_too in search rules
+overflow_mul-probabilities c = let g = c in let f = g.loop-i.invariant in let p = pairs-there f g.loop-i-test.true in let q = threes-there f g.loop-i-test.true in let k = f.behind.kept in let l = f.behind.kept_too in search rules
 
 pub offset_bounds-probabilities-at : goal.offset_bounds-probabilities-at
-offset_bounds-probabilities-at c = let g = c in let f = g.before.loop.invariant in let p = pairs-there f g.loop-test.true in let q = threes-there f g.loop-test.true in let k = f.behind.kept in let l = f.behind.kept_too in omega (arith, q, l, g.before.before.before.well-formed)
+offset_bounds-probabilities-at c = let g = c in let f = g.loop-i.invariant in let p = pairs-there f g.loop-i-test.true in let q = threes-there f g.loop-i-test.true in let k = f.behind.kept in let l = f.behind.kept_too in omega (arith, q, l, g.well_formed)
 
 pub bounds-probabilities-at : goal.bounds-probabilities-at
-bounds-probabilities-at c = let g = c in let f = g.before.loop.invariant in let p = pairs-there f g.loop-test.true in let q = threes-there f g.loop-test.true in let k = f.behind.kept in let l = f.behind.kept_too in search rules
+bounds-probabilities-at c = let g = c in let f = g.loop-i.invariant in let p = pairs-there f g.loop-i-test.true in let q = threes-there f g.loop-i-test.true in let k = f.behind.kept in let l = f.behind.kept_too in search rules
 
 pub overflow_mul-probabilities-in-loop-i : goal.overflow_mul-probabilities-in-loop-i
-overflow_mul-probabilities-in-loop-i c = let g = c in let f = g.before.loop.invariant in let p = pairs-there f g.loop-test.true in let q = threes-there f g.loop-test.true in let k = f.behind.kept in let l = f.behind.kept_too in search rules
+overflow_mul-probabilities-in-loop-i c = let g = c in let f = g.loop-i.invariant in let p = pairs-there f g.loop-i-test.true in let q = threes-there f g.loop-i-test.true in let k = f.behind.kept in let l = f.behind.kept_too in search rules
 
 pub overflow_add-probabilities : goal.overflow_add-probabilities
-overflow_add-probabilities c = let g = c in let f = g.before.loop.invariant in let p = pairs-there f g.loop-test.true in let q = threes-there f g.loop-test.true in let k = f.behind.kept in let l = f.behind.kept_too in search rules
+overflow_add-probabilities c = let g = c in let f = g.loop-i.invariant in let p = pairs-there f g.loop-i-test.true in let q = threes-there f g.loop-i-test.true in let k = f.behind.kept in let l = f.behind.kept_too in search rules
 
 pub offset_bounds-probabilities-at-in-loop-i : goal.offset_bounds-probabilities-at-in-loop-i
-offset_bounds-probabilities-at-in-loop-i c = let g = c in let f = g.before.loop.invariant in let p = pairs-there f g.loop-test.true in let q = threes-there f g.loop-test.true in let k = f.behind.kept in let l = f.behind.kept_too in omega (arith, q, l, g.before.before.before.well-formed)
+offset_bounds-probabilities-at-in-loop-i c = let g = c in let f = g.loop-i.invariant in let p = pairs-there f g.loop-i-test.true in let q = threes-there f g.loop-i-test.true in let k = f.behind.kept in let l = f.behind.kept_too in omega (arith, q, l, g.well_formed)
 
 pub bounds-probabilities-at-in-loop-i : goal.bounds-probabilities-at-in-loop-i
-bounds-probabilities-at-in-loop-i c = let g = c in let f = g.before.loop.invariant in let p = pairs-there f g.loop-test.true in let q = threes-there f g.loop-test.true in let k = f.behind.kept in let l = f.behind.kept_too in simp (length-set) (omega arith)
+bounds-probabilities-at-in-loop-i c = let g = c in let f = g.loop-i.invariant in let p = pairs-there f g.loop-i-test.true in let q = threes-there f g.loop-i-test.true in let k = f.behind.kept in let l = f.behind.kept_too in simp (length-set) (omega arith)
 
 pub overflow_mul-probabilities-in-loop-i-2 : goal.overflow_mul-probabilities-in-loop-i-2
-overflow_mul-probabilities-in-loop-i-2 c = let g = c in let f = g.before.loop.invariant in let p = pairs-there f g.loop-test.true in let q = threes-there f g.loop-test.true in let k = f.behind.kept in let l = f.behind.kept_too in search rules
+overflow_mul-probabilities-in-loop-i-2 c = let g = c in let f = g.loop-i.invariant in let p = pairs-there f g.loop-i-test.true in let q = threes-there f g.loop-i-test.true in let k = f.behind.kept in let l = f.behind.kept_too in search rules
 
 pub overflow_add-probabilities-in-loop-i : goal.overflow_add-probabilities-in-loop-i
-overflow_add-probabilities-in-loop-i c = let g = c in let f = g.before.loop.invariant in let p = pairs-there f g.loop-test.true in let q = threes-there f g.loop-test.true in let k = f.behind.kept in let l = f.behind.kept_too in search rules
+overflow_add-probabilities-in-loop-i c = let g = c in let f = g.loop-i.invariant in let p = pairs-there f g.loop-i-test.true in let q = threes-there f g.loop-i-test.true in let k = f.behind.kept in let l = f.behind.kept_too in search rules
 
 pub offset_bounds-probabilities-at-in-loop-i-2 : goal.offset_bounds-probabilities-at-in-loop-i-2
-offset_bounds-probabilities-at-in-loop-i-2 c = let g = c in let f = g.before.loop.invariant in let p = pairs-there f g.loop-test.true in let q = threes-there f g.loop-test.true in let k = f.behind.kept in let l = f.behind.kept_too in omega (arith, q, l, g.before.before.before.well-formed)
+offset_bounds-probabilities-at-in-loop-i-2 c = let g = c in let f = g.loop-i.invariant in let p = pairs-there f g.loop-i-test.true in let q = threes-there f g.loop-i-test.true in let k = f.behind.kept in let l = f.behind.kept_too in omega (arith, q, l, g.well_formed)
 
 pub bounds-probabilities-at-in-loop-i-2 : goal.bounds-probabilities-at-in-loop-i-2
-bounds-probabilities-at-in-loop-i-2 c = let g = c in let f = g.before.loop.invariant in let p = pairs-there f g.loop-test.true in let q = threes-there f g.loop-test.true in let k = f.behind.kept in let l = f.behind.kept_too in simp (length-set) (omega arith)
+bounds-probabilities-at-in-loop-i-2 c = let g = c in let f = g.loop-i.invariant in let p = pairs-there f g.loop-i-test.true in let q = threes-there f g.loop-i-test.true in let k = f.behind.kept in let l = f.behind.kept_too in simp (length-set) (omega arith)
 
 pub overflow_add-i : goal.overflow_add-i
-overflow_add-i c = let g = c in let f = g.before.loop.invariant in let p = pairs-there f g.loop-test.true in let q = threes-there f g.loop-test.true in let k = f.behind.kept in let l = f.behind.kept_too in search rules
+overflow_add-i c = let g = c in let f = g.loop-i.invariant in let p = pairs-there f g.loop-i-test.true in let q = threes-there f g.loop-i-test.true in let k = f.behind.kept in let l = f.behind.kept_too in search rules
 
 pub loop-i-smaller : goal.loop-i-smaller
-loop-i-smaller c = let g = c in let f = g.before.loop.invariant in let p = pairs-there f g.loop-test.true in let q = threes-there f g.loop-test.true in let k = f.behind.kept in let l = f.behind.kept_too in search rules
+loop-i-smaller c = let g = c in let f = g.loop-i.invariant in let p = pairs-there f g.loop-i-test.true in let q = threes-there f g.loop-i-test.true in let k = f.behind.kept in let l = f.behind.kept_too in search rules
 
 pub loop-i-preserved : goal.loop-i-preserved
 loop-i-preserved c =
     let g = c in
     let m = c.known_or_made-made in
     let e = c.in-Made.is in
-    let read = to_z-of_z {w = w32} (record { sfits = c.node.given }) in
-    let within = behind-within g.before.loop.invariant m.result g.loop-test.true read m.ensures e in
-    behind-stored g.before.loop.invariant m.result g.loop-test.true read m.ensures e (back-numbered (within-numbered within))
+    let read = to_z-of_z {w = w32} (record { sfits = c.node-1.given }) in
+    let within = behind-within g.loop-i.invariant m.result g.loop-i-test.true read m.ensures e in
+    behind-stored g.loop-i.invariant m.result g.loop-i-test.true read m.ensures e (back-numbered (within-numbered within))
 
 pub shape_of-nodes : goal.shape_of-nodes
 shape_of-nodes c = c.loop-i.invariant.behind.kept

@@ -9,9 +9,6 @@ use Rattle.lattice.specs.laws.Spreading.{spreading_begun, spread-held, spread-pa
 use Rattle.lattice.proofs.Signed.{back-numbered}
 use Rattle.layers.proofs.layers.spread.Goals as goal
 
-in-front : (c : tie.In-loop invariant-loop decreases-loop) → 2 * c.before.before.before.before.args.count ≤ length c.before.loop.nodes
-in-front c = spread-pairs c.before.before.before.before.args.nodes.now c.before.before.before.before.args.count c.before.loop.r c.before.loop.i c.before.loop.nodes c.before.loop.invariant
-
 pub slice_copy_out-first : goal.slice_copy_out-first
 slice_copy_out-first c = let p = c.requires in omega (arith, p.0, p.1)
 
@@ -26,16 +23,16 @@ loop-i-init c =
     rw (c.nothing_below-r.ensures, back-numbered (within-numbered w)) (spreading_begun c.args.nodes.now c.args.count c.requires.2 c.requires.1)
 
 pub overflow_mul-middle : goal.overflow_mul-middle
-overflow_mul-middle c = let h = in-front c in search rules
+overflow_mul-middle c = let h = spread-pairs c.args.nodes.now c.args.count c.loop-i.r c.loop-i.i c.loop-i.nodes c.loop-i.invariant in search rules
 
 pub overflow_add-middle : goal.overflow_add-middle
-overflow_add-middle c = let h = in-front c in search rules
+overflow_add-middle c = let h = spread-pairs c.args.nodes.now c.args.count c.loop-i.r c.loop-i.i c.loop-i.nodes c.loop-i.invariant in search rules
 
 pub offset_bounds-nodes-i : goal.offset_bounds-nodes-i
-offset_bounds-nodes-i c = let h = in-front c in search rules
+offset_bounds-nodes-i c = let h = spread-pairs c.args.nodes.now c.args.count c.loop-i.r c.loop-i.i c.loop-i.nodes c.loop-i.invariant in search rules
 
 pub slice_copy_out-middle : goal.slice_copy_out-middle
-slice_copy_out-middle c = let h = in-front c in search rules
+slice_copy_out-middle c = let h = spread-pairs c.args.nodes.now c.args.count c.loop-i.r c.loop-i.i c.loop-i.nodes c.loop-i.invariant in search rules
 
 pub push_three-r-requires : goal.push_three-r-requires
 push_three-r-requires c =

@@ -2,12 +2,6 @@
 use native.Mathlib.Omega.{arith}
 use Rattle.sizing.proofs.entry.sized.Goals as goal
 
-pub enum_known-found : goal.enum_known-found
-enum_known-found c = c.in-Found.keys1
-
-pub enum_told-1 : goal.enum_told-1
-enum_told-1 c = c.in_default.keys2
-
 pub refusal-requires : goal.refusal-requires
 refusal-requires c = tt
 

@@ -24,14 +24,8 @@ slice_bounds-tree_checks-end c = let few = c.timed_pillars-count.ensures in sym 
 pub tree_checks-check-requires : goal.tree_checks-check-requires
 tree_checks-check-requires c = fronted _ _ _ c.timed_pillars-count.ensures c.pillar_times-table.ensures
 
-pub enum_known-check : goal.enum_known-check
-enum_known-check c = c.in-Refused.keys1
-
 pub returns-in-Refused : goal.returns-in-Refused
 returns-in-Refused c = entered-refused _ _ c.tree_checks-check.ensures _ c.in-Refused.is
-
-pub enum_told-1 : goal.enum_told-1
-enum_told-1 c = c.in_default.keys2
 
 pub steps_of-steps-requires : goal.steps_of-steps-requires
 steps_of-steps-requires c =

@@ -5,16 +5,10 @@ use Rattle.hullwhite.specs.laws.Filled.{model_of}
 use Rattle.sizing.specs.laws.Sized.{found-few, over-refused, over-found}
 use Rattle.sizing.proofs.entry.sizes_over.Goals as goal
 
-pub enum_known-v : goal.enum_known-v
-enum_known-v c = c.in-Refused.keys1
-
 pub returns-in-Refused : goal.returns-in-Refused
 returns-in-Refused c =
     let a = c.args in
     over-refused _ (model_of a.alpha a.times.now a.sigmas.now) a.dt a.steps c.transition_variances-v.ensures c.in-Refused.is
-
-pub enum_told-1 : goal.enum_told-1
-enum_told-1 c = c.in_default.keys2
 
 pub sized-requires : goal.sized-requires
 sized-requires c =
