@@ -17,25 +17,25 @@ slice_set_of-nodes-then-has_room c = omega (arith, (fitting (room_left c.args.no
 
 pub layers-requires : goal.layers-requires
 layers-requires c =
-    let f = fitting (room_left c.args.nodes.now c.args.probabilities.now c.args.one c.args.two) 1 1 (sym c.has_room.ensures ∙ c.if-has_room.true) in (
-      root-front c.args.decay c.args.spacing c.args.nodes.now c.args.probabilities.now f.pairs f.threes c.requires.t.0 c.requires.t.1,
-      (
-        c.requires.counts_len,
-        ((omega (arith, c.requires.t.2), f.first, f.second), before-none _ _ _ _ _),
-      ),
-    )
+    let f = fitting (room_left c.args.nodes.now c.args.probabilities.now c.args.one c.args.two) 1 1 (sym c.has_room.ensures ∙ c.if-has_room.true) in
+    record {
+      front = root-front c.args.decay c.args.spacing c.args.nodes.now c.args.probabilities.now f.pairs f.threes c.requires.t.0 c.requires.t.1;
+      counts_len = c.requires.counts_len;
+      variances_bound = (omega (arith, c.requires.t.2), f.first, f.second);
+      before = before-none _ _ _ _ _;
+    }
 
 pub shape_of-counts-then-has_room : goal.shape_of-counts-then-has_room
-shape_of-counts-then-has_room c = c.layers.auto.1.1.1.1.1.0
+shape_of-counts-then-has_room c = c.layers.auto.counts
 
 pub shape_of-spacings-then-has_room : goal.shape_of-spacings-then-has_room
-shape_of-spacings-then-has_room c = c.layers.auto.1.1.1.1.1.1.0
+shape_of-spacings-then-has_room c = c.layers.auto.spacings
 
 pub shape_of-nodes-then-has_room : goal.shape_of-nodes-then-has_room
-shape_of-nodes-then-has_room c = c.layers.auto.1.1.1.1.1.1.1.0 ∙ root-length c.args.nodes.now
+shape_of-nodes-then-has_room c = c.layers.auto.nodes ∙ root-length c.args.nodes.now
 
 pub shape_of-probabilities-then-has_room : goal.shape_of-probabilities-then-has_room
-shape_of-probabilities-then-has_room c = c.layers.auto.1.1.1.1.1.1.1.1.0
+shape_of-probabilities-then-has_room c = c.layers.auto.probabilities
 
 pub returns-then-has_room : goal.returns-then-has_room
 returns-then-has_room c = root-laid c.args.one c.args.two c.args.decay c.args.spacing c.args.nodes.now c.args.probabilities.now c.args.variances.now (sym c.has_room.ensures ∙ c.if-has_room.true) c.layers.ensures.lays

@@ -10,11 +10,8 @@ use lib.Ieee.{Float, nan, le}
 use Rattle.terms.specs.Numbers.{epsilon}
 use Rattle.lattice.specs.Lattice.{all_flat}
 use Rattle.lattice.specs.laws.StoredAt.{drop_one}
+use Rattle.latticetransitions.proofs.flat.all_flat.Invariants.{At}
 use Rattle.latticetransitions.proofs.flat.all_flat.Goals as goal
-
-record At (vs : List Float) (i : ℕ) : Type 0 where
-  within : i ≤ length vs
-  left : all_flat (drop i vs) ≡ all_flat vs
 
 turn : (vs : List Float) (i : ℕ) → i < length vs → all_flat (drop i vs) ≡ le (get_or vs i nan) epsilon && all_flat (drop (i + 1) vs)
 unfolding all_flat

@@ -21,16 +21,16 @@ pub all_flat-requires : goal.all_flat-requires
 all_flat-requires c = tt
 
 pub shape_of-counts-then-all_flat : goal.shape_of-counts-then-all_flat
-shape_of-counts-then-all_flat c = c.flat_tree.auto.0
+shape_of-counts-then-all_flat c = c.flat_tree.auto.counts
 
 pub shape_of-spacings-then-all_flat : goal.shape_of-spacings-then-all_flat
-shape_of-spacings-then-all_flat c = c.flat_tree.auto.1.0
+shape_of-spacings-then-all_flat c = c.flat_tree.auto.spacings
 
 pub shape_of-nodes-then-all_flat : goal.shape_of-nodes-then-all_flat
-shape_of-nodes-then-all_flat c = c.flat_tree.auto.1.1.0
+shape_of-nodes-then-all_flat c = c.flat_tree.auto.nodes
 
 pub shape_of-probabilities-then-all_flat : goal.shape_of-probabilities-then-all_flat
-shape_of-probabilities-then-all_flat c = c.flat_tree.auto.1.1.1.0
+shape_of-probabilities-then-all_flat c = c.flat_tree.auto.probabilities
 
 pub returns-then-all_flat : goal.returns-then-all_flat
 returns-then-all_flat c =
@@ -39,16 +39,16 @@ returns-then-all_flat c =
     rw (lattice-flat (room_left a.nodes.now a.probabilities.now a.one a.two) a.alpha a.dt a.variances.now e, e, ← c.requires.counts_len.1) c.flat_tree.ensures
 
 pub shape_of-counts : goal.shape_of-counts
-shape_of-counts c = c.curved_tree.auto.1.1.1.0
+shape_of-counts c = c.curved_tree.auto.counts
 
 pub shape_of-spacings : goal.shape_of-spacings
-shape_of-spacings c = c.curved_tree.auto.1.1.1.1.0
+shape_of-spacings c = c.curved_tree.auto.spacings
 
 pub shape_of-nodes : goal.shape_of-nodes
-shape_of-nodes c = c.curved_tree.auto.1.1.1.1.1.0
+shape_of-nodes c = c.curved_tree.auto.nodes
 
 pub shape_of-probabilities : goal.shape_of-probabilities
-shape_of-probabilities c = c.curved_tree.auto.1.1.1.1.1.1.0
+shape_of-probabilities c = c.curved_tree.auto.probabilities
 
 pub returns : goal.returns
 returns c =

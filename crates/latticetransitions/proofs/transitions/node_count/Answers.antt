@@ -7,11 +7,8 @@ use borrow.Author.Rules.{rules}
 use lib.ListN.{length, get_or, drop, drop_of_length-le}
 use Rattle.lattice.specs.laws.StoredAt.{drop_one}
 use Rattle.lattice.specs.laws.Totals.{total_of}
+use Rattle.latticetransitions.proofs.transitions.node_count.Invariants.{At}
 use Rattle.latticetransitions.proofs.transitions.node_count.Goals as goal
-
-record At (counts : List ℕ) (total i : ℕ) : Type 0 where
-  within : i ≤ length counts
-  left : total + total_of (drop i counts) ≡ total_of counts
 
 next : (counts : List ℕ) (i : ℕ) → i < length counts → total_of (drop i counts) ≡ get_or counts i 0 + total_of (drop (i + 1) counts)
 unfolding total_of
