@@ -53,4 +53,4 @@ pub returns : goal.returns
 unfolding axis_of
 returns c =
     let time = c.year_fraction-maturity.ensures ∙ ap (year_fraction c.args.settlement) c.last_day.ensures in
-    entered-zeroed _ _ c.tree_checks-check.ensures _ c.in_default.is time (c.steps_of-steps.ensures ∙ (rw time)) c.sizes_at-found.ensures c.zero_numbers.ensures c.sizes_at-found.auto.1.1.1.1.1.0
+    entered-zeroed _ _ c.tree_checks-check.ensures _ c.in_default.is time (c.steps_of-steps.ensures ∙ (rw time)) c.sizes_at-found.ensures c.zero_numbers.ensures c.sizes_at-found.auto.nodes

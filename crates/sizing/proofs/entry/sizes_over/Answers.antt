@@ -13,11 +13,11 @@ returns-in-Refused c =
 pub sized-requires : goal.sized-requires
 sized-requires c =
     let a = c.args in
-    let k = c.transition-variances.auto.1.1.1.1.1.0 in
+    let k = c.transition_variances-v.auto.variances in
     let p = c.requires in
     found-few _ a.alpha a.dt _ c.tree_widths-found.result (omega (arith, k, p.0, p.2)) (omega (arith, k, p.1, p.2)) c.tree_widths-found.ensures
 
 pub returns : goal.returns
 returns c =
     let a = c.args in
-    c.sized.ensures ∙ over-found _ (model_of a.alpha a.times.now a.sigmas.now) a.dt a.steps c.tree_widths-found.result c.transition-variances.ensures c.requires.2 c.enum_told.given.1 c.tree_widths-found.ensures
+    c.sized.ensures ∙ over-found _ (model_of a.alpha a.times.now a.sigmas.now) a.dt a.steps c.tree_widths-found.result c.transition_variances-v.ensures c.requires.2 c.in_default.is c.tree_widths-found.ensures

@@ -10,7 +10,7 @@ use Rattle.widths.specs.laws.InPlace.{in_place_begun, in_place_stopped, in_place
 use Rattle.widths.proofs.layer.fill.Goals as goal
 
 pub loop-i-init : goal.loop-i-init
-loop-i-init c = let a = c.args in in_place_begun a.spacing a.decay a.new_spacing_lem a.place a.count a.nodes.now c.requires
+loop-i-init c = let a = c.args in in_place_begun a.spacing a.decay a.new_spacing a.place a.count a.nodes.now c.requires
 
 pub offset_bounds-nodes-i : goal.offset_bounds-nodes-i
 offset_bounds-nodes-i c = let r = c.loop-i.invariant.room in let k = c.loop-i.invariant.kept in search rules
@@ -20,12 +20,6 @@ slice_copy_out-node c = let r = c.loop-i.invariant.room in let k = c.loop-i.inva
 
 pub middle_of-made-requires : goal.middle_of-made-requires
 middle_of-made-requires c = tt
-
-pub enum_known-made : goal.enum_known-made
-enum_known-made c = c.in-Made.keys1
-
-pub enum_told-1 : goal.enum_told-1
-enum_told-1 c = c.in_default.keys2
 
 pub unmade-requires : goal.unmade-requires
 unmade-requires c = tt
@@ -37,7 +31,7 @@ pub returns-in_default : goal.returns-in_default
 returns-in_default c =
     let a = c.args in
     let l = c.loop-i in
-    in_place_stopped a.spacing a.decay a.new_spacing_lem a.place a.count a.nodes.now l.nodes l.i l.invariant c.middle_of-made.result c.loop-i-test.true
+    in_place_stopped a.spacing a.decay a.new_spacing a.place a.count a.nodes.now l.nodes l.i l.invariant c.middle_of-made.result c.loop-i-test.true
     (rw (to_z-of_z {w = w32} (record { sfits = c.node-1.given })) at c.middle_of-made.ensures)
     c.in_default.is
     c.unmade.ensures
@@ -55,9 +49,9 @@ loop-i-preserved c =
     let e = rw (to_z-of_z {w = w32} (record { sfits = c.node-1.given })) at c.middle_of-made.ensures in
     let m = c.middle_of-made.result in
     let z = c.in-Made.m in
-    let w = in_place_held a.spacing a.decay a.new_spacing_lem a.place a.count a.nodes.now l.nodes l.i l.invariant m z e c.in-Made.is in
+    let w = in_place_held a.spacing a.decay a.new_spacing a.place a.count a.nodes.now l.nodes l.i l.invariant m z e c.in-Made.is in
     rw (back-numbered (within-numbered w))
-    (in_place_one a.spacing a.decay a.new_spacing_lem a.place a.count a.nodes.now l.nodes l.i l.invariant m z c.loop-i-test.true e c.in-Made.is)
+    (in_place_one a.spacing a.decay a.new_spacing a.place a.count a.nodes.now l.nodes l.i l.invariant m z c.loop-i-test.true e c.in-Made.is)
 
 pub shape_of-nodes : goal.shape_of-nodes
 shape_of-nodes c = c.loop-i.invariant.kept
@@ -65,4 +59,4 @@ shape_of-nodes c = c.loop-i.invariant.kept
 pub returns : goal.returns
 returns c =
     let a = c.args in
-    in_place_all a.spacing a.decay a.new_spacing_lem a.place a.count a.nodes.now c.loop-i.nodes c.loop-i.i c.loop-i.invariant c.loop-i-test.false
+    in_place_all a.spacing a.decay a.new_spacing a.place a.count a.nodes.now c.loop-i.nodes c.loop-i.i c.loop-i.invariant c.loop-i-test.false

@@ -9,9 +9,6 @@ use Rattle.widths.specs.laws.Spreading.{spreading_begun, spread-held, spread-lon
 use Rattle.lattice.proofs.Signed.{back-numbered}
 use Rattle.widths.proofs.layer.spread.Goals as goal
 
-in-front : (c : tie.In-loop invariant-loop decreases-loop) → c.before.before.before.before.args.count ≤ length c.before.loop.nodes
-in-front c = spread-long c.before.before.before.before.args.nodes.now c.before.before.before.before.args.count c.before.loop.r c.before.loop.i c.before.loop.nodes c.before.loop.invariant
-
 pub slice_copy_out-first : goal.slice_copy_out-first
 slice_copy_out-first c = let p = c.requires in omega (arith, p.0, p.1)
 
@@ -26,10 +23,10 @@ loop-i-init c =
     rw (c.nothing_below-r.ensures, back-numbered (within-numbered w)) (spreading_begun c.args.nodes.now c.args.count c.requires.2 c.requires.1)
 
 pub offset_bounds-nodes-i : goal.offset_bounds-nodes-i
-offset_bounds-nodes-i c = let h = in-front c in search rules
+offset_bounds-nodes-i c = let h = spread-long c.args.nodes.now c.args.count c.loop-i.r c.loop-i.i c.loop-i.nodes c.loop-i.invariant in search rules
 
 pub slice_copy_out-middle : goal.slice_copy_out-middle
-slice_copy_out-middle c = let h = in-front c in search rules
+slice_copy_out-middle c = let h = spread-long c.args.nodes.now c.args.count c.loop-i.r c.loop-i.i c.loop-i.nodes c.loop-i.invariant in search rules
 
 pub push_three-r-requires : goal.push_three-r-requires
 push_three-r-requires c =

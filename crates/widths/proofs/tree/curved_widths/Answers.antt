@@ -8,12 +8,6 @@ use Rattle.widths.proofs.tree.curved_widths.Goals as goal
 pub decay_of-found-requires : goal.decay_of-found-requires
 decay_of-found-requires c = tt
 
-pub enum_known-found : goal.enum_known-found
-enum_known-found c = c.in-Value.keys1
-
-pub enum_told-1 : goal.enum_told-1
-enum_told-1 c = c.in_default.keys2
-
 pub refusal_of-requires : goal.refusal_of-requires
 refusal_of-requires c = tt
 
@@ -24,12 +18,6 @@ returns-in_default c =
 
 pub spacing_of-first-requires : goal.spacing_of-first-requires
 spacing_of-first-requires c = tt
-
-pub enum_known-first : goal.enum_known-first
-enum_known-first c = c.in-Value-first.keys1
-
-pub enum_told-in_default-first : goal.enum_told-in_default-first
-enum_told-in_default-first c = c.in_default-first.keys2
 
 pub refusal_of-requires-in_default-first : goal.refusal_of-requires-in_default-first
 refusal_of-requires-in_default-first c = tt

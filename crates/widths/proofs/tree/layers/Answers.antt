@@ -20,12 +20,6 @@ overflow_cast-i c = let t = c.loop-i-test.true in record { fits = omega (arith, 
 pub widen-next-requires : goal.widen-next-requires
 widen-next-requires c = let t = c.loop-i-test.true in (c.loop-i.invariant.fore, omega (arith, c.requires.2))
 
-pub enum_known-next : goal.enum_known-next
-enum_known-next c = c.in-Laid.keys1
-
-pub enum_told-1 : goal.enum_told-1
-enum_told-1 c = c.in_default.keys2
-
 pub refusal-requires : goal.refusal-requires
 refusal-requires c = tt
 

@@ -9,7 +9,7 @@ pub count_next-reached-requires : goal.count_next-reached-requires
 count_next-reached-requires c =
     let a = c.args in
     let p = c.requires in
-    (placed-some a.spacing a.step a.count a.nodes.now p.0 p.1, p.0, omega (arith, p.0, c.well-formed), p.1.within)
+    (placed-some a.spacing a.step a.count a.nodes.now p.0 p.1, p.0, omega (arith, p.0, c.well_formed), p.1.within)
 
 pub overflow_add-count : goal.overflow_add-count
 overflow_add-count c =
@@ -17,7 +17,7 @@ overflow_add-count c =
     let p = c.requires in
     let n = ap (λ (r : Reach). r.count) c.count_next-reached.ensures in
     let f = placed-few a.spacing a.step a.count a.nodes.now p.0 p.1 n in
-    record { fits = omega (arith, p.0, c.well-formed) }
+    record { fits = omega (arith, p.0, c.well_formed) }
 
 pub returns-then-nodes-count : goal.returns-then-nodes-count
 returns-then-nodes-count c =
@@ -38,4 +38,4 @@ returns c =
     let a = c.args in
     let p = c.requires in
     let n = ap (λ (r : Reach). r.count) c.count_next-reached.ensures in
-    placed_next a.spacing a.step a.count a.nodes.now p.0 p.1 (placed-many a.spacing a.step a.count a.nodes.now p.0 p.1 n) c.if-nodes-count.false c.spread.ensures c.to_front.ensures c.to_front.auto.1.1.0
+    placed_next a.spacing a.step a.count a.nodes.now p.0 p.1 (placed-many a.spacing a.step a.count a.nodes.now p.0 p.1 n) c.if-nodes-count.false c.spread.ensures c.to_front.ensures c.to_front.auto.nodes

@@ -7,12 +7,6 @@ use Rattle.widths.proofs.widen.widen.Goals as goal
 pub new_spacing-found-requires : goal.new_spacing-found-requires
 new_spacing-found-requires c = tt
 
-pub enum_known-found : goal.enum_known-found
-enum_known-found c = c.in-Value.keys1
-
-pub enum_told-1 : goal.enum_told-1
-enum_told-1 c = c.in_default.keys2
-
 pub refusal_of-requires : goal.refusal_of-requires
 refusal_of-requires c = tt
 

@@ -5,27 +5,21 @@ use Rattle.widths.proofs.widen.widen_by.Goals as goal
 pub fill-filled-requires : goal.fill-filled-requires
 fill-filled-requires c = c.requires.0.room
 
-pub enum_known-filled : goal.enum_known-filled
-enum_known-filled c = c.in-Refused.keys1
-
 pub returns-in-Refused : goal.returns-in-Refused
 returns-in-Refused c =
     let a = c.args in
-    widened-stopped a.spacing a.decay a.new_spacing_lem a.step a.count a.nodes.now _ (rw c.in-Refused.is at c.fill-filled.ensures)
-
-pub enum_told-1 : goal.enum_told-1
-enum_told-1 c = c.in_default.keys2
+    widened-stopped a.spacing a.decay a.new_spacing a.step a.count a.nodes.now _ (rw c.in-Refused.is at c.fill-filled.ensures)
 
 pub place_next-requires : goal.place_next-requires
 place_next-requires c =
     let a = c.args in
     let p = c.requires in
-    let m = middled a.spacing a.decay a.new_spacing_lem a.step a.count a.nodes.now _ p.0 p.1 (rw c.in_default.is at c.fill-filled.ensures) in
+    let m = middled a.spacing a.decay a.new_spacing a.step a.count a.nodes.now _ p.0 p.1 (rw c.in_default.is at c.fill-filled.ensures) in
     (m.room, m.known, p.2)
 
 pub returns : goal.returns
 returns c =
     let a = c.args in
     let p = c.requires in
-    let m = middled a.spacing a.decay a.new_spacing_lem a.step a.count a.nodes.now _ p.0 p.1 (rw c.in_default.is at c.fill-filled.ensures) in
-    widened_by a.spacing a.decay a.new_spacing_lem a.step a.count a.nodes.now _ m c.place_next.ensures
+    let m = middled a.spacing a.decay a.new_spacing a.step a.count a.nodes.now _ p.0 p.1 (rw c.in_default.is at c.fill-filled.ensures) in
+    widened_by a.spacing a.decay a.new_spacing a.step a.count a.nodes.now _ m c.place_next.ensures

@@ -2,12 +2,6 @@
 
 use Rattle.widths.proofs.tree.Widths.refusal.Goals as goal
 
-pub enum_told-1 : goal.enum_told-1
-enum_told-1 c = c.in-Found.keys1
-
-pub enum_known-self : goal.enum_known-self
-enum_known-self c = c.in-Refused.keys2
-
 pub returns-in-Found : goal.returns-in-Found
 returns-in-Found c = rw c.in-Found.is
 
