@@ -8,8 +8,8 @@ use Rattle.floats.specs.Answers.{plus_zero, two, and_then, tested, when_finite}
 use Rattle.floats.specs.Extremes.{max_of, min_of}
 use Rattle.elementary.specs.Exponential.{exp_at, exp_m1_at}
 use Rattle.terms.specs.Numbers.{float, tolerance}
-use Rattle.terms.specs.Terms.{SigmaSchedule, HullWhite}
-use Rattle.terms.specs.Outcomes.{Outcome, given, follow, valued, finite_then}
+use Rattle.terms.specs.Terms.{HullWhite}
+use Rattle.terms.specs.Outcomes.{Outcome, given, follow, valued}
 
 -- |alpha| < 1e-12.
 abbrev pub no_decay : Float → Bool

@@ -4,16 +4,16 @@ use Rattle.std.proofs.Math.Numerals.{add-one}
 use native.Mathlib.Omega.{arith}
 use Rattle.std.specs.Prelude.{◌≡◌, List, [], ◌∷◌, length, set, Float}
 use Rattle.std.proofs.Math.Path.{refl}
-use Rattle.std.proofs.Common.{sym, ap, ◌∙◌}
+use Rattle.std.proofs.Common.{sym, ◌∙◌}
 use Rattle.floats.specs.declared.Refusal.{Refusal}
 use Rattle.floats.specs.declared.Answer.{Answer}
 use Rattle.floats.specs.declared.Answer.TheVariants as answer
 use Rattle.floats.specs.Answers.{on_answer}
 use Rattle.terms.specs.declared.Check.{Check}
-use Rattle.terms.specs.declared.Check.TheVariants.{Passed, Refused}
+use Rattle.terms.specs.declared.Check.TheVariants.{Passed}
 use Rattle.terms.specs.Terms.{HullWhite}
 use Rattle.terms.specs.Checks.{refused_by}
-use Rattle.terms.specs.Outcomes.{Outcome, given, refused, follow, valued}
+use Rattle.terms.specs.Outcomes.{given, follow, valued}
 use Rattle.hullwhite.specs.Variance.{step_variance, variances_from}
 use Rattle.hullwhite.specs.laws.Filled.{Filled, Filling, filling-none, filling-refused, filling-done, filling_more}
 

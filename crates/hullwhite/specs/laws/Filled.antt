@@ -1,6 +1,6 @@
 -- What a function that fills a row promises: whether it passed, and the row where it did; and how a loop fills it. Assumes nothing.
-use Rattle.std.specs.Prelude.{ℕ, suc, ◌+◌, ◌≤◌, ◌<◌, refl, set, Float}
-use Rattle.std.proofs.Common.{add-one, arith, ◌∙◌, length-set, take-append-drop, length-take}
+use Rattle.std.specs.Prelude.{ℕ, ◌+◌, ◌≤◌, ◌<◌, refl, set, Float}
+use Rattle.std.proofs.Common.{add-one, arith, ◌∙◌, length-set, take-append-drop}
 use Rattle.std.proofs.Math.Path.{◌≡◌, sym, ap}
 use mathlib.Core.List.{List, [], ◌∷◌, ◌++◌, append-nil}
 use Rattle.std.proofs.Math.ListN.{length, take, drop}
@@ -11,7 +11,7 @@ use Rattle.floats.specs.declared.Answer.TheVariants as answer
 use Rattle.floats.specs.Answers.{on_answer}
 use Rattle.terms.specs.declared.Check.{Check}
 use Rattle.terms.specs.declared.Check.TheVariants.{Passed, Refused}
-use Rattle.terms.specs.Terms.{SigmaSchedule, HullWhite}
+use Rattle.terms.specs.Terms.{HullWhite}
 use Rattle.terms.specs.Outcomes.{Outcome, given, refused, on_outcome, follow, valued}
 
 -- Alpha and sigma from the slices of a call.

@@ -1,6 +1,5 @@
 -- `hull_white_piecewise_variance` meets its contract: the invariant is that the pieces from entry i on give the whole. Assumes nothing.
 use Rattle.floats.proofs.Laws.{answers}
-use Prim.Native.Nat.{◌-◌}
 use native.Mathlib.Omega.{arith}
 use Rattle.hullwhite.specs.laws.Pieces.{none, begun, ended, last, refused, next}
 use Rattle.hullwhite.proofs.variance.hull_white_piecewise_variance.Goals as goal

@@ -1,6 +1,5 @@
 -- `transition_variances` meets its contract: the invariant is that the first k variances are in the row and the rest gives the whole. Assumes nothing.
 use Rattle.floats.proofs.Laws.{answers}
-use Prim.Native.Nat.{◌-◌}
 use Rattle.hullwhite.specs.laws.Filled.{model_of}
 use Rattle.hullwhite.specs.laws.EachStep.{reached-none, reached-refused, reached_more, reached_all}
 use Rattle.hullwhite.proofs.variance.transition_variances.Goals as goal
