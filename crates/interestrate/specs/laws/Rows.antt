@@ -2,11 +2,11 @@
 use Rattle.std.specs.Prelude.{ℕ, ◌+◌, ◌≤◌, ◌<◌, ◌≡◌, refl, Bool, true, false, cond, ◌&&◌, List, T, length, get_or, set, Float}
 use Rattle.std.proofs.Common.{sym, ap, ◌∙◌, subst, le_refl, arith, below_more}
 use Rattle.std.specs.Float.{nan, inf, fin, binary64}
-use Rattle.std.specs.Float.Ieee.{add, sub, mul, div, neg, eq, le, lt}
+use Rattle.std.specs.Float.Ieee.{add, sub, mul, div, neg, eq, le}
 use Rattle.std.specs.Float.Ieee.Scale.{finite}
 use Rattle.floats.specs.declared.Answer.{Answer}
 use Rattle.floats.specs.declared.Answer.TheVariants.{Value}
-use Rattle.floats.specs.Answers.{on_answer, not_finite, refusal, plus_zero, one}
+use Rattle.floats.specs.Answers.{on_answer, not_finite, plus_zero, one}
 use Rattle.floats.specs.laws.Propagation.{finite-back, finite-clash, add_left, mul_left, div_left, passes}
 use Rattle.elementary.specs.Exponential.{exp_at, ExpRow}
 use Rattle.elementary.specs.Logarithm.{ln_at}

@@ -7,9 +7,7 @@ discount_row-good-requires c = search prices
 
 pub summed-requires : goal.summed-requires
 summed-requires c =
-    let rowed = c in
-    let start = rowed.before.before.before.before.before.before.before.before.before.before.before.before.before in
-    ((start.requires.0, search prices, search prices), rowed.discount-row.ensures)
+    record { amounts_len = (c.requires.0, search prices, search prices); discount_row = c.discount_row-good.ensures }
 
 pub shape_of-times : goal.shape_of-times
 shape_of-times c = search prices

@@ -1,5 +1,4 @@
 -- `prices::summed` meets its contract. Assumes nothing.
-use Prim.Native.Nat.{◌-◌}
 use Rattle.interestrate.proofs.prices.Flowing.{start, paid, unpaid, stopped, done}
 use Rattle.interestrate.proofs.Laws.{prices}
 use Rattle.interestrate.proofs.prices.summed.Goals as goal
@@ -36,9 +35,7 @@ overflow_add-i c = search prices
 
 pub next_flow-a-requires : goal.next_flow-a-requires
 next_flow-a-requires c =
-    let tested = c in
-    let start = tested.before.before.before.before.before.before in
-    start.requires.1.each _ tested.loop-test.true
+    c.requires.discount_row.each _ c.loop-i-test.true
 
 pub enum_known-a : goal.enum_known-a
 enum_known-a c = search prices
@@ -54,13 +51,7 @@ loop-i-smaller-then-settlement-day c = search prices
 
 pub loop-i-preserved-then-settlement-day : goal.loop-i-preserved-then-settlement-day
 loop-i-preserved-then-settlement-day c =
-    let known = c in
-    let flowed = known.before.before in
-    let due = flowed.before in
-    let tested = due.before.before.before.before.before.before in
-    let looped = tested.before in
-    let start = looped.before.before.before.before.before in
-    paid _ _ _ _ _ _ _ _ _ _ start.requires.0.0 looped.loop.invariant _ _ tested.loop-test.true due.if1.true flowed.next-flow.ensures known.a.given.1
+    paid _ _ _ _ _ _ _ _ _ _ c.requires.amounts_len.0 c.loop-i.invariant _ _ c.loop-i-test.true c.if-settlement-day.true c.next_flow-a.ensures c.in-Price.is
 
 pub loop-i-smaller : goal.loop-i-smaller
 loop-i-smaller c = search prices

@@ -1,5 +1,4 @@
 -- `prices::yield_price_and_derivative` meets its contract. Assumes nothing.
-use Prim.Native.Nat.{◌-◌}
 use Rattle.interestrate.proofs.prices.Flowing.{start, done, part-fits, part-paid, part-stopped}
 use Rattle.interestrate.proofs.Laws.{prices}
 use Rattle.interestrate.proofs.prices.yield_price_and_derivative.Goals as goal
@@ -45,23 +44,14 @@ enum_told-1 c = search prices
 
 pub returns-in_default : goal.returns-in_default
 returns-in_default c =
-    let parted = c in
-    let ended = parted.before.before.before in
-    let looped = ended.before.before in
-    let start = looped.before.before.before in
-    part-stopped _ _ _ _ _ _ _ _ _ _ start.requires looped.loop.invariant _ ended.part-end.ensures parted.part-flows.ensures c.in_default.is
+    part-stopped _ _ _ _ _ _ _ _ _ _ c.requires c.loop-i.invariant _ c.part_end-end.ensures c.part_flows-a.ensures c.in_default.is
 
 pub loop-i-smaller : goal.loop-i-smaller
 loop-i-smaller c = search prices
 
 pub loop-i-preserved : goal.loop-i-preserved
 loop-i-preserved c =
-    let known = c in
-    let parted = known.before.before in
-    let ended = parted.before.before.before in
-    let looped = ended.before.before in
-    let start = looped.before.before.before in
-    part-paid _ _ _ _ _ _ _ _ _ _ start.requires looped.loop.invariant _ ended.part-end.ensures _ _ parted.part-flows.ensures known.a.given.1
+    part-paid _ _ _ _ _ _ _ _ _ _ c.requires c.loop-i.invariant _ c.part_end-end.ensures _ _ c.part_flows-a.ensures c.in-Price.is
 
 pub returns : goal.returns
 returns c = done _ _ _ _ _ _ _ _ _ _ c.requires c.loop-i.invariant c.loop-i-test.false

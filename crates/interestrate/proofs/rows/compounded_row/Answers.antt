@@ -1,6 +1,5 @@
 -- `rows::compounded_row` meets its contract: the loops one after the other. Assumes nothing.
 use mathlib.Core.Path.{sym, ◌∙◌}
-use borrow.Author.Tests.{not-false}
 use Rattle.interestrate.specs.laws.Rows.{no_row, compounded_row_lem}
 use Rattle.interestrate.proofs.Laws.{prices}
 use Rattle.interestrate.proofs.rows.compounded_row.Goals as goal
@@ -70,18 +69,8 @@ shape_of-rests c = search prices
 
 pub returns : goal.returns
 returns c =
-    let sloped = c in
-    let told = sloped.before.before.before.before in
-    let raised = told.before.before.before.before.before.before.before in
-    let timed = raised.before.before.before.before.before.before.before.before.before in
-    let known = timed.before.before.before.before in
-    let logged = known.before.before in
-    let above = logged.before in
-    let based = above.before in
-    let tested = based.before in
-    let start = tested.before.before.before.before.before.before.before in
-    let finite = sym tested.not_finite.ensures ∙ based.if1.false in
-    let log = sym logged.ln-at.ensures ∙ known.a.given.1 in
-    let at = timed.exponents.ensures in
-    let said = not-false _ told.if3.false in
-    compounded_row_lem _ _ _ _ _ finite above.if2.false log start.requires.times-fit start.requires.xs-fit at said raised.exp-row.ensures sloped.slope-row.ensures
+    let finite = sym c.not_finite.ensures ∙ c.if-not_finite.false in
+    let log = sym c.ln_at-a.ensures ∙ c.in-Value.is in
+    let at = c.exponents.ensures in
+    let said = c.if-not-exp_row.false in
+    compounded_row_lem _ _ _ _ _ finite c.if-base.false log c.requires.times-fit c.requires.xs-fit at said c.exp_row.ensures c.slope_row.ensures

@@ -34,7 +34,4 @@ shape_of-rests c = search prices
 pub returns : goal.returns
 unfolding discount_and_derivative
 returns c =
-    let rowed = c in
-    let valued = rowed.before.before.before.before.before.before in
-    let told = valued.before.before in
-    record { each = λ i h g. rw (told.compounding.given.1, ← valued.frequency-value.ensures) (rowed.compounded_row_lem.ensures.each i h g) }
+    record { each = λ i h g. rw (c.in-Compounded.is, ← c.frequency_value.ensures) (c.compounded_row.ensures.each i h g) }

@@ -1,5 +1,4 @@
 -- `rows::exponents` meets its contract. The invariant: of the flows passed, time and exponent are there. Assumes nothing.
-use Prim.Native.Nat.{◌-◌}
 use Rattle.interestrate.specs.laws.Rows.{exponents-none, exponents_more, exponents-done}
 use Rattle.interestrate.proofs.Laws.{prices}
 use Rattle.interestrate.proofs.rows.exponents.Goals as goal
@@ -36,10 +35,7 @@ loop-i-smaller c = search prices
 
 pub loop-i-preserved : goal.loop-i-preserved
 loop-i-preserved c =
-    let tested = c in
-    let looped = tested.before in
-    let start = looped.before.before.before.before in
-    exponents_more _ _ _ _ _ _ _ looped.loop.invariant tested.loop-test.true start.requires.0 start.requires.1 c.time_from-time.ensures
+    exponents_more _ _ _ _ _ _ _ c.loop-i.invariant c.loop-i-test.true c.requires.0 c.requires.1 c.time_from-time.ensures
 
 pub shape_of-times : goal.shape_of-times
 shape_of-times c = search prices

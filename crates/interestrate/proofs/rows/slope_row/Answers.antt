@@ -1,5 +1,4 @@
 -- `rows::slope_row` meets its contract. The invariant: of the flows passed, the derivatives are there and, while the flag holds, finite. Assumes nothing.
-use Prim.Native.Nat.{◌-◌}
 use Rattle.interestrate.specs.laws.Rows.{slopes_none, slopes_more, slopes_done}
 use Rattle.interestrate.proofs.Laws.{prices}
 use Rattle.interestrate.proofs.rows.slope_row.Goals as goal
@@ -33,10 +32,7 @@ loop-i-smaller c = search prices
 
 pub loop-i-preserved : goal.loop-i-preserved
 loop-i-preserved c =
-    let tested = c in
-    let looped = tested.before in
-    let start = looped.before in
-    slopes_more _ _ _ _ looped.loop.invariant tested.loop-test.true start.requires.1
+    slopes_more _ _ _ _ c.loop-i.invariant c.loop-i-test.true c.requires.1
 
 pub shape_of-slopes : goal.shape_of-slopes
 shape_of-slopes c = search prices
