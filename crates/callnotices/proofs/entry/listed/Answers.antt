@@ -17,10 +17,10 @@ pub yields_at-requires : goal.yields_at-requires
 yields_at-requires c = search listing
 
 pub offset_bounds-starts-at : goal.offset_bounds-starts-at
-offset_bounds-starts-at c = let h = in_fields _ _ c.requires c.Yields-at.ensures c.if-yields_at.true in search (h, listing)
+offset_bounds-starts-at c = let h = in_fields _ _ c.requires c.yields_at.ensures c.if-yields_at.true in search (h, listing)
 
 pub bounds-starts-at : goal.bounds-starts-at
-bounds-starts-at c = let h = in_fields _ _ c.requires c.Yields-at.ensures c.if-yields_at.true in search (h, listing)
+bounds-starts-at c = let h = in_fields _ _ c.requires c.yields_at.ensures c.if-yields_at.true in search (h, listing)
 
 pub offset_bounds-call_starts-count : goal.offset_bounds-call_starts-count
 offset_bounds-call_starts-count c = search listing
@@ -29,10 +29,10 @@ pub bounds-call_starts-count : goal.bounds-call_starts-count
 bounds-call_starts-count c = search listing
 
 pub offset_bounds-ends-at : goal.offset_bounds-ends-at
-offset_bounds-ends-at c = let h = in_fields _ _ c.requires c.Yields-at.ensures c.if-yields_at.true in search (h, listing)
+offset_bounds-ends-at c = let h = in_fields _ _ c.requires c.yields_at.ensures c.if-yields_at.true in search (h, listing)
 
 pub bounds-ends-at : goal.bounds-ends-at
-bounds-ends-at c = let h = in_fields _ _ c.requires c.Yields-at.ensures c.if-yields_at.true in search (h, listing)
+bounds-ends-at c = let h = in_fields _ _ c.requires c.yields_at.ensures c.if-yields_at.true in search (h, listing)
 
 pub offset_bounds-call_ends-count : goal.offset_bounds-call_ends-count
 offset_bounds-call_ends-count c = search listing
@@ -41,7 +41,7 @@ pub bounds-call_ends-count : goal.bounds-call_ends-count
 bounds-call_ends-count c = search listing
 
 pub number_at-requires : goal.number_at-requires
-number_at-requires c = let h = in_fields _ _ c.requires c.Yields-at.ensures c.if-yields_at.true in search (h, listing)
+number_at-requires c = let h = in_fields _ _ c.requires c.yields_at.ensures c.if-yields_at.true in search (h, listing)
 
 pub offset_bounds-call_strikes-count : goal.offset_bounds-call_strikes-count
 offset_bounds-call_strikes-count c = search listing
@@ -57,7 +57,7 @@ loop-s-smaller-then-yields_at c = search listing
 
 pub loop-s-preserved-then-yields_at : goal.loop-s-preserved-then-yields_at
 loop-s-preserved-then-yields_at c =
-    turn-listed _ _ _ _ _ _ _ c.loop-s.invariant (omega arith) c.standing_of-at.ensures c.Yields-at.ensures c.if-yields_at.true c.number_at.ensures
+    turn-listed _ _ _ _ _ _ _ c.loop-s.invariant (omega arith) c.standing_of-at.ensures c.yields_at.ensures c.if-yields_at.true c.number_at.ensures
 
 pub loop-s-smaller : goal.loop-s-smaller
 loop-s-smaller c = search listing

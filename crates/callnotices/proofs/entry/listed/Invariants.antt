@@ -5,7 +5,7 @@ use Rattle.callnotices.proofs.entry.listed.Given as goal
 
 abbrev pub invariant-loop-s : goal.invariant-loop-s
 invariant-loop-s l =
-    Listing (record { l.series = l.series; l.versions = l.versions; l.actions = l.actions; l.starts = l.starts; l.ends = l.ends; l.strikes = l.strikes }) l.s l.count l.call_starts l.call_ends l.call_strikes
+    Listing (record { series = l.series; versions = l.versions; actions = l.actions; starts = l.starts; ends = l.ends; strikes = l.strikes }) l.s l.count l.call_starts l.call_ends l.call_strikes
 
 abbrev pub decreases-loop-s : goal.decreases-loop-s
 decreases-loop-s l =

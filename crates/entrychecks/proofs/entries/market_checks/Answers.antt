@@ -29,7 +29,7 @@ pub returns-in_default-e : goal.returns-in_default-e
 returns-in_default-e c = as_market _ _ _ (passed_first _ _ c.tree_counts-a.ensures.same c.in-Passed.is (passed_first _ _ (only_one _ c.put_most-b.ensures.same) c.in-Passed-b.is (passed_first _ _ c.tree_days-c.ensures c.in-Passed-c.is (passed_first _ _ c.tree_numbers-d.ensures c.in-Passed-d.is (refused_first _ _ c.tree_orders-e.ensures c.in_default-e.is refl)))))
 
 pub late_checks-requires : goal.late_checks-requires
-late_checks-requires c = let n = c.tree_counts-a.ensures.passed c.in-Passed.is in (omega arith, (omega arith, c.requires.timed (omega arith)))
+late_checks-requires c = let n = c.tree_counts-a.ensures.passed c.in-Passed.is in record { pillars_len_bound = omega arith; factors_len_bound = omega arith; curve_times_value = c.requires.timed (omega arith) }
 
 pub returns : goal.returns
 returns c = as_market _ _ _ (passed_first _ _ c.tree_counts-a.ensures.same c.in-Passed.is (passed_first _ _ (only_one _ c.put_most-b.ensures.same) c.in-Passed-b.is (passed_first _ _ c.tree_days-c.ensures c.in-Passed-c.is (passed_first _ _ c.tree_numbers-d.ensures c.in-Passed-d.is (passed_first _ _ c.tree_orders-e.ensures c.in-Passed-e.is (only_one _ c.late_checks.ensures))))))

@@ -20,7 +20,7 @@ pub returns-in_default-c : goal.returns-in_default-c
 returns-in_default-c c = as_straight _ _ _ _ (passed_first _ _ c.straight_counts-a.ensures.same c.in-Passed.is (passed_first _ _ c.straight_days-b.ensures c.in-Passed-b.is (refused_first _ _ c.straight_numbers-c.ensures c.in_default-c.is refl)))
 
 pub straight_orders-requires : goal.straight_orders-requires
-straight_orders-requires c = let n = c.straight_counts-a.ensures.passed c.in-Passed.is in (omega arith, (omega arith, c.requires.timed (omega arith)))
+straight_orders-requires c = let n = c.straight_counts-a.ensures.passed c.in-Passed.is in record { pillars_len_bound = omega arith; factors_len_bound = omega arith; curve_times_value = c.requires.timed (omega arith) }
 
 pub returns : goal.returns
 returns c = as_straight _ _ _ _ (passed_first _ _ c.straight_counts-a.ensures.same c.in-Passed.is (passed_first _ _ c.straight_days-b.ensures c.in-Passed-b.is (passed_first _ _ c.straight_numbers-c.ensures c.in-Passed-c.is (only_one _ c.straight_orders.ensures))))
