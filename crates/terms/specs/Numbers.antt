@@ -1,5 +1,5 @@
 -- Definitions only. The numbers that document 01 writes in decimal, as doubles, and whole numbers as doubles.
-use Rattle.std.specs.Prelude.{ℕ, ℤ, pos, Float}
+use Rattle.std.specs.Prelude.{ℕ, pos, Float}
 use Rattle.std.specs.Float.{binary64}
 use Rattle.std.specs.Float.Ieee.{of_bits, of_int}
 

@@ -1,8 +1,8 @@
 -- For every code, a later day never has a smaller time. Assumes nothing.
-use Rattle.std.specs.Prelude.{ℕ, ◌≤◌, ◌*◌, ◌^◌, ◌≡◌, refl, Bool, true, false, cond, T, eqb, ltb, Float}
+use Rattle.std.specs.Prelude.{ℕ, ◌≤◌, Bool, true, false, cond, T, eqb, ltb, Float}
 use Rattle.std.proofs.Common.{arith}
 use Rattle.std.specs.Float.{nan, inf, fin, binary64}
-use Rattle.std.specs.Float.Ieee.{sub, div, le, lt, of_int, of_bits, round}
+use Rattle.std.specs.Float.Ieee.{sub, le, lt, of_int, of_bits, round}
 use Rattle.std.specs.Float.Ieee.Scale.{finite}
 use Rattle.std.specs.Float.Ieee.Exact.{HasValue}
 use Rattle.std.specs.Float.Ieee.Back.{round_whole}

@@ -1,5 +1,4 @@
 -- `call_days` meets its contract: in the loop, no call before the index has a wrong day. Assumes nothing.
-use Prim.Native.Nat.{◌-◌}
 use Rattle.terms.proofs.Seeking.{seeking}
 use Rattle.terms.proofs.calls.call_days.Goals as goal
 

@@ -1,5 +1,4 @@
 -- `call_order` meets its contract: in the loop, no call before the index ends early. Assumes nothing.
-use Prim.Native.Nat.{◌-◌}
 use Rattle.terms.proofs.Seeking.{seeking}
 use Rattle.terms.proofs.calls.call_order.Goals as goal
 

@@ -1,5 +1,4 @@
 -- `strike_range` meets its contract: in the loop, no strike before the index is outside. Assumes nothing.
-use Prim.Native.Nat.{◌-◌}
 use Rattle.terms.proofs.Seeking.{seeking}
 use Rattle.terms.proofs.calls.strike_range.Goals as goal
 

@@ -1,5 +1,4 @@
 -- `leg_days` meets its contract: in the loop, no cashflow before the index is wrong. Assumes nothing.
-use Prim.Native.Nat.{◌-◌}
 use Rattle.terms.proofs.Seeking.{seeking}
 use Rattle.terms.proofs.cashflows.leg_days.Goals as goal
 

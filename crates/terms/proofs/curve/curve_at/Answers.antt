@@ -1,5 +1,4 @@
 -- `curve_at` meets its contract: in the loop, the time is not before pillar i, and what is left of the curve from there on is the whole. Assumes nothing.
-use Prim.Native.Nat.{◌-◌}
 use native.Mathlib.Omega.{arith}
 use mathlib.Core.Path.{refl}
 use Rattle.terms.proofs.Curving.{turn, found, times-end, curving}

@@ -1,5 +1,4 @@
 -- `pillar_times` meets its contract: in the loop, the times before i are the days'. Assumes nothing.
-use Prim.Native.Nat.{◌-◌}
 use Rattle.terms.proofs.Timing.{timing}
 use Rattle.terms.proofs.curve.pillar_times.Goals as goal
 

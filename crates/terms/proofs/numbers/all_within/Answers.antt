@@ -1,5 +1,4 @@
 -- `all_within` meets its contract: in the loop, no number before the index is outside. Assumes nothing.
-use Prim.Native.Nat.{◌-◌}
 use Rattle.terms.proofs.Seeking.{seeking}
 use Rattle.terms.proofs.numbers.all_within.Goals as goal
 

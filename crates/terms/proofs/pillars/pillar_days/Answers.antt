@@ -1,5 +1,4 @@
 -- `pillar_days` meets its contract: in the loop, no day before the index is out of range. Assumes nothing.
-use Prim.Native.Nat.{◌-◌}
 use Rattle.terms.proofs.Seeking.{seeking}
 use Rattle.terms.proofs.pillars.pillar_days.Goals as goal
 

@@ -1,5 +1,4 @@
 -- `pillar_order` meets its contract: in the loop, no pillar before the index is wrong. Assumes nothing.
-use Prim.Native.Nat.{◌-◌}
 use Rattle.terms.proofs.Seeking.{seeking}
 use Rattle.terms.proofs.pillars.pillar_order.Goals as goal
 

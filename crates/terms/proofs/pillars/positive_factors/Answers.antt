@@ -1,5 +1,4 @@
 -- `positive_factors` meets its contract: in the loop, every factor before the index is positive. Assumes nothing.
-use Prim.Native.Nat.{◌-◌}
 use Rattle.terms.proofs.Seeking.{seeking}
 use Rattle.terms.proofs.pillars.positive_factors.Goals as goal
 

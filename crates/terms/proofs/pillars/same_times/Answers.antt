@@ -1,5 +1,4 @@
 -- `same_times` meets its contract: in the loop, no time before the index is that of the one before it. Assumes nothing.
-use Prim.Native.Nat.{◌-◌}
 use Rattle.terms.proofs.Seeking.{seeking}
 use Rattle.terms.proofs.pillars.same_times.Goals as goal
 

@@ -1,5 +1,4 @@
 -- `sigma_order` meets its contract: in the loop, no time before the index stays. Assumes nothing.
-use Prim.Native.Nat.{◌-◌}
 use Rattle.terms.proofs.Seeking.{seeking}
 use Rattle.terms.proofs.sigma.sigma_order.Goals as goal
 

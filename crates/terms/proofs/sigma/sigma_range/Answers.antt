@@ -1,5 +1,4 @@
 -- `sigma_range` meets its contract: in the loop, no entry before the index is outside. Assumes nothing.
-use Prim.Native.Nat.{◌-◌}
 use Rattle.terms.proofs.Seeking.{seeking}
 use Rattle.terms.proofs.sigma.sigma_range.Goals as goal
 
