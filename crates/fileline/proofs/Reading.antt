@@ -7,8 +7,6 @@ use native.Mathlib.Omega.{arith}
 use lib.ListN.{length, get_or, take, drop, replicate, length-map, length-take, length-replicate, get_or-replicate, get_or-eq_default}
 use lib.Seq.{get_or-take, get_or-drop, get_or-append-add, length-take-le}
 use lib.Ieee.{Float}
-use denote.Enum.Declared.{tag_of}
-use types.Run.{OneOf, miss}
 use Rattle.terms.specs.laws.Searching.{below_or_not}
 use Rattle.bondfile.specs.File.{Numbered, entries_of, of_kind}
 use Rattle.bondfile.specs.Storing.{Stored}
@@ -17,7 +15,6 @@ use Rattle.places.specs.declared.Whose.{Whose}
 use Rattle.places.specs.declared.Whose.TheVariants.{Nobody, Steps, Settlement, Units, Alpha, Spread, Cashflow, Call, Sigma, Pillar}
 use Rattle.places.specs.Places.{whose_day, whose_field, whose_number}
 use Rattle.places.specs.Blame.{or_else}
-use Rattle.places.specs.contracts.Whose.{the_type}
 use Rattle.fileline.specs.Lines.{line_at, line_for}
 
 -- ---- the line at a place
@@ -73,13 +70,13 @@ same_field h a b c = cc
 pub same_numbers : {r : Whose} {amounts xs strikes ks times ts sigmas ss : List Float} (place : ℕ) → r ≡ whose_number place amounts strikes times sigmas → amounts ≡ xs → strikes ≡ ks → times ≡ ts → sigmas ≡ ss → r ≡ whose_number place xs ks ts ss
 same_numbers place h a b c d = cc
 
--- The tags of all but nobody.
-pub somebody : (w f e : Whose) → OneOf (1 ∷ 2 ∷ 3 ∷ 4 ∷ 5 ∷ 6 ∷ 7 ∷ 8 ∷ 9 ∷ []) (tag_of the_type w) → w ≡ f → w ≡ or_else f e
+-- All but nobody.
+pub somebody : (w f e : Whose) → (w ≡ Nobody → ⊥) → w ≡ f → w ≡ or_else f e
 unfolding or_else
 somebody w f e t p = alone w t ∙ ap (λ (z : Whose). or_else z e) p
   where
-    alone : (w : Whose) → OneOf (1 ∷ 2 ∷ 3 ∷ 4 ∷ 5 ∷ 6 ∷ 7 ∷ 8 ∷ 9 ∷ []) (tag_of the_type w) → w ≡ or_else w e
-    alone Nobody t = absurd (miss (1 ∷ 2 ∷ 3 ∷ 4 ∷ 5 ∷ 6 ∷ 7 ∷ 8 ∷ 9 ∷ []) 0 tt t)
+    alone : (w : Whose) → (w ≡ Nobody → ⊥) → w ≡ or_else w e
+    alone Nobody t = absurd (t refl)
     alone Steps t = refl
     alone Settlement t = refl
     alone Units t = refl

@@ -11,4 +11,4 @@ pub returns-then-n-bytes : goal.returns-then-n-bytes
 returns-then-n-bytes c = let h : length c.args.bytes.now ≤ c.args.n = omega (arith, c.if-n-bytes.true) in whole _ _ h
 
 pub slice_bounds-result-end : goal.slice_bounds-result-end
-slice_bounds-result-end c = sym (length-take-le _ _ (omega (arith, c.if1.false)))
+slice_bounds-result-end c = sym (length-take-le _ _ (omega (arith)))

@@ -11,4 +11,4 @@ pub returns-then-n-days : goal.returns-then-n-days
 returns-then-n-days c = let h : length c.args.days.now ≤ c.args.n = omega (arith, c.if-n-days.true) in whole _ _ h
 
 pub slice_bounds-result-end : goal.slice_bounds-result-end
-slice_bounds-result-end c = sym (length-take-le _ _ (omega (arith, c.if1.false)))
+slice_bounds-result-end c = sym (length-take-le _ _ (omega (arith)))

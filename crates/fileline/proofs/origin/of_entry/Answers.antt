@@ -9,6 +9,6 @@ returns c =
     let s = c.cashflows_of-flows.ensures in
     let k = c.calls_of-calls.ensures in
     same_numbers _ c.of_market.ensures
-    (c.Numbers-of.ensures ∙ held-beside 256 refl refl s.on-days s.with-amounts)
+    (c.numbers_of.ensures ∙ held-beside 256 refl refl s.on-days s.with-amounts)
     (c.numbers_of-2.ensures ∙ held-beside 64 refl refl k.from-starts k.at-strikes)
     refl refl

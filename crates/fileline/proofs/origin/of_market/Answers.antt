@@ -8,5 +8,5 @@ pub returns : goal.returns
 returns c =
     let s = c.sigmas_of-n.ensures in
     same_numbers _ c.whose_number.ensures refl refl
-    (c.Numbers-of.ensures ∙ held 64 refl s.at-times)
+    (c.numbers_of.ensures ∙ held 64 refl s.at-times)
     (c.numbers_of-2.ensures ∙ held-beside 64 refl refl s.at-times s.of-sigmas)

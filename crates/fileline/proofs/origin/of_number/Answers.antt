@@ -11,5 +11,5 @@ returns-in-Nobody c =
 pub returns-in_default : goal.returns-in_default
 returns-in_default c =
     let f = c.fields_of-f.ensures in
-    somebody _ _ _ c.in_default.keys2
+    somebody _ _ _ c.in_default.not-Nobody
     (same_field c.whose_field-field.ensures f.in_units_lem f.with_alpha f.with_spread_lem)

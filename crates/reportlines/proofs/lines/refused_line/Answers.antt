@@ -11,10 +11,10 @@ pub returns-then-line-eq0 : goal.returns-then-line-eq0
 returns-then-line-eq0 c = taken_eq _ _ _ _ c.if-line-eq0.true (cc)
 
 pub overflow_add-last : goal.overflow_add-last
-overflow_add-last c = omega (arith, few _ c.width.ensures)
+overflow_add-last c = omega (arith, few _ c.width-end.ensures)
 
 pub overflow_add-last-2 : goal.overflow_add-last-2
-overflow_add-last-2 c = omega (arith, few _ c.width.ensures, few _ c.width.ensures)
+overflow_add-last-2 c = omega (arith, few _ c.width-end.ensures, few _ c.width.ensures)
 
 pub returns : goal.returns
-returns c = left_eq _ _ _ _ c.if1.false (cc)
+returns c = left_eq _ _ _ _ c.if-line-eq0.false (cc)
