@@ -1,5 +1,5 @@
 -- Definitions only. Which steps a call or put entry reaches, the principal and the price there, and the price kept: of calls the lowest, of puts the highest.
-use Rattle.std.specs.Prelude.{ℕ, zero, suc, Bool, true, false, cond, not, ◌&&◌, List, [], ◌∷◌, get_or, replicate, eqb, ltb, Float}
+use Rattle.std.specs.Prelude.{ℕ, zero, suc, Bool, true, false, cond, ◌&&◌, List, [], ◌∷◌, get_or, replicate, eqb, ltb, Float}
 use Rattle.std.specs.Float.{binary64}
 use Rattle.std.specs.Float.Ieee.{add, mul, div, le, lt}
 use Rattle.floats.specs.declared.Answer.{Answer}

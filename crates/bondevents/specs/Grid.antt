@@ -1,5 +1,5 @@
 -- Definitions only. The event grid and the grid entry.
-use Rattle.std.specs.Prelude.{replicate, Float}
+use Rattle.std.specs.Prelude.{replicate}
 use Rattle.floats.specs.declared.Refusal.{Refusal}
 use Rattle.floats.specs.Answers.{plus_zero}
 use Rattle.terms.specs.declared.Settlement.{Settlement}
@@ -8,7 +8,6 @@ use Rattle.terms.specs.Times.{year_fraction}
 use Rattle.terms.specs.Checks.{on_check}
 use Rattle.terms.specs.Entries.{grid_checks}
 use Rattle.terms.specs.Outcomes.{Outcome, given, follow, on_outcome}
-use Rattle.bondevents.specs.declared.CallStep.{CallStep}
 use Rattle.bondevents.specs.declared.BondEventGrid.{BondEventGrid}
 use Rattle.bondevents.specs.declared.GridAnswer.{GridAnswer}
 use Rattle.bondevents.specs.Steps.{Axis, maturity_time, steps_of, step_cashflows}

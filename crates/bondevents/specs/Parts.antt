@@ -11,7 +11,7 @@ use Rattle.terms.specs.declared.Check.TheVariants.{Passed, Refused}
 use Rattle.terms.specs.declared.Epoch.{Epoch}
 use Rattle.terms.specs.Times.{time_from}
 use Rattle.terms.specs.Numbers.{tolerance}
-use Rattle.terms.specs.Terms.{Leg, CallSchedule, Bond, no_entries}
+use Rattle.terms.specs.Terms.{Leg, Bond, no_entries}
 use Rattle.terms.specs.Outcomes.{Outcome, given, follow, on_outcome, valued}
 use Rattle.bondevents.specs.declared.Side.{Side}
 use Rattle.bondevents.specs.declared.Side.TheVariants.{Call, Put}

@@ -21,12 +21,12 @@ use Rattle.bondevents.specs.declared.Side.TheVariants.{Call, Put}
 use Rattle.bondevents.specs.declared.Exercise.{Exercise}
 use Rattle.bondevents.specs.declared.CallStep.{CallStep}
 use Rattle.bondevents.specs.Steps.{Axis}
-use Rattle.bondevents.specs.Calls.{none, new_step, exercises, joined, puts_below, call_steps}
+use Rattle.bondevents.specs.Calls.{none, exercises, joined, puts_below, call_steps}
 use Rattle.bondevents.specs.laws.Pricing.{Above}
 use Rattle.bondevents.specs.laws.Sides.{Before, before-refl}
 use Rattle.bondevents.specs.laws.SamePrices.{exercises-unread}
 use Rattle.bondevents.specs.laws.LowestPrices.{LowestPrices, lowest-prices, refused_by_lem, refused_20_or_27}
-use Rattle.bondevents.specs.laws.NoLower.{Thinner, ThinnerRow, NoLower, NoLowerSteps}
+use Rattle.bondevents.specs.laws.NoLower.{Thinner, ThinnerRow, NoLowerSteps}
 use Rattle.bondevents.specs.laws.MadeLists.{Goes, goes_made, step_thinner, made_thinner}
 use Rattle.bondevents.specs.laws.Reordering.{reordered_same}
 use Rattle.bondevents.specs.laws.Joined.{joined_at, rows-below}

@@ -1,14 +1,13 @@
 -- Calls and puts of each step side by side, and that no put stands above a call: a 38 never appears where calls are dropped or raised. Assumes nothing.
-use Rattle.std.specs.Prelude.{◌≡◌, refl, Bool, true, false, not, ◌&&◌, List, [], ◌∷◌, ℕ, zero, suc, ◌<◌, length, get_or, T, Float}
+use Rattle.std.specs.Prelude.{◌≡◌, refl, Bool, true, false, not, ◌&&◌, List, [], ◌∷◌, ℕ, zero, suc, length, get_or, T}
 use Rattle.std.proofs.Common.{sym, ap, ◌∙◌, subst, arith}
 use Rattle.std.proofs.lemmas.Bool.{false≢true}
-use Rattle.std.specs.Float.Ieee.{le, lt}
+use Rattle.std.specs.Float.Ieee.{lt}
 use Rattle.std.specs.Float.Ieee.Scale.{finite}
 use Rattle.floats.specs.laws.Order.{number_of-finite, le_trans, le_of_not_lt, not_le_of_lt}
 use Rattle.terms.specs.declared.Check.TheVariants.{Passed}
 use Rattle.terms.specs.laws.Sequence.{indexed-passed, indexed_of_none}
-use Rattle.bondevents.specs.declared.Side.{Side}
-use Rattle.bondevents.specs.declared.Side.TheVariants.{Call, Put}
+use Rattle.bondevents.specs.declared.Side.TheVariants.{Call}
 use Rattle.bondevents.specs.declared.Exercise.{Exercise}
 use Rattle.bondevents.specs.declared.CallStep.{CallStep}
 use Rattle.bondevents.specs.Calls.{none, new_step, joined, put_above, puts_below}

@@ -10,7 +10,7 @@ use Rattle.floats.specs.laws.Order.{T_of, T-of_not}
 use Rattle.terms.specs.declared.Settlement.{Settlement}
 use Rattle.terms.specs.Terms.{Leg, CallSchedule, Bond, TimeGrid}
 use Rattle.terms.specs.Checks.{last_day}
-use Rattle.terms.specs.Outcomes.{Outcome, given, refused, follow}
+use Rattle.terms.specs.Outcomes.{Outcome, given, follow}
 use Rattle.terms.specs.laws.EntryChecks.{grid-terms}
 use Rattle.terms.specs.laws.TermChecks.{leg-counted, paid-passed}
 use Rattle.bondevents.specs.declared.Side.{Side}

@@ -1,7 +1,5 @@
 -- `bondevents::calls::over_window` meets its contract: the loop's invariant is `Scanning`. Assumes nothing.
-use Prim.Native.Nat.{◌-◌}
 use borrow.Author.Rules.{rules}
-use Rattle.bondevents.specs.Parts.{in_window}
 use Rattle.bondevents.proofs.Scanning.{keeps, scanning}
 use Rattle.bondevents.proofs.calls.over_window.Goals as goal
 

@@ -1,5 +1,4 @@
 -- `bondevents::marks::prices_of` meets its contract: the loop's invariant is `Copying`. Assumes nothing.
-use Prim.Native.Nat.{◌-◌}
 use borrow.Author.Rules.{rules}
 use native.Mathlib.Omega.{arith}
 use mathlib.Core.Path.{ap}

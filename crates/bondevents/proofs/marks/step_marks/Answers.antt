@@ -1,5 +1,4 @@
 -- `bondevents::marks::step_marks` meets its contract: the loop's invariant is `Copying`. Assumes nothing.
-use Prim.Native.Nat.{◌-◌}
 use native.Mathlib.Omega.{arith}
 use Rattle.bondevents.proofs.Filling.{begin, more}
 use Rattle.bondevents.specs.Parts.{step_mark}

@@ -1,5 +1,4 @@
 -- `bondevents::marks::step_prices` meets its contract: the loop's invariant is `Pairing`. Assumes nothing.
-use Prim.Native.Nat.{◌-◌}
 use native.Mathlib.Omega.{arith}
 use mathlib.Core.Path.{refl}
 use lib.Ieee.{nan}

@@ -1,5 +1,4 @@
 -- `bondevents::principal::call_principal` meets its contract: the loop's invariant is `Counting`, for the days after the call day. Assumes nothing.
-use Prim.Native.Nat.{◌-◌}
 use Rattle.bondevents.proofs.Counting.{counting}
 use Rattle.bondevents.proofs.principal.call_principal.Goals as goal
 

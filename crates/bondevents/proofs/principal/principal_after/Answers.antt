@@ -1,5 +1,4 @@
 -- `bondevents::principal::principal_after` meets its contract: the loop's invariant is `Counting`, over the table, for the steps that exceed this one. Assumes nothing.
-use Prim.Native.Nat.{◌-◌}
 use Rattle.bondevents.proofs.Counting.{counting}
 use Rattle.bondevents.proofs.principal.principal_after.Goals as goal
 

@@ -1,5 +1,4 @@
 -- `bondevents::principal::window_principals` meets its contract: the loop's invariant is `Filling`. Assumes nothing.
-use Prim.Native.Nat.{◌-◌}
 use native.Mathlib.Omega.{arith}
 use borrow.Author.Rules.{rules}
 use lib.Ieee.{nan}
