@@ -31,8 +31,7 @@ fn hand_book(
 }
 
 // Each bond's value, their sum in book order and each desk's node count, all or none.
-#[unsafe(no_mangle)]
-pub extern "C" fn gutirapeo_book_value(
+pub fn gutirapeo_book_value(
     settlement: u32,
     day_counts: &[u32],
     cashflow_counts: &[u32],

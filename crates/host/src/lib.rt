@@ -1,16 +1,16 @@
-// The C interface: one thin function per public entry. Inputs come first, then the place, then the
-// outputs; the result is the refusal number, 0 where accepted. Outputs are 0 on a refusal.
+// The C interface: one thin function per public entry, which the crate host_c exports. Inputs come first, then the
+// place, then the outputs; the result is the refusal number, 0 where accepted. Outputs are 0 on a refusal.
 #![tactic(auto)]
 
-mod books;
+pub mod books;
 mod grids;
 mod handing;
-mod notices;
-mod quotes;
-mod sheets;
-mod sizes;
-mod tables;
-mod trees;
+pub mod notices;
+pub mod quotes;
+pub mod sheets;
+pub mod sizes;
+pub mod tables;
+pub mod trees;
 
 ghost use Rattle.host.specs.Handed.{Handed, HandedGrid, HandedPrice, HandedRoot};
 ghost use Rattle.bondpricer.specs.Straight.{straight_value};
@@ -32,96 +32,84 @@ use crate::handing::{hand_over, hand_price, hand_root};
 use terms::Settlement;
 
 // The correctly rounded root; below 0 refused with 26.
-#[unsafe(no_mangle)]
-pub extern "C" fn gutirapeo_sqrt(x: f64, place: &mut u32, value: &mut f64) -> u32
+pub fn gutirapeo_sqrt(x: f64, place: &mut u32, value: &mut f64) -> u32
     ensures { Handed (sqrt_alone x) result place.new value.new }
 {
     hand_over(rounded::sqrt::sqrt(x), place, value)
 }
 
 // The nearest whole number, a half away from zero.
-#[unsafe(no_mangle)]
-pub extern "C" fn gutirapeo_round(x: f64, place: &mut u32, value: &mut f64) -> u32
+pub fn gutirapeo_round(x: f64, place: &mut u32, value: &mut f64) -> u32
     ensures { Handed (round_alone x) result place.new value.new }
 {
     hand_over(floats::round::round(x), place, value)
 }
 
 // The lowest whole number not below x.
-#[unsafe(no_mangle)]
-pub extern "C" fn gutirapeo_ceil(x: f64, place: &mut u32, value: &mut f64) -> u32
+pub fn gutirapeo_ceil(x: f64, place: &mut u32, value: &mut f64) -> u32
     ensures { Handed (ceil_alone x) result place.new value.new }
 {
     hand_over(floats::ceil::ceil(x), place, value)
 }
 
 // The greater of two, the first where equal.
-#[unsafe(no_mangle)]
-pub extern "C" fn gutirapeo_max(a: f64, b: f64, place: &mut u32, value: &mut f64) -> u32
+pub fn gutirapeo_max(a: f64, b: f64, place: &mut u32, value: &mut f64) -> u32
     ensures { Handed (max_alone a b) result place.new value.new }
 {
     hand_over(floats::max::max(a, b), place, value)
 }
 
 // The lower of two, the first where equal.
-#[unsafe(no_mangle)]
-pub extern "C" fn gutirapeo_min(a: f64, b: f64, place: &mut u32, value: &mut f64) -> u32
+pub fn gutirapeo_min(a: f64, b: f64, place: &mut u32, value: &mut f64) -> u32
     ensures { Handed (min_alone a b) result place.new value.new }
 {
     hand_over(floats::min::min(a, b), place, value)
 }
 
 // exp(x); above 700 refused with 26.
-#[unsafe(no_mangle)]
-pub extern "C" fn gutirapeo_exp(x: f64, place: &mut u32, value: &mut f64) -> u32
+pub fn gutirapeo_exp(x: f64, place: &mut u32, value: &mut f64) -> u32
     ensures { Handed (exp_alone x) result place.new value.new }
 {
     hand_over(elementary::exp::exp(x), place, value)
 }
 
 // exp(x) − 1; where exp refuses, so does it.
-#[unsafe(no_mangle)]
-pub extern "C" fn gutirapeo_exp_m1(x: f64, place: &mut u32, value: &mut f64) -> u32
+pub fn gutirapeo_exp_m1(x: f64, place: &mut u32, value: &mut f64) -> u32
     ensures { Handed (exp_m1_alone x) result place.new value.new }
 {
     hand_over(elementary::exp_m1::exp_m1(x), place, value)
 }
 
 // ln(x); below 2^−1022 refused with 26.
-#[unsafe(no_mangle)]
-pub extern "C" fn gutirapeo_ln(x: f64, place: &mut u32, value: &mut f64) -> u32
+pub fn gutirapeo_ln(x: f64, place: &mut u32, value: &mut f64) -> u32
     ensures { Handed (ln_alone x) result place.new value.new }
 {
     hand_over(elementary::ln::ln(x), place, value)
 }
 
 // b to the power y, as exp(y × ln(b)).
-#[unsafe(no_mangle)]
-pub extern "C" fn gutirapeo_powf(b: f64, y: f64, place: &mut u32, value: &mut f64) -> u32
+pub fn gutirapeo_powf(b: f64, y: f64, place: &mut u32, value: &mut f64) -> u32
     ensures { Handed (powf_alone b y) result place.new value.new }
 {
     hand_over(elementary::powf::powf(b, y), place, value)
 }
 
 // a × b + c rounded once.
-#[unsafe(no_mangle)]
-pub extern "C" fn gutirapeo_mul_add(a: f64, b: f64, c: f64, place: &mut u32, value: &mut f64) -> u32
+pub fn gutirapeo_mul_add(a: f64, b: f64, c: f64, place: &mut u32, value: &mut f64) -> u32
     ensures { Handed (mul_add_alone a b c) result place.new value.new }
 {
     hand_over(rounded::mul_add::mul_add(a, b, c), place, value)
 }
 
 // (a + b)/2.
-#[unsafe(no_mangle)]
-pub extern "C" fn gutirapeo_midpoint(a: f64, b: f64, place: &mut u32, value: &mut f64) -> u32
+pub fn gutirapeo_midpoint(a: f64, b: f64, place: &mut u32, value: &mut f64) -> u32
     ensures { Handed (midpoint_alone a b) result place.new value.new }
 {
     hand_over(floats::midpoint::midpoint(a, b), place, value)
 }
 
 // The event grid: maturity time, steps, and all 513 cashflows, call marks and prices, put marks and prices.
-#[unsafe(no_mangle)]
-pub extern "C" fn gutirapeo_grid(
+pub fn gutirapeo_grid(
     settlement: u32,
     code: u32,
     days: &[u32],
@@ -176,8 +164,7 @@ pub extern "C" fn gutirapeo_grid(
 }
 
 // What the bond is worth without its calls.
-#[unsafe(no_mangle)]
-pub extern "C" fn gutirapeo_straight_value(
+pub fn gutirapeo_straight_value(
     settlement: u32,
     code: u32,
     days: &[u32],
@@ -212,8 +199,7 @@ pub extern "C" fn gutirapeo_straight_value(
 }
 
 // The price that a yield means, and its derivative.
-#[unsafe(no_mangle)]
-pub extern "C" fn gutirapeo_price_from_yield(
+pub fn gutirapeo_price_from_yield(
     settlement: u32,
     code: u32,
     days: &[u32],
@@ -248,8 +234,7 @@ pub extern "C" fn gutirapeo_price_from_yield(
 }
 
 // The yield that a price means, and the evaluations that the search made.
-#[unsafe(no_mangle)]
-pub extern "C" fn gutirapeo_yield_from_price(
+pub fn gutirapeo_yield_from_price(
     settlement: u32,
     code: u32,
     days: &[u32],

@@ -30,8 +30,7 @@ fn hand_list(
 }
 
 // The call list of the notices that stand: how many entries, and 64 starts, ends and strikes.
-#[unsafe(no_mangle)]
-pub extern "C" fn gutirapeo_call_list(
+pub fn gutirapeo_call_list(
     series: &[u32],
     versions: &[u32],
     actions: &[u32],

@@ -10,8 +10,7 @@ use crate::handing::hand_root;
 use terms::Settlement;
 
 // The spread that makes the bond worth the target; how many spreads were tried.
-#[unsafe(no_mangle)]
-pub extern "C" fn gutirapeo_spread_from_price(
+pub fn gutirapeo_spread_from_price(
     settlement: u32,
     code: u32,
     cashflow_days: &[u32],

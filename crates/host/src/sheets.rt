@@ -20,8 +20,7 @@ fn hand_line(answer: ClosingLine, place: &mut u32, line: &mut [u8; 35]) -> u32
 }
 
 // A bond's line of the closing sheet: zero after 31, and printed after every other refusal.
-#[unsafe(no_mangle)]
-pub extern "C" fn gutirapeo_closing_line(
+pub fn gutirapeo_closing_line(
     bond: u32,
     settlement: u32,
     code: u32,

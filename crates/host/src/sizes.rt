@@ -38,8 +38,7 @@ fn hand_sizes(
 }
 
 // The lengths of the node slice, the probability slice and each row, and the nodes of the tree.
-#[unsafe(no_mangle)]
-pub extern "C" fn gutirapeo_sizes(
+pub fn gutirapeo_sizes(
     settlement: u32,
     code: u32,
     cashflow_days: &[u32],

@@ -22,8 +22,7 @@ fn hand_page(answer: SpreadTable, place: &mut u32, length: &mut u32, page: &mut 
 }
 
 // A row for each shift and a column for each spread. After 45 the page is all zero and the slices are untouched; else they are all zero.
-#[unsafe(no_mangle)]
-pub extern "C" fn gutirapeo_spread_table(
+pub fn gutirapeo_spread_table(
     settlement: u32,
     code: u32,
     cashflow_days: &[u32],

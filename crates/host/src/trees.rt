@@ -9,8 +9,7 @@ use crate::handing::hand_value;
 use terms::Settlement;
 
 // What the bond is worth with its calls and puts, and the nodes of the tree.
-#[unsafe(no_mangle)]
-pub extern "C" fn gutirapeo_tree_value(
+pub fn gutirapeo_tree_value(
     settlement: u32,
     code: u32,
     cashflow_days: &[u32],
