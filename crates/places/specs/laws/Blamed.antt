@@ -12,7 +12,7 @@ use Rattle.terms.specs.declared.Check.{Check}
 use Rattle.terms.specs.declared.Check.TheVariants.{Passed, Refused}
 use Rattle.terms.specs.Numbers.{float, amount_limit}
 use Rattle.terms.specs.Terms.{Leg, CallSchedule, SigmaSchedule, Market, no_entries, with_puts}
-use Rattle.terms.specs.Checks.{first_of, single, indexed, no_day, falls, beyond, not_above, settings, day_count, leg_days, call_days, within, amount_range, strike_range, sigma_range, call_order, sigma_order, last_day, any_paid, pillar_order, pillars_apart, maturity_apart, positive_factors}
+use Rattle.terms.specs.Checks.{first_of, single, indexed, no_day, falls, beyond, not_above, settings, day_count, leg_days, call_days, amount_range, strike_range, sigma_range, call_order, sigma_order, last_day, any_paid, pillar_order, pillars_apart, maturity_apart, positive_factors}
 use Rattle.terms.specs.Entries.{market_checks, tree_checks}
 use Rattle.terms.specs.laws.Sequence.{passed_not_refused, passes_of_first, first_refusal, indexed-passed, indexed-refused}
 use Rattle.terms.specs.laws.Searching.{below_or_not}
