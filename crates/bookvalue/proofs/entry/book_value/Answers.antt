@@ -14,26 +14,14 @@ holdings-held-requires c = few-bonds _ c.out_of.ensures c.if-out_of.false
 pub desk_checks-of_desks-requires : goal.desk_checks-of_desks-requires
 desk_checks-of_desks-requires c = few-bonds _ c.out_of.ensures c.if-out_of.false
 
-pub enum_known-of_desks : goal.enum_known-of_desks
-enum_known-of_desks c = c.in-Refused.keys1
-
 pub returns-in-Refused : goal.returns-in-Refused
 returns-in-Refused c = entered_as c.refused_book-in-Refused.ensures (entered-desk _ _ c.out_of.ensures c.if-out_of.false c.holdings-held.ensures c.desk_checks-of_desks.ensures c.in-Refused.is)
-
-pub enum_told-1 : goal.enum_told-1
-enum_told-1 c = c.in_default.keys2
 
 pub all_checks-check-requires : goal.all_checks-check-requires
 all_checks-check-requires c = few-bonds _ c.out_of.ensures c.if-out_of.false
 
-pub enum_known-check : goal.enum_known-check
-enum_known-check c = c.in-Refused-check.keys1
-
 pub returns-in-Refused-check : goal.returns-in-Refused-check
 returns-in-Refused-check c = entered_as c.refused_book-in-Refused-check.ensures (entered-refused _ _ c.out_of.ensures c.if-out_of.false c.holdings-held.ensures c.desk_checks-of_desks.ensures c.in_default.is c.all_checks-check.ensures c.in-Refused-check.is)
-
-pub enum_told-in_default-check : goal.enum_told-in_default-check
-enum_told-in_default-check c = c.in_default-check.keys2
 
 pub all_values-valued-requires : goal.all_values-valued-requires
 all_values-valued-requires c = (few-bonds _ c.out_of.ensures c.if-out_of.false, sym c.all_checks-check.ensures ∙ c.in_default-check.is)
@@ -42,19 +30,19 @@ pub answer_of-requires : goal.answer_of-requires
 answer_of-requires c = let g = c.well_formed.1.1.1.1.1.1.1.1.1.1.1.1.1.1.1.1.1.1.1.1.1.1.1.1.1.0 in (few-bonds _ c.out_of.ensures c.if-out_of.false, few-nodes _ _ c.all_values-valued.ensures (λ i. few-of_tree _ _ _ (omega (arith, g))))
 
 pub shape_of-nodes : goal.shape_of-nodes
-shape_of-nodes c = c.zero_numbers.auto.0 ∙ c.all_values-valued.auto.1.1.1.1.1.1.1.1.1.1.1.1.1.1.1.1.1.0
+shape_of-nodes c = c.zero_numbers.auto.nodes ∙ c.all_values-valued.auto.nodes
 
 pub shape_of-probabilities : goal.shape_of-probabilities
-shape_of-probabilities c = c.zero_floats.auto.0 ∙ c.all_values-valued.auto.1.1.1.1.1.1.1.1.1.1.1.1.1.1.1.1.1.1.0
+shape_of-probabilities c = c.zero_floats.auto.probabilities ∙ c.all_values-valued.auto.probabilities
 
 pub shape_of-first_row : goal.shape_of-first_row
-shape_of-first_row c = c.zero_floats-2.auto.0 ∙ c.all_values-valued.auto.1.1.1.1.1.1.1.1.1.1.1.1.1.1.1.1.1.1.1.0
+shape_of-first_row c = c.zero_floats-2.auto.first_row ∙ c.all_values-valued.auto.first_row
 
 pub shape_of-second_row : goal.shape_of-second_row
-shape_of-second_row c = c.zero_floats-3.auto.0 ∙ c.all_values-valued.auto.1.1.1.1.1.1.1.1.1.1.1.1.1.1.1.1.1.1.1.1.0
+shape_of-second_row c = c.zero_floats-3.auto.second_row ∙ c.all_values-valued.auto.second_row
 
 pub returns : goal.returns
 returns c =
     entered-zeroed _ _ c.out_of.ensures c.if-out_of.false c.holdings-held.ensures c.desk_checks-of_desks.ensures c.in_default.is c.all_checks-check.ensures c.in_default-check.is c.all_values-valued.ensures c.answer_of.ensures
     c.zero_numbers.ensures c.zero_floats.ensures c.zero_floats-2.ensures c.zero_floats-3.ensures
-    c.all_values-valued.auto.1.1.1.1.1.1.1.1.1.1.1.1.1.1.1.1.1.0 c.all_values-valued.auto.1.1.1.1.1.1.1.1.1.1.1.1.1.1.1.1.1.1.0 c.all_values-valued.auto.1.1.1.1.1.1.1.1.1.1.1.1.1.1.1.1.1.1.1.0 c.all_values-valued.auto.1.1.1.1.1.1.1.1.1.1.1.1.1.1.1.1.1.1.1.1.0
+    c.all_values-valued.auto.nodes c.all_values-valued.auto.probabilities c.all_values-valued.auto.first_row c.all_values-valued.auto.second_row

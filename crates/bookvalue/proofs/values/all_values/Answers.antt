@@ -21,12 +21,6 @@ bounds-held-i c = let t = c.loop-i-test.true in let p = c.requires.0 in search r
 pub bond_value-worth-requires : goal.bond_value-worth-requires
 bond_value-worth-requires c = all_pass _ _ c.requires.1 _ c.loop-i-test.true
 
-pub enum_known-worth : goal.enum_known-worth
-enum_known-worth c = c.in-Value.keys1
-
-pub enum_told-1 : goal.enum_told-1
-enum_told-1 c = c.in_default.keys2
-
 pub overflow_cast-i : goal.overflow_cast-i
 overflow_cast-i c = let t = c.loop-i-test.true in let p = c.requires.0 in record { fits = omega arith }
 
@@ -37,16 +31,16 @@ pub no_values-requires : goal.no_values-requires
 no_values-requires c = tt
 
 pub shape_of-nodes-in_default : goal.shape_of-nodes-in_default
-shape_of-nodes-in_default c = c.bond_value-worth.auto.1.1.1.1.1.1.1.1.1.1.1.1.1.1.1.1.0 ∙ ap (λ (r : Room). r.nodes) c.loop-i.invariant.as_long
+shape_of-nodes-in_default c = c.bond_value-worth.auto.nodes ∙ ap (λ (r : Room). r.nodes) c.loop-i.invariant.as_long
 
 pub shape_of-probabilities-in_default : goal.shape_of-probabilities-in_default
-shape_of-probabilities-in_default c = c.bond_value-worth.auto.1.1.1.1.1.1.1.1.1.1.1.1.1.1.1.1.1.0 ∙ ap (λ (r : Room). r.probabilities) c.loop-i.invariant.as_long
+shape_of-probabilities-in_default c = c.bond_value-worth.auto.probabilities ∙ ap (λ (r : Room). r.probabilities) c.loop-i.invariant.as_long
 
 pub shape_of-first-in_default : goal.shape_of-first-in_default
-shape_of-first-in_default c = c.bond_value-worth.auto.1.1.1.1.1.1.1.1.1.1.1.1.1.1.1.1.1.1.0 ∙ ap (λ (r : Room). r.first) c.loop-i.invariant.as_long
+shape_of-first-in_default c = c.bond_value-worth.auto.first ∙ ap (λ (r : Room). r.first) c.loop-i.invariant.as_long
 
 pub shape_of-second-in_default : goal.shape_of-second-in_default
-shape_of-second-in_default c = c.bond_value-worth.auto.1.1.1.1.1.1.1.1.1.1.1.1.1.1.1.1.1.1.1.0 ∙ ap (λ (r : Room). r.second) c.loop-i.invariant.as_long
+shape_of-second-in_default c = c.bond_value-worth.auto.second ∙ ap (λ (r : Room). r.second) c.loop-i.invariant.as_long
 
 pub returns-in_default : goal.returns-in_default
 returns-in_default c =
@@ -74,7 +68,7 @@ loop-i-smaller c = let t = c.loop-i-test.true in let p = c.requires.0 in search 
 pub loop-i-preserved : goal.loop-i-preserved
 loop-i-preserved c =
     value_more _ _ _ _ _ _ _ _ c.loop-i.invariant c.loop-i-test.true c.bond_value-worth.ensures c.requires.0 c.in-Value.is
-    (same_room c.bond_value-worth.auto.1.1.1.1.1.1.1.1.1.1.1.1.1.1.1.1.0 c.bond_value-worth.auto.1.1.1.1.1.1.1.1.1.1.1.1.1.1.1.1.1.0 c.bond_value-worth.auto.1.1.1.1.1.1.1.1.1.1.1.1.1.1.1.1.1.1.0 c.bond_value-worth.auto.1.1.1.1.1.1.1.1.1.1.1.1.1.1.1.1.1.1.1.0)
+    (same_room c.bond_value-worth.auto.nodes c.bond_value-worth.auto.probabilities c.bond_value-worth.auto.first c.bond_value-worth.auto.second)
 
 pub shape_of-nodes : goal.shape_of-nodes
 shape_of-nodes c = ap (λ (r : Room). r.nodes) c.loop-i.invariant.as_long

@@ -6,7 +6,7 @@ use Rattle.filevalue.proofs.pricing.yielded.Goals as goal
 pub returns : goal.returns
 returns c =
     rw (
-      ← leg-held refl refl refl c.cashflows_of-n.ensures c.days_of.ensures c.bytes_of.ensures c.Numbers-of.ensures,
+      ← leg-held refl refl refl c.cashflows_of-n.ensures c.days_of.ensures c.bytes_of.ensures c.numbers_of.ensures,
       ← c.fields_of-f.ensures.settled,
     )
     c.yield_from_price.ensures

@@ -6,5 +6,5 @@ use Rattle.filevalue.proofs.tree.with_flows.Goals as goal
 pub returns : goal.returns
 returns c =
     rw (
-    ← leg-held refl refl refl c.cashflows_of-n.ensures c.days_of.ensures c.bytes_of.ensures c.Numbers-of.ensures)
+    ← leg-held refl refl refl c.cashflows_of-n.ensures c.days_of.ensures c.bytes_of.ensures c.numbers_of.ensures)
     c.with_calls.ensures

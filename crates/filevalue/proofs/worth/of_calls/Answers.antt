@@ -4,17 +4,17 @@ use Rattle.filevalue.proofs.Replying.{worth}
 use Rattle.filevalue.proofs.worth.of_calls.Goals as goal
 
 pub shape_of-nodes : goal.shape_of-nodes
-shape_of-nodes c = c.tree_value-uncalled.auto.1.1.1.1.1.1.1.1.1.1.1.1.1.1.1.1.1.1.1.0 ∙ c.tree_value_lem.auto.1.1.1.1.1.1.1.1.1.1.1.1.1.1.1.1.1.1.1.0
+shape_of-nodes c = c.tree_value-uncalled.auto.nodes ∙ c.tree_value-called.auto.nodes
 
 pub shape_of-probabilities : goal.shape_of-probabilities
-shape_of-probabilities c = c.tree_value-uncalled.auto.1.1.1.1.1.1.1.1.1.1.1.1.1.1.1.1.1.1.1.1.0 ∙ c.tree_value_lem.auto.1.1.1.1.1.1.1.1.1.1.1.1.1.1.1.1.1.1.1.1.0
+shape_of-probabilities c = c.tree_value-uncalled.auto.probabilities ∙ c.tree_value-called.auto.probabilities
 
 pub shape_of-first : goal.shape_of-first
-shape_of-first c = c.tree_value-uncalled.auto.1.1.1.1.1.1.1.1.1.1.1.1.1.1.1.1.1.1.1.1.1.0 ∙ c.tree_value_lem.auto.1.1.1.1.1.1.1.1.1.1.1.1.1.1.1.1.1.1.1.1.1.0
+shape_of-first c = c.tree_value-uncalled.auto.first ∙ c.tree_value-called.auto.first
 
 pub shape_of-second : goal.shape_of-second
-shape_of-second c = c.tree_value-uncalled.auto.1.1.1.1.1.1.1.1.1.1.1.1.1.1.1.1.1.1.1.1.1.1.0 ∙ c.tree_value_lem.auto.1.1.1.1.1.1.1.1.1.1.1.1.1.1.1.1.1.1.1.1.1.1.0
+shape_of-second c = c.tree_value-uncalled.auto.second ∙ c.tree_value-called.auto.second
 
 pub returns : goal.returns
 returns c =
-    worth (rw (c.days-of.ensures, c.days-of2.ensures, c.Numbers-of.ensures) refl) c.tree_value_lem.ensures c.tree_value-uncalled.ensures c.worth_of_calls.ensures
+    worth (rw (c.days_of.ensures, c.days_of-2.ensures, c.numbers_of.ensures) refl) c.tree_value-called.ensures c.tree_value-uncalled.ensures c.worth_of_calls.ensures

@@ -10,7 +10,7 @@ use Rattle.spreadtable.proofs.checks.single_row.Goals as goal
 pub returns-in_default : goal.returns-in_default
 returns-in_default c =
     let a = c.args in
-    row_unchecked (terms_of a.settlement a.days.now a.kinds.now a.amounts.now a.units (calls_of_lem a.put-starts.now a.put-ends.now a.put-strikes.now) a.yearly a.maximum a.alpha a.times.now a.sigmas.now a.pillars.now a.factors.now) (calls_of_lem a.starts.now a.ends.now a.strikes.now) a.w a.spreads.now (room_of (lent_of a.nodes.now a.probabilities.now a.first.now a.second.now)) c.tree_checks-check.ensures c.in_default.is c.unchecked_row.ensures refl
+    row_unchecked (terms_of a.settlement a.days.now a.kinds.now a.amounts.now a.units (calls_of_lem a.put_starts.now a.put_ends.now a.put_strikes.now) a.yearly a.maximum a.alpha a.times.now a.sigmas.now a.pillars.now a.factors.now) (calls_of_lem a.starts.now a.ends.now a.strikes.now) a.w a.spreads.now (room_of (lent_of a.nodes.now a.probabilities.now a.first.now a.second.now)) c.tree_checks-check.ensures c.in_default.is c.unchecked_row.ensures refl
 
 pub checked_row-requires : goal.checked_row-requires
 checked_row-requires c =
@@ -21,9 +21,16 @@ checked_row-requires c =
     let leg = leg-sized _ _ _ _ passed refl in
     let calls = (calls-sized _ _ _ _ passed refl).entries in
     let puts = (puts-sized _ _ _ _ passed refl).entries in
-    (p.0, ((steps.some-steps, steps.few-steps), ((leg.few, leg.kinds_too, leg.amounts_too), ((calls.ends_too, calls.strikes_too), ((puts.ends_too, puts.strikes_too), p.1.timed (tree-few-pillars _ _ all))))))
+    record {
+      spreads_bound = p.spreads_bound;
+      le_maximum = (steps.some-steps, steps.few-steps);
+      days_len_bound = (leg.few, leg.kinds_too, leg.amounts_too);
+      ends_len = (calls.ends_too, calls.strikes_too);
+      put_ends_len = (puts.ends_too, puts.strikes_too);
+      curve_times_value = p.curve_times.timed (tree-few-pillars _ _ all);
+    }
 
 pub returns : goal.returns
 returns c =
     let a = c.args in
-    row-checked (terms_of a.settlement a.days.now a.kinds.now a.amounts.now a.units (calls_of_lem a.put-starts.now a.put-ends.now a.put-strikes.now) a.yearly a.maximum a.alpha a.times.now a.sigmas.now a.pillars.now a.factors.now) (calls_of_lem a.starts.now a.ends.now a.strikes.now) a.w a.spreads.now (room_of (lent_of a.nodes.now a.probabilities.now a.first.now a.second.now)) c.tree_checks-check.ensures c.in-Passed.is c.checked_row.ensures
+    row-checked (terms_of a.settlement a.days.now a.kinds.now a.amounts.now a.units (calls_of_lem a.put_starts.now a.put_ends.now a.put_strikes.now) a.yearly a.maximum a.alpha a.times.now a.sigmas.now a.pillars.now a.factors.now) (calls_of_lem a.starts.now a.ends.now a.strikes.now) a.w a.spreads.now (room_of (lent_of a.nodes.now a.probabilities.now a.first.now a.second.now)) c.tree_checks-check.ensures c.in-Passed.is c.checked_row.ensures

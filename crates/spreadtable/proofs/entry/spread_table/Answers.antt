@@ -32,7 +32,7 @@ pub all_rows-rows-requires : goal.all_rows-rows-requires
 all_rows-rows-requires c =
     let a = c.args in
     let few = few_of a.spreads.now a.shifts.now c.wrong_count.ensures c.if-wrong_count.false in
-    ((omega arith, omega arith), fronted _ _ _ c.timed_pillars-count.ensures c.pillar_times-table.ensures)
+    record { spreads_len_bound = (omega arith, omega arith); curve_times = fronted _ _ _ c.timed_pillars-count.ensures c.pillar_times-table.ensures }
 
 pub zero_numbers-requires : goal.zero_numbers-requires
 zero_numbers-requires c = tt
@@ -50,23 +50,23 @@ pub as_table-requires : goal.as_table-requires
 as_table-requires c =
     let a = c.args in
     let few = few_of a.spreads.now a.shifts.now c.wrong_count.ensures c.if-wrong_count.false in
-    rows_fit _ (cell-wide (terms_of a.settlement a.cashflow-days.now a.cashflow-kinds.now a.cashflow-amounts.now a.units (calls_of_lem a.put-starts.now a.put-ends.now a.put-strikes.now) a.steps-per-year a.max-steps a.alpha a.sigma-times.now a.sigmas.now a.pillar_days_lem.now a.pillar-factors.now) (calls_of_lem a.call-starts.now a.call_ends.now a.call-strikes.now) (room_of (lent_of a.nodes.now a.probabilities.now a.first_row.now a.second-row.now))) _ _ (omega arith) (omega arith) c.all_rows-rows.ensures
+    rows_fit _ (cell-wide (terms_of a.settlement a.cashflow_days.now a.cashflow_kinds.now a.cashflow_amounts.now a.units (calls_of_lem a.put_starts.now a.put_ends.now a.put_strikes.now) a.steps_per_year a.max_steps a.alpha a.sigma_times.now a.sigmas.now a.pillar_days.now a.pillar_factors.now) (calls_of_lem a.call_starts.now a.call_ends.now a.call_strikes.now) (room_of (lent_of a.nodes.now a.probabilities.now a.first_row.now a.second_row.now))) _ _ (omega arith) (omega arith) c.all_rows-rows.ensures
 
 pub shape_of-nodes : goal.shape_of-nodes
-shape_of-nodes c = c.zero_numbers.auto.0 ∙ c.all_rows-rows.auto.1.1.1.1.1.1.1.1.1.1.1.1.1.1.1.1.1.1.1.1.1.0
+shape_of-nodes c = c.zero_numbers.auto.nodes ∙ c.all_rows-rows.auto.nodes
 
 pub shape_of-probabilities : goal.shape_of-probabilities
-shape_of-probabilities c = c.zero_floats.auto.0 ∙ c.all_rows-rows.auto.1.1.1.1.1.1.1.1.1.1.1.1.1.1.1.1.1.1.1.1.1.1.0
+shape_of-probabilities c = c.zero_floats.auto.probabilities ∙ c.all_rows-rows.auto.probabilities
 
 pub shape_of-first_row : goal.shape_of-first_row
-shape_of-first_row c = c.zero_floats-2.auto.0 ∙ c.all_rows-rows.auto.1.1.1.1.1.1.1.1.1.1.1.1.1.1.1.1.1.1.1.1.1.1.1.0
+shape_of-first_row c = c.zero_floats-2.auto.first_row ∙ c.all_rows-rows.auto.first_row
 
 pub shape_of-second_row : goal.shape_of-second_row
-shape_of-second_row c = c.zero_floats-3.auto.0 ∙ c.all_rows-rows.auto.1.1.1.1.1.1.1.1.1.1.1.1.1.1.1.1.1.1.1.1.1.1.1.1.0
+shape_of-second_row c = c.zero_floats-3.auto.second_row ∙ c.all_rows-rows.auto.second_row
 
 pub returns : goal.returns
 returns c =
     let a = c.args in
     let few = few_of a.spreads.now a.shifts.now c.wrong_count.ensures c.if-wrong_count.false in
     let kept = c.all_rows-rows.auto in
-    table-printed _ _ _ _ _ c.wrong_count.ensures c.if-wrong_count.false c.all_rows-rows.ensures c.zero_numbers.ensures c.zero_floats.ensures c.zero_floats-2.ensures c.zero_floats-3.ensures kept.1.1.1.1.1.1.1.1.1.1.1.1.1.1.1.1.1.1.1.1.1.0 kept.1.1.1.1.1.1.1.1.1.1.1.1.1.1.1.1.1.1.1.1.1.1.0 kept.1.1.1.1.1.1.1.1.1.1.1.1.1.1.1.1.1.1.1.1.1.1.1.0 kept.1.1.1.1.1.1.1.1.1.1.1.1.1.1.1.1.1.1.1.1.1.1.1.1.0 few.0 few.1 c.as_table.ensures
+    table-printed _ _ _ _ _ c.wrong_count.ensures c.if-wrong_count.false c.all_rows-rows.ensures c.zero_numbers.ensures c.zero_floats.ensures c.zero_floats-2.ensures c.zero_floats-3.ensures kept.nodes kept.probabilities kept.first_row kept.second_row few.0 few.1 c.as_table.ensures

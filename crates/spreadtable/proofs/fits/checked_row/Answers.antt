@@ -4,7 +4,7 @@ use Rattle.spreadtable.specs.laws.FittedOnce.{grid-stopped, grid-walked}
 use Rattle.spreadtable.proofs.fits.checked_row.Goals as goal
 
 pub event_grid-answer-requires : goal.event_grid-answer-requires
-event_grid-answer-requires c = let p = c.requires in (p.1.0, (p.1.1.0, (p.1.1.1.0, p.1.1.1.1.0)))
+event_grid-answer-requires c = let p = c.requires in record { le_maximum = p.le_maximum; days_len_bound = p.days_len_bound; ends_len = p.ends_len; put_ends_len = p.put_ends_len }
 
 pub returns-in-Refused : goal.returns-in-Refused
 returns-in-Refused c = grid-stopped _ _ _ c.args.w c.args.spreads.now c.event_grid-answer.ensures c.in-Refused.is c.stopped_row.ensures
@@ -12,9 +12,9 @@ returns-in-Refused c = grid-stopped _ _ _ c.args.w c.args.spreads.now c.event_gr
 pub row_on-requires : goal.row_on-requires
 row_on-requires c =
     let p = c.requires in
-    (p.0, steps_of-grid _ _ _ _ c.event_grid-answer.ensures c.in_default.is p.1.0.0 p.1.0.1)
+    record { spreads_bound = p.spreads_bound; steps_nonzero = steps_of-grid _ _ _ _ c.event_grid-answer.ensures c.in_default.is p.le_maximum.0 p.le_maximum.1 }
 
 pub returns : goal.returns
 returns c =
     let start = c in
-    grid-walked _ _ _ start.args.w start.args.spreads.now c.event_grid-answer.ensures start.requires.1.1.1.1.1 c.in_default.is c.row_on.ensures
+    grid-walked _ _ _ start.args.w start.args.spreads.now c.event_grid-answer.ensures start.requires.curve_times_value c.in_default.is c.row_on.ensures

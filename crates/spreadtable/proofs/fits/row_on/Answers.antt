@@ -7,18 +7,22 @@ use Rattle.spreadtable.specs.laws.FittedOnce.{row-with_calls}
 use Rattle.spreadtable.proofs.fits.row_on.Goals as goal
 
 pub slice_bounds-row_over-end-4 : goal.slice_bounds-row_over-end-4
-slice_bounds-row_over-end-4 c = let p = c.requires in sym (length-take-le _ _ (omega arith))
+slice_bounds-row_over-end-4 c = let p = c.requires.steps_nonzero in sym (length-take-le _ _ (omega arith))
 
 pub slice_bounds-row_over-end-5 : goal.slice_bounds-row_over-end-5
-slice_bounds-row_over-end-5 c = let p = c.requires in sym (length-take-le _ _ (omega arith))
+slice_bounds-row_over-end-5 c = let p = c.requires.steps_nonzero in sym (length-take-le _ _ (omega arith))
 
 pub slice_bounds-row_over-end-6 : goal.slice_bounds-row_over-end-6
-slice_bounds-row_over-end-6 c = let p = c.requires in sym (length-take-le _ _ (omega arith))
+slice_bounds-row_over-end-6 c = let p = c.requires.steps_nonzero in sym (length-take-le _ _ (omega arith))
 
 pub row_over-requires : goal.row_over-requires
 row_over-requires c =
     let p = c.requires in
-    (p.0, ((p.1.0, p.1.1, sym (length-map c.args.grid.cashflows _) ∙ c.well_formed.1.0.1.1.1.1.0.1.0.1, omega arith, omega arith), (length-take-le _ _ (omega arith), length-take-le _ _ (omega arith), length-take-le _ _ (omega arith))))
+    record {
+      spreads_bound = p.spreads_bound;
+      steps_nonzero = (p.steps_nonzero.0, p.steps_nonzero.1, omega arith, omega arith, omega arith);
+      counts_len = (length-take-le _ _ (omega arith), length-take-le _ _ (omega arith), length-take-le _ _ (omega arith));
+    }
 
 pub returns : goal.returns
 returns c = row-with_calls _ c.args.w c.args.spreads.now c.args.grid.cashflows c.args.grid.calls c.row_over.ensures c.step_marks-marks.ensures c.step_prices-prices.ensures

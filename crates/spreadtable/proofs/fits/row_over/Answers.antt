@@ -14,12 +14,18 @@ returns-in_default c = row-stopped c.fitted_tree-f.ensures c.args.w c.args.sprea
 
 pub walked_row-requires : goal.walked_row-requires
 walked_row-requires c =
-    let s = standing c.fitted-tree.ensures c.f.given.1 in
-    let kept = c.fitted-tree.auto in
-    let d = kept.1.1.1.1.1.1.1.1.1.0 in
-    let e = kept.1.1.1.1.1.1.1.1.0 in
-    let p = c.before.before.before.before.before.before.before.before.before.before.before.before.before.before.before.before.before.before.before.before.before.before.before.before.before.before.before.before.before.before.before.before.before.before.before.before.before.before.before.before.before.before.before.before.before.requires in
-    (p.0, (laid-over kept.1.1.1.1.1.1.1.1.1.1.1.1.0 kept.1.1.1.1.1.1.1.1.1.1.1.1.1.0 s.fitted.stands.laid, ((root-count s.fitted.stands, s.fitted.stands.first_layer), ((omega arith, omega arith, omega arith), (omega arith, omega arith)))))
+    let s = standing c.fitted_tree-f.ensures c.in-Fitted.is in
+    let kept = c.fitted_tree-f.auto in
+    let d = kept.spacings in
+    let e = kept.shifts in
+    let p = c.requires in
+    record {
+      spreads_bound = p.spreads_bound;
+      laid = laid-over kept.first kept.second s.fitted.stands.laid;
+      counts_value = (root-count s.fitted.stands, s.fitted.stands.first_layer);
+      shifts_len = (omega arith, omega arith, omega arith);
+      marks_len = (omega arith, omega arith);
+    }
 
 pub returns : goal.returns
-returns c = row_walked c.fitted-tree.ensures c.before.before.before.before.before.before.before.before.before.before.before.before.before.before.before.before.before.before.before.before.before.before.before.before.before.before.before.before.before.before.before.before.before.before.before.before.before.before.before.before.before.before.before.before.before.before.before.before.before.before.args.w c.before.before.before.before.before.before.before.before.before.before.before.before.before.before.before.before.before.before.before.before.before.before.before.before.before.before.before.before.before.before.before.before.before.before.before.before.before.before.before.before.before.before.before.before.before.before.before.before.before.before.args.spreads.now _ _ c.f.given.1 c.Walked-row.ensures
+returns c = row_walked c.fitted_tree-f.ensures c.args.w c.args.spreads.now _ _ c.in-Fitted.is c.walked_row.ensures

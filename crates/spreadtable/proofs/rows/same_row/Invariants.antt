@@ -5,7 +5,7 @@ use Rattle.spreadtable.specs.laws.Filling.{Filling}
 use Rattle.spreadtable.proofs.rows.same_row.Given as goal
 
 abbrev pub invariant-loop-i : goal.invariant-loop-i
-invariant-loop-i l = Filling (λ s. l.cell) l.spreads l.initial.row l.i i
+invariant-loop-i l = Filling (λ s. l.cell) l.spreads l.initial.row l.row l.i
 
 abbrev pub decreases-loop-i : goal.decreases-loop-i
-decreases-loop-i l = length l.spreads - i
+decreases-loop-i l = length l.spreads - l.i

@@ -6,7 +6,7 @@ use Rattle.spreadtable.specs.laws.FittedOnce.{spread_cell}
 use Rattle.spreadtable.proofs.rows.stopped_row.Given as goal
 
 abbrev pub invariant-loop-i : goal.invariant-loop-i
-invariant-loop-i l = Filling (spread_cell λ s. l.answer) l.spreads l.initial.row l.i i
+invariant-loop-i l = Filling (spread_cell λ s. l.answer) l.spreads l.initial.row l.row l.i
 
 abbrev pub decreases-loop-i : goal.decreases-loop-i
-decreases-loop-i l = length l.spreads - i
+decreases-loop-i l = length l.spreads - l.i

@@ -8,7 +8,7 @@ use Rattle.spreadtable.proofs.Lanes.{SameRows}
 use Rattle.spreadtable.proofs.walks.walked_row.Given as goal
 
 abbrev pub invariant-loop-i : goal.invariant-loop-i
-invariant-loop-i l = Filling (spread_cell (walk_in l.dt l.flat l.cashflows (calls_of l.marks l.prices) l.counts l.spacings l.shifts l.nodes l.probabilities)) l.spreads l.initial.row l.i i × SameRows l.initial.first l.initial.second l.second l.row
+invariant-loop-i l = Filling (spread_cell (walk_in l.dt l.flat l.cashflows (calls_of l.marks l.prices) l.counts l.spacings l.shifts l.nodes l.probabilities)) l.spreads l.initial.row l.row l.i × SameRows l.initial.first l.initial.second l.first l.second
 
 abbrev pub decreases-loop-i : goal.decreases-loop-i
-decreases-loop-i l = length l.spreads - i
+decreases-loop-i l = length l.spreads - l.i
