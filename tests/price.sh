@@ -1,9 +1,9 @@
 #!/bin/bash
-# The script ./price as a user types it: tests/price.sh [PROGRAM], with the program that rt has built (target/bin/price).
+# The script ./price as a user types it: tests/price.sh [PROGRAM], with the program that rt has built (crates/price/out/price).
 # A stand-in plays rt and builds by copying PROGRAM, so that no test waits for a proof.
 set -u
 here=$(cd "$(dirname "$(readlink -f -- "${BASH_SOURCE[0]}")")/.." && pwd -P) || exit 2
-PROGRAM=$(readlink -f -- "${1:-$here/target/bin/price}")
+PROGRAM=$(readlink -f -- "${1:-$here/crates/price/out/price}")
 [ -x "$PROGRAM" ] || { echo "tests/price.sh: no program at $PROGRAM" && exit 2; }
 ROOM=$(mktemp -d) || exit 2
 EXAMPLES=$here/crates/price/data/examples
@@ -14,32 +14,29 @@ desk=$ROOM/desk examples=$EXAMPLES passed=0 failed=0
 mkdir "$ROOM/bin" "$ROOM/tools"
 cat >"$ROOM/bin/rt" <<'END'
 #!/bin/bash
-# Plays rt: builds by copying, and like rt holds what the program writes to its file stdout.
+# Plays rt: builds by copying, and like rt runs what it has built.
 [ "$1" = version ] && echo "stand-in kit 7" && exit
-[ "$*" = "check price" ] || exit 2
+[ "$*" = run ] && [ "${PWD%/crates/price}" != "$PWD" ] || exit 2
 echo one >>"$ROOM/builds"
-mkdir -p target/bin
+mkdir -p out
 for name in low middle; do
     sleep "${PROVING:-0}" &
     echo $! >>"$ROOM/provers"
     wait $!
-    echo "fn $name::f: proved"
-    echo "rt: $name proved (1 s)"
+    echo "fn $name::f: proved" >&2
+    echo "crate $name: modules loaded=0 checked=1" >&2
+    [ "$name" != "${FAILING:-}" ] || { echo "logic=not-proved" >&2 && exit 1; }
+    echo "logic=proved functions=1 sum=1" >&2
 done
-[ -z "${CHANGING:-}" ] || echo "// later" >>crates/low/src/lib.rt
-cp "$PROGRAM" target/bin/price
-echo "rt: price proved (2 s)"
-mapfile -t words <crates/price/args
-if (cd crates/price/data && "$PROGRAM" "${words[@]}") | cmp -s - crates/price/stdout; then
-    echo "rt: ok, 3 crates proved"
-else
-    echo "rt: FAILED: price"
-    exit 1
-fi
+[ -z "${CHANGING:-}" ] || echo "// later" >>../low/src/lib.rt
+cp "$PROGRAM" out/price
+echo "crate price: modules loaded=0 checked=1" >&2
+echo "logic=proved functions=1 sum=1" >&2
+exec out/price
 END
 chmod +x "$ROOM/bin/rt"
 # All that the script needs beside rt.
-for tool in awk bash cat cp cut find flock git grep head mkdir mv readlink rm sed sha256sum sleep sort tail wc; do
+for tool in awk bash cat cmp cp cut find flock git grep head mkdir mv readlink rm sed sha256sum sleep sort tail wc; do
     ln -s "$(command -v "$tool")" "$ROOM/tools/$tool"
 done
 PATH=$ROOM/bin:$PATH
@@ -49,7 +46,7 @@ fresh() {
     rm -rf "$desk" "$ROOM/builds" "$ROOM/provers"
     mkdir -p "$desk/crates/low/src" "$desk/crates/middle/src" "$desk/crates/other/src" "$desk/crates/price/data"
     cp "$here/price" "$desk"
-    printf '# bottom up\nlow:\nmiddle: low\nother: low\nprice: middle io os\n' >"$desk/crates.txt"
+    printf '# bottom up\nlow:\nmiddle: low\nother: low\nprice: middle\n' >"$desk/crates.txt"
     echo "// low" >"$desk/crates/low/src/lib.rt"
     echo "// middle" >"$desk/crates/middle/src/lib.rt"
     cp "$examples/straight.txt" "$desk/crates/price/data/one.txt"
@@ -88,10 +85,17 @@ wrote() { "$PROGRAM" "$desk/$1" | cmp -s - "$ROOM/out"; verdict $? "prints the r
 times() { [ "$(grep -cF -- "$2" "$ROOM/out")" -eq "$1" ]; verdict $? "says '$2' $1 times"; }
 built() { [ "$(wc -l <"$ROOM/builds")" -eq "$1" ]; verdict $? "was built $1 times"; }
 
+# ---- the examples at the top
+label="the examples" status=0
+: >"$ROOM/out"
+: >"$ROOM/err"
+diff -r "$here/examples" "$EXAMPLES" >/dev/null
+verdict $? "are those that the program is tried on"
+
 # ---- building
 fresh
 try "the first call" './price a.txt'
-ends 0; wrote a.txt; warns "low proved (1 s), 1 of 3"; warns "price proved (2 s), 3 of 3"; built 1
+ends 0; wrote a.txt; warns "low proved, 1 of 3"; warns "price proved, 3 of 3"; built 1
 try "the second call" './price a.txt'
 ends 0; wrote a.txt; calm; built 1
 
@@ -112,15 +116,21 @@ ends 0; times 2 "Spreads tried"
 
 fresh
 try "one figure of stdout changed" 'cp crates/price/stdout kept; sed -i "/^Nodes/y/0123456789/1234567890/" crates/price/stdout; ./price a.txt'
-ends 2; silent; warns "rt: FAILED: price"; warns "rt does not call the program proved"
-[ -x "$desk/target/bin/price" ]
-verdict $? "the program that is not proved stands there"
+ends 2; silent; warns "does not write what crates/price/stdout has"
+[ -x "$desk/crates/price/out/price" ]
+verdict $? "the program that is refused stands there"
 try "and called again" './price a.txt'
 ends 2; silent; built 2
 try "the figure put back" 'cp kept crates/price/stdout; ./price a.txt'
 ends 0; wrote a.txt
 try "changed once more, behind a proved program" 'sed -i "/^Nodes/y/0123456789/1234567890/" crates/price/stdout; ./price a.txt'
 ends 2; silent
+
+fresh
+try "a crate that is not proved" 'FAILING=middle ./price a.txt'
+ends 2; silent; warns "low proved, 1 of 3"; warns "logic=not-proved"; warns "rt does not call the program proved"
+try "and proved after all" './price a.txt'
+ends 0; wrote a.txt
 
 fresh
 try "two first calls at once" 'PROVING=1 ./price a.txt >one 2>one.err & PROVING=1 ./price a.txt >two 2>two.err; s=$?; wait $! && cmp one two && cat one one.err two.err >&2; exit $s'
