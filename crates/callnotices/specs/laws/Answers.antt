@@ -1,5 +1,5 @@
 -- What the entry answers where the checks pass and where they don't, and what passed checks say of the notices. Assumes nothing.
-use Rattle.std.specs.Prelude.{◌≡◌, refl, [], ◌∷◌, ℕ, length, get_or}
+use Rattle.std.specs.Prelude.{◌≡◌, refl, [], ◌∷◌, ℕ, get_or}
 use Rattle.std.proofs.Common.{sym, ◌∙◌, arith}
 use Rattle.std.proofs.Math.Path.{ap}
 use Rattle.floats.specs.declared.Refusal.{Refusal}

@@ -1,6 +1,5 @@
 -- `listed` meets its contract: in the loop, the entries of the series so far stand in the three rows (`Listing`). Assumes nothing.
 use native.Mathlib.Omega.{arith}
-use Prim.Native.Nat.{◌-◌}
 use Rattle.callnotices.proofs.Listing.{listing, in_fields, turn-listed}
 use Rattle.callnotices.proofs.entry.listed.Goals as goal
 

@@ -1,5 +1,4 @@
 -- `no_repeats` meets its contract: in the loop, no notice before the index repeats an earlier one. Assumes nothing.
-use Prim.Native.Nat.{◌-◌}
 use Rattle.terms.proofs.Seeking.{seeking}
 use Rattle.callnotices.proofs.ranges.no_repeats.Goals as goal
 

@@ -1,5 +1,4 @@
 -- `notice_range` meets its contract: in the loop, no notice before the index is out of range. Assumes nothing.
-use Prim.Native.Nat.{◌-◌}
 use Rattle.terms.proofs.Seeking.{seeking}
 use Rattle.callnotices.proofs.ranges.notice_range.Goals as goal
 

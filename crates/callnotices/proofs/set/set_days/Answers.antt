@@ -1,5 +1,4 @@
 -- `set_days` meets its contract: in the loop, no set notice before the index has a wrong day. Assumes nothing.
-use Prim.Native.Nat.{◌-◌}
 use Rattle.terms.proofs.Seeking.{seeking}
 use Rattle.callnotices.proofs.set.set_days.Goals as goal
 

@@ -1,5 +1,4 @@
 -- `set_order` meets its contract: in the loop, no set notice before the index ends early. Assumes nothing.
-use Prim.Native.Nat.{◌-◌}
 use Rattle.terms.proofs.Seeking.{seeking}
 use Rattle.callnotices.proofs.set.set_order.Goals as goal
 

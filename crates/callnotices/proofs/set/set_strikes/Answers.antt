@@ -1,5 +1,4 @@
 -- `set_strikes` meets its contract: in the loop, no set notice before the index has a strike out of range. Assumes nothing.
-use Prim.Native.Nat.{◌-◌}
 use Rattle.terms.proofs.Seeking.{seeking}
 use Rattle.callnotices.proofs.set.set_strikes.Goals as goal
 

@@ -1,5 +1,4 @@
 -- `first_version` meets its contract: in the loop, no notice before the index has the series and version (`Looking`). Assumes nothing.
-use Prim.Native.Nat.{◌-◌}
 use Rattle.callnotices.proofs.Looking.{looking}
 use Rattle.callnotices.proofs.standing.first_version.Goals as goal
 

@@ -1,5 +1,4 @@
 -- `highest_version` meets its contract: in the loop, the highest version of the notices before the index is kept (`Climbing`). Assumes nothing.
-use Prim.Native.Nat.{◌-◌}
 use Rattle.callnotices.proofs.Climbing.{climbing}
 use Rattle.callnotices.proofs.standing.highest_version.Goals as goal
 
