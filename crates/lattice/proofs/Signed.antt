@@ -1,7 +1,7 @@
 -- Signed numbers of the code: a local holds bits, and reads back as the number where that fits. Nodes fit, with their neighbours. Assumes nothing.
-use Prim.Native.Nat.{ℕ, suc, ◌+◌, ◌≤◌, ◌<◌, ◌^◌}
-use mathlib.Core.Path.{◌≡◌, refl, sym, ap, ◌∙◌, subst}
-use mathlib.Core.Bool.{Bool, true, false}
+use Prim.Native.Nat.{◌≤◌}
+use mathlib.Core.Path.{◌≡◌, refl, ap, ◌∙◌}
+use mathlib.Core.Bool.{Bool}
 use native.Mathlib.Omega.{arith}
 use lib.IntN.{ℤ, pos, negsuc, suc_ℤ, pred_ℤ, ◌+ℤ◌, ◌-ℤ◌, +ℤ_one, -ℤ_one, +ℤ-pred_ℤ}
 use lib.Signed.{mag, lt_z}
@@ -9,7 +9,7 @@ use mir.Syntax.{w32}
 use mir.Val.{SFits, to_z, of_z}
 use mir.Facts.{to_z-of_z}
 use Rattle.lattice.specs.Layers.{below}
-use Rattle.lattice.specs.laws.Bounds.{Within, Numbered, mag_suc, mag_pred, numbered-suc, numbered_pred, within-numbered}
+use Rattle.lattice.specs.laws.Bounds.{Within, Numbered, mag_pred, numbered-suc, numbered_pred, within-numbered}
 
 -- what is read back
 abbrev pub back : ℤ → ℤ

@@ -1,9 +1,9 @@
 -- Definitions only. lattice_transitions: layers, transitions and spacings, or 21 to 24, 26, 27.
-use Rattle.std.specs.Prelude.{ℕ, zero, suc, ◌+◌, ◌*◌, Bool, true, cond, ◌&&◌, List, [], ◌∷◌, length, replicate, ℤ, pos, Float}
+use Rattle.std.specs.Prelude.{ℕ, zero, suc, ◌+◌, Bool, true, cond, ◌&&◌, List, [], ◌∷◌, length, ℤ, pos, Float}
 use Rattle.std.specs.Float.{binary64}
 use Rattle.std.specs.Float.Ieee.{mul, neg, le}
 use Rattle.floats.specs.declared.Answer.{Answer}
-use Rattle.floats.specs.Answers.{plus_zero, one, two, and_then, when_finite}
+use Rattle.floats.specs.Answers.{plus_zero, one, two, when_finite}
 use Rattle.elementary.specs.Exponential.{exp_at}
 use Rattle.rounded.specs.Root.{sqrt_at}
 use Rattle.terms.specs.Numbers.{float, epsilon}

@@ -6,7 +6,7 @@ use Rattle.std.proofs.Math.Bool.{true, false}
 use Rattle.floats.specs.declared.Refusal.{Refusal}
 use Rattle.floats.specs.declared.Answer.{Answer}
 use Rattle.floats.specs.declared.Answer.TheVariants.{Value, Refused}
-use Rattle.floats.specs.Answers.{on_answer, and_then, not_finite, refusal}
+use Rattle.floats.specs.Answers.{on_answer, and_then, refusal}
 use Rattle.terms.specs.laws.Outcomes.{Gives, gives, nothing}
 use Rattle.terms.specs.Outcomes.{Outcome, given, refused, on_outcome, follow, valued, refuse}
 

@@ -1,8 +1,7 @@
 -- A cast to a signed integer keeps the order of finite floats: it cuts off what is behind the point. Assumes nothing.
-use Rattle.std.specs.Prelude.{ℕ, zero, suc, ◌+◌, ◌-◌, ◌*◌, ◌/◌, ◌^◌, ◌≤◌, ◌<◌, min, ◌≡◌, refl, Bool, true, false, T, leb, ℤ, pos, negsuc, neg_ℤ, Float}
-use Rattle.std.proofs.Common.{le_trans, le-div_iff_mul-le, div-mul-le_self, mul-le-mul_right, le_of_mul-le-mul_right, mul_right_comm, arith, sym, ap, subst, ◌∙◌, le→leb, leb→le}
+use Rattle.std.specs.Prelude.{ℕ, zero, suc, ◌-◌, ◌*◌, ◌/◌, ◌^◌, ◌≤◌, ◌<◌, min, ◌≡◌, true, false, T, ℤ, pos, negsuc, neg_ℤ, Float}
+use Rattle.std.proofs.Common.{le_trans, le-div_iff_mul-le, div-mul-le_self, mul-le-mul_right, le_of_mul-le-mul_right, mul_right_comm, arith, le→leb, leb→le}
 use Rattle.std.proofs.Math.Nat.{zero-div, le-min, min-le_left, min-le_right}
-use Rattle.std.proofs.Math.IntN.{suc_ℤ}
 use Rattle.std.specs.Int.Signed.{le_z, mag}
 use Rattle.std.specs.Float.{nan, inf, fin, binary64}
 use Rattle.std.specs.Float.Ieee.{up, down, le, lt, neg, of_bits, to_signed, in_signed, whole}

@@ -1,11 +1,11 @@
 -- A node number that is not below another lies some steps above it; and node numbers as doubles keep their order. Assumes nothing.
-use Rattle.std.specs.Prelude.{ℕ, zero, suc, ◌+◌, ◌-◌, ◌*◌, ◌≤◌, ◌<◌, ◌≡◌, refl, Bool, true, false, T, leb, ℤ, pos, negsuc, Float}
+use Rattle.std.specs.Prelude.{ℕ, zero, suc, ◌+◌, ◌-◌, ◌≡◌, T, ℤ, pos, negsuc}
 use Rattle.std.proofs.Common.{add-suc, arith, sym, ap, subst, ◌∙◌, leb→le, ltb→lt, lit<}
 use Rattle.std.proofs.Math.Nat.{sub-zero}
-use Rattle.std.proofs.Math.IntN.{suc_ℤ, pred_ℤ}
+use Rattle.std.proofs.Math.IntN.{suc_ℤ}
 use Rattle.std.specs.Int.Signed.{le_z}
-use Rattle.std.specs.Float.{Format, binary64}
-use Rattle.std.specs.Float.Ieee.{round, le, of_int}
+use Rattle.std.specs.Float.{binary64}
+use Rattle.std.specs.Float.Ieee.{le, of_int}
 use Rattle.floats.specs.laws.Rounding.{Rounds, above, under, rounds-mono}
 use Rattle.lattice.specs.Layers.{below, node_float}
 use Rattle.lattice.specs.laws.IntegerOrder.{up, up_shift}

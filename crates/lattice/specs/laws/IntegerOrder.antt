@@ -1,5 +1,5 @@
 -- The order of node numbers, counted from a base: b + i is below b + j where i is below j. Assumes nothing.
-use Rattle.std.specs.Prelude.{ℕ, zero, suc, ◌+◌, ◌≤◌, ◌<◌, ◌≡◌, refl, Bool, true, false, ltb, leb, ℤ, pos, negsuc, ◌+ℤ◌}
+use Rattle.std.specs.Prelude.{ℕ, zero, suc, ◌≡◌, refl, true, false, ltb, ℤ, pos, negsuc}
 use Rattle.std.proofs.Common.{arith, sym, ap, ◌∙◌, subst, lt-ltb, le-ltb, ltb-true}
 use Rattle.std.proofs.Math.Dec.{leb-suc-suc, leb-zero, leb-suc-zero}
 use Rattle.std.proofs.Math.IntN.{suc_ℤ, pred_ℤ, suc-pred, pred-suc}

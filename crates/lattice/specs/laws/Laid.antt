@@ -1,5 +1,5 @@
 -- Layers one after the other in the lent slices, each in front of what is left, and what a tree laid so promises. Assumes nothing.
-use Rattle.std.specs.Prelude.{ℕ, ◌+◌, ◌*◌, ◌≤◌, ◌<◌, ◌^◌, ◌≡◌, Bool, List, [], ◌∷◌, length, get_or, take, drop, ℤ, Float}
+use Rattle.std.specs.Prelude.{ℕ, ◌*◌, ◌≤◌, ◌<◌, ◌≡◌, Bool, List, [], ◌∷◌, length, take, drop, ℤ, Float}
 use Rattle.lattice.specs.Lattice.{Layer}
 use Rattle.lattice.specs.laws.Stored.{numbers_in, middles_in, transitions_in}
 use Rattle.lattice.specs.laws.RisingMiddles.{Climbs}

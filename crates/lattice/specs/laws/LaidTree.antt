@@ -1,5 +1,5 @@
 -- What laying a whole tree in the slices promises: its outcome, and where there is a tree, that its layers stand there as fit and walk ask. Assumes nothing.
-use Rattle.std.specs.Prelude.{ℕ, ◌≡◌, Bool, List, ◌∷◌, length, ℤ, Float}
+use Rattle.std.specs.Prelude.{ℕ, ◌≡◌, Bool, List, ◌∷◌, ℤ, Float}
 use Rattle.terms.specs.declared.Check.{Check}
 use Rattle.terms.specs.Outcomes.{Outcome, given}
 use Rattle.hullwhite.specs.laws.Filled.{check_of}

@@ -1,5 +1,5 @@
 -- A layer that was grown, in front of the tree laid behind it: the parts read back, and the tree with this layer in front. Assumes nothing.
-use Rattle.std.specs.Prelude.{ℕ, ◌+◌, ◌-◌, ◌*◌, ◌≤◌, ◌≡◌, refl, false, List, ◌∷◌, ◌++◌, length, get_or, take, drop, ℤ, pos, Float}
+use Rattle.std.specs.Prelude.{ℕ, ◌+◌, ◌*◌, ◌≤◌, ◌≡◌, refl, false, List, ◌∷◌, ◌++◌, length, get_or, take, drop, ℤ, pos, Float}
 use Rattle.std.proofs.Common.{arith, sym, length-append, length-drop, length-take-le, take_at, drop_at}
 use Rattle.std.proofs.Math.IntN.{pred_ℤ}
 use Rattle.lattice.specs.declared.Transition.{Transition}

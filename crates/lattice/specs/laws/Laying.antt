@@ -1,5 +1,5 @@
 -- Laying the nodes of the next layer behind a layer: each new node's number and a middle 0. Assumes nothing.
-use Rattle.std.specs.Prelude.{ℕ, ◌+◌, ◌-◌, ◌*◌, ◌≤◌, ◌≡◌, refl, Bool, true, false, cond, List, [], ◌∷◌, length, set, ℤ, pos}
+use Rattle.std.specs.Prelude.{ℕ, ◌+◌, ◌*◌, ◌≤◌, ◌≡◌, refl, Bool, true, false, cond, List, [], ◌∷◌, length, set, ℤ, pos}
 use Rattle.std.proofs.Common.{arith, ap, ◌∙◌, length-set}
 use Rattle.std.proofs.Math.IntN.{suc_ℤ, pred_ℤ}
 use Rattle.lattice.specs.declared.reach.Reach.{Reach}

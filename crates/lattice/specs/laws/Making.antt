@@ -11,10 +11,10 @@ use Rattle.std.specs.Float.Ieee.Scale.{finite}
 use Rattle.floats.specs.declared.Refusal.{Refusal}
 use Rattle.floats.specs.Answers.{plus_zero, one, two, not_finite, on_answer}
 use Rattle.floats.specs.Extremes.{max_of}
-use Rattle.floats.specs.Whole.{round_at, rounded}
+use Rattle.floats.specs.Whole.{rounded}
 use Rattle.floats.specs.laws.Whole.{round-answers}
 use Rattle.terms.specs.Numbers.{float}
-use Rattle.terms.specs.Outcomes.{Outcome, given, refused, valued, finite_then, refuse}
+use Rattle.terms.specs.Outcomes.{Outcome, given, refused, finite_then, refuse}
 use Rattle.lattice.specs.declared.Middle.{Middle}
 use Rattle.lattice.specs.declared.Transition.{Transition}
 use Rattle.lattice.specs.declared.node.MadeMiddle.{MadeMiddle}
@@ -22,7 +22,7 @@ use Rattle.lattice.specs.declared.node.MadeMiddle.TheVariants as middle
 use Rattle.lattice.specs.declared.node.MadeTransition.{MadeTransition}
 use Rattle.lattice.specs.declared.node.MadeTransition.TheVariants.{Made, Refused}
 use Rattle.lattice.specs.Layers.{node_float}
-use Rattle.lattice.specs.Transitions.{Step, too_far, too_low, clamped, probabilities, middle_of, from_middle, transition_of}
+use Rattle.lattice.specs.Transitions.{Step, too_far, too_low, clamped, probabilities, middle_of, from_middle}
 
 -- A transition, or the refusal that was met.
 abbrev pub made_outcome : MadeTransition → Outcome Transition

@@ -1,6 +1,6 @@
 -- The middles of a layer: each is the rounded quotient, within ±1,000,000, with its two neighbours as destinations; and they never fall from node to node. Assumes nothing.
 use Rattle.std.specs.Prelude.{ℕ, ◌≡◌, refl, Bool, true, false, cond, ◌||◌, List, [], ◌∷◌, T, ℤ, Float}
-use Rattle.std.proofs.Common.{arith, sym, ap, subst, ◌∙◌}
+use Rattle.std.proofs.Common.{sym, ap, subst, ◌∙◌}
 use Rattle.std.proofs.Math.IntN.{suc_ℤ, pred_ℤ}
 use Rattle.std.specs.Int.Signed.{le_z}
 use Rattle.std.specs.Float.Ieee.{binary64, add, sub, mul, div, neg, le, lt, fits, to_signed}
@@ -9,23 +9,22 @@ use Rattle.std.specs.Float.Ieee.Scale.{finite}
 use Rattle.floats.specs.declared.Refusal.{Refusal}
 use Rattle.floats.specs.Answers.{plus_zero, one, two, on_answer}
 use Rattle.floats.specs.Extremes.{max_of}
-use Rattle.floats.specs.Whole.{rounded, round_at}
+use Rattle.floats.specs.Whole.{rounded}
 use Rattle.floats.specs.laws.Arithmetic.{mul_mono_left, mul_mono_right, div_mono_left}
-use Rattle.floats.specs.laws.Cuts.{IsWhole, whole-finite}
+use Rattle.floats.specs.laws.Cuts.{whole-finite}
 use Rattle.floats.specs.laws.Whole.{rounded-mono, rounded-whole, round-answers}
 use Rattle.terms.specs.Numbers.{million}
-use Rattle.terms.specs.Outcomes.{Outcome, given, refused, on_outcome, refuse}
+use Rattle.terms.specs.Outcomes.{Outcome, refused, on_outcome, refuse}
 use Rattle.lattice.specs.declared.Middle.{Middle}
 use Rattle.lattice.specs.declared.Transition.{Transition}
 use Rattle.lattice.specs.declared.node.MadeMiddle.{MadeMiddle}
 use Rattle.lattice.specs.declared.node.MadeMiddle.TheVariants as made
-use Rattle.lattice.specs.Layers.{below, node_float, insert}
-use Rattle.lattice.specs.Transitions.{Step, too_low, too_far, clamped, middle_of, from_middle, transition_of}
+use Rattle.lattice.specs.Layers.{below, node_float}
+use Rattle.lattice.specs.Transitions.{Step, too_low, too_far, middle_of, from_middle, transition_of}
 use Rattle.lattice.specs.Lattice.{transitions_of, destinations}
 use Rattle.floats.specs.laws.Finite.{finite_of_mul, positive_of-div}
 use Rattle.terms.specs.laws.Outcomes.{Gives, gives, nothing, given_of, gives-follow, gives-finite, gives-cond}
 use Rattle.lattice.specs.laws.Bounds.{Within}
-use Rattle.lattice.specs.laws.IntegerOrder.{up}
 use Rattle.lattice.specs.laws.CastOrder.{cast_mono, middle-within}
 use Rattle.lattice.specs.laws.Gaps.{Gap, gap_of, node-mono}
 use Rattle.lattice.specs.laws.Making.{middle_outcome, six, three, shares, clamped-shares, chances, centred, centred_from, held, state_of, expectation_of, quotient_of}

@@ -1,26 +1,25 @@
 -- The next layer of a rising layer: its middles rise, so its nodes are laid by appending, they rise, and each node's destinations are found by replaying. Assumes nothing.
-use Rattle.std.specs.Prelude.{ℕ, ◌≡◌, Bool, true, false, cond, List, [], ◌∷◌, T, ℤ, Float}
+use Rattle.std.specs.Prelude.{ℕ, ◌≡◌, Bool, true, false, cond, List, ◌∷◌, T, ℤ, Float}
 use Rattle.std.proofs.Math.Path.{refl}
-use Rattle.std.proofs.Common.{sym, ap, ◌∙◌, arith}
-use Rattle.std.proofs.Math.IntN.{suc_ℤ, pred_ℤ}
+use Rattle.std.proofs.Common.{arith}
+use Rattle.std.proofs.Math.IntN.{pred_ℤ}
 use Rattle.std.specs.Float.{binary64}
 use Rattle.std.specs.Float.Ieee.{mul, le}
-use Rattle.std.specs.Float.Ieee.Scale.{finite}
 use Rattle.floats.specs.declared.Answer.{Answer}
 use Rattle.floats.specs.declared.Answer.TheVariants.{Value, Refused}
 use Rattle.floats.specs.Answers.{plus_zero, two, on_answer, not_finite, refusal}
 use Rattle.rounded.specs.Root.{sqrt_at}
 use Rattle.rounded.specs.laws.RootBounds.{NotBelow, sqrt_at_bounds}
 use Rattle.terms.specs.Numbers.{float, epsilon}
-use Rattle.terms.specs.Outcomes.{Outcome, given, valued}
+use Rattle.terms.specs.Outcomes.{Outcome, valued}
 use Rattle.lattice.specs.declared.Transition.{Transition}
 use Rattle.lattice.specs.Transitions.{Step}
 use Rattle.lattice.specs.Lattice.{destinations, spacing_of, step_of}
 use Rattle.terms.specs.laws.Outcomes.{Gives, gives, nothing, gives-finite, gives-cond}
 use Rattle.lattice.specs.laws.Reaching.{nothing_below}
-use Rattle.lattice.specs.laws.RisingMiddles.{Rising, Climbs, none, above, around, around-climbs}
+use Rattle.lattice.specs.laws.RisingMiddles.{Rising, Climbs, above, around, around-climbs}
 use Rattle.lattice.specs.laws.Replaying.{Replays, replayed}
-use Rattle.lattice.specs.laws.Middles.{Along, no_node, one_node, Upright, middles_of, destinations-around, rising-along}
+use Rattle.lattice.specs.laws.Middles.{Along, one_node, Upright, middles_of, destinations-around, rising-along}
 
 -- What is known of the next layer.
 pub record NextLayer (ts : List Transition) : Type 0 where

@@ -1,5 +1,5 @@
 -- Where a node's three destinations lie in the next row: once the node is replayed, they are the last three reached; in a flat tree all three are the one there is. Assumes nothing.
-use Rattle.std.specs.Prelude.{ℕ, suc, ◌-◌, ◌≤◌, ◌<◌, ◌+◌, ◌*◌, ◌≡◌, Bool, true, false, cond, List, [], ◌∷◌, ltb, length, get_or, ℤ, pos, Float}
+use Rattle.std.specs.Prelude.{ℕ, ◌-◌, ◌≤◌, ◌<◌, ◌+◌, ◌*◌, ◌≡◌, Bool, true, false, cond, List, [], ◌∷◌, ltb, length, get_or, ℤ, pos, Float}
 use Rattle.std.proofs.Common.{arith}
 use Rattle.lattice.specs.declared.reach.Reach.{Reach}
 use Rattle.lattice.specs.laws.Bounds.{Within}

@@ -1,5 +1,5 @@
 -- The nodes that a layer's middles reach, replayed node by node: the highest one reached and how many there are. Assumes nothing.
-use Rattle.std.specs.Prelude.{ℕ, ◌+◌, ◌≤◌, Bool, true, false, cond, ◌≡◌, refl, List, [], ◌∷◌, ℤ}
+use Rattle.std.specs.Prelude.{◌+◌, ◌≤◌, Bool, true, false, cond, ◌≡◌, List, [], ◌∷◌, ℤ}
 use Rattle.std.proofs.Common.{arith, ap}
 use Rattle.std.proofs.Math.IntN.{pred_ℤ, suc_ℤ}
 use Rattle.lattice.specs.declared.reach.Reach.{Reach}

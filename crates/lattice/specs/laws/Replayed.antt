@@ -1,12 +1,11 @@
 -- The replay finds the places of a layer's destinations: of a tree that isn't flat, by the theorem on rising middles; of a flat one, at the only position there is. Assumes nothing.
-use Rattle.std.specs.Prelude.{ℕ, suc, ◌+◌, ◌-◌, ◌≤◌, ◌<◌, ◌≡◌, refl, Bool, true, false, cond, List, [], ◌∷◌, ltb, length, get_or, ℤ, pos}
-use Rattle.std.proofs.Common.{sym, ap, subst, ◌∙◌, arith, ltb-true, ltb-false}
-use Rattle.std.proofs.Math.IntN.{pred_ℤ, suc_ℤ}
+use Rattle.std.specs.Prelude.{ℕ, ◌+◌, ◌-◌, ◌≤◌, ◌≡◌, refl, Bool, true, false, cond, List, [], ◌∷◌, ltb, length, ℤ, pos}
+use Rattle.std.proofs.Common.{arith, ltb-true, ltb-false}
 use Rattle.lattice.specs.declared.reach.Reach.{Reach}
-use Rattle.lattice.specs.laws.Bounds.{Within, AllWithin, one_middle}
+use Rattle.lattice.specs.laws.Bounds.{AllWithin, one_middle}
 use Rattle.lattice.specs.laws.Reaching.{reach, reach-count, nothing_below}
 use Rattle.lattice.specs.laws.Replaying.{Stands, Replays, done, node}
-use Rattle.lattice.specs.laws.Positions.{spot_at, past, Roomy, no_nodes, one_node}
+use Rattle.lattice.specs.laws.Positions.{past, Roomy, no_nodes, one_node}
 use Rattle.lattice.specs.laws.Spots.{Spot, Spots, after_three, Placed, all_placed, next_placed}
 
 -- ---- how many are reached

@@ -1,11 +1,11 @@
 -- Where a node's destinations stand in the next layer: replayed middle by middle, they are the last three reached. Assumes nothing.
-use Rattle.std.specs.Prelude.{ℕ, zero, suc, ◌+◌, ◌-◌, ◌≤◌, ◌<◌, ◌≡◌, refl, List, [], ◌∷◌, ◌++◌, length, get_or, ℤ, pos}
-use Rattle.std.proofs.Common.{arith, sym, ap, ◌∙◌, subst, append_assoc, length-append, get_or-append-add}
+use Rattle.std.specs.Prelude.{ℕ, ◌+◌, ◌-◌, ◌≤◌, ◌<◌, ◌≡◌, refl, List, [], ◌∷◌, ◌++◌, length, get_or, ℤ, pos}
+use Rattle.std.proofs.Common.{arith, sym, ap, ◌∙◌, append_assoc, length-append, get_or-append-add}
 use Rattle.std.proofs.Math.IntN.{suc_ℤ, pred_ℤ, pred-suc}
 use Rattle.lattice.specs.declared.reach.Reach.{Reach}
 use Rattle.lattice.specs.laws.IntegerOrder.{up, up_pred, up_suc, below_up, at_base}
-use Rattle.lattice.specs.laws.Reaching.{reach, nothing_below, reach_all}
-use Rattle.lattice.specs.laws.RisingMiddles.{Rising, ends, next, around, laid, laid_three, done_at, grew, reach-gap, Moved, moved, around-laid}
+use Rattle.lattice.specs.laws.Reaching.{reach, nothing_below}
+use Rattle.lattice.specs.laws.RisingMiddles.{Rising, ends, next, around, laid, laid_three, done_at, grew, reach-gap, moved, around-laid}
 
 -- The three destinations around m stand at p, p + 1 and p + 2.
 pub record Stands (nodes : List ℤ) (p : ℕ) (m : ℤ) : Type 0 where

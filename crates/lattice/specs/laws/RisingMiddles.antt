@@ -1,8 +1,7 @@
 -- Middles that never fall from node to node, and what follows: the sorted set of their destinations is laid by appending, and a node's three destinations are the last three reached. Assumes nothing.
-use Prim.Native.Nat.{ℕ, zero, suc, ◌+◌, ◌-◌, ◌≤◌, ◌<◌}
-use Rattle.std.proofs.Common.{arith, sym, ap, ◌∙◌, subst, lt-ltb}
-use Rattle.std.specs.Prelude.{◌≡◌, refl, Bool, true, false, cond, List, [], ◌∷◌, ◌++◌, length, get_or, T, ltb, ℤ, pos}
-use Rattle.std.proofs.Math.Dec.{leb-suc-suc, leb-zero, leb-suc-zero}
+use Prim.Native.Nat.{ℕ, zero, suc, ◌+◌, ◌<◌}
+use Rattle.std.proofs.Common.{arith, sym, ◌∙◌, subst, lt-ltb}
+use Rattle.std.specs.Prelude.{◌≡◌, refl, Bool, true, cond, List, [], ◌∷◌, ◌++◌, length, T, ltb, ℤ}
 use Rattle.std.proofs.Math.IntN.{suc_ℤ, pred_ℤ, pred-suc, suc-pred}
 use Rattle.lattice.specs.declared.reach.Reach.{Reach}
 use Rattle.lattice.specs.Layers.{below, insert}

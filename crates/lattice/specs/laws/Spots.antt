@@ -1,5 +1,5 @@
 -- The places of a layer's destinations: where each node's three are looked for. Assumes nothing.
-use Rattle.std.specs.Prelude.{ℕ, ◌+◌, ◌≤◌, ◌<◌, ◌≡◌, Bool, cond, List, [], ◌∷◌, length, get_or, ℤ, pos}
+use Rattle.std.specs.Prelude.{ℕ, ◌≤◌, ◌<◌, ◌≡◌, Bool, cond, List, [], ◌∷◌, length, get_or, ℤ, pos}
 use Rattle.std.proofs.Math.IntN.{pred_ℤ, suc_ℤ}
 use Rattle.lattice.specs.declared.reach.Reach.{Reach}
 use Rattle.lattice.specs.laws.Reaching.{reach}
