@@ -1,7 +1,7 @@
 -- A step's place counts only where something is refused: what is given at one place is given at every other. Assumes nothing.
 use Rattle.std.specs.Prelude.{ℕ, ◌≡◌, refl, Bool, true, false, cond, ◌||◌, ℤ, Float}
-use Rattle.std.proofs.Common.{ap, ◌∙◌, arith}
-use Rattle.std.specs.Float.Ieee.{binary64, add, sub, mul, div, lt, le, to_signed}
+use Rattle.std.proofs.Common.{ap, ◌∙◌}
+use Rattle.std.specs.Float.Ieee.{binary64, add, sub, mul, div, le}
 use Rattle.floats.specs.declared.Refusal.{Refusal}
 use Rattle.floats.specs.declared.Answer.{Answer}
 use Rattle.floats.specs.declared.Answer.TheVariants.{Value, Refused}

@@ -1,5 +1,4 @@
 -- `fill` meets its contract: the invariant is that the first i nodes behind are filled, the rest gives the whole, and the nodes in front are as they were. Assumes nothing.
-use Prim.Native.Nat.{◌-◌}
 use native.Mathlib.Omega.{arith}
 use borrow.Author.Rules.{rules}
 use lib.ListN.{length-set}

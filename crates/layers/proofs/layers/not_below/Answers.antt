@@ -1,5 +1,4 @@
 -- `not_below` stays inside, and ends. Assumes nothing.
-use Prim.Native.Nat.{◌-◌}
 use Rattle.layers.proofs.layers.not_below.Goals as goal
 
 pub returns-else-nodes-j : goal.returns-else-nodes-j
