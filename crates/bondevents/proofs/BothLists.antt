@@ -20,9 +20,9 @@ use Rattle.bondevents.specs.declared.CallsAnswer.{CallsAnswer}
 use Rattle.bondevents.specs.Steps.{Axis}
 use Rattle.bondevents.specs.Calls.{none, new_step, over_entries, exercises, joined, put_above, puts_below, call_steps}
 use Rattle.bondevents.specs.Parts.{no_exercises, no_calls, side_answer, calls_answer}
-use Rattle.bondevents.specs.laws.SamePrices.{puts-unread}
+use Rattle.bondevents.proofs.laws.SamePrices.{puts-unread}
 use Rattle.bondevents.specs.laws.Joined.{step, joined_at, joined-long}
-use Rattle.bondevents.specs.laws.CallSteps.{filled, steps_are}
+use Rattle.bondevents.proofs.laws.CallSteps.{filled, steps_are}
 use Rattle.bondevents.proofs.Filling.{Filling, more}
 use Rattle.bondevents.proofs.Outcomes.{side-passed, side-refused}
 use Rattle.terms.proofs.Laws.{same_at}

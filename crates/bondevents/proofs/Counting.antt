@@ -15,7 +15,7 @@ use Rattle.terms.specs.Terms.{Leg}
 use Rattle.bondevents.specs.Steps.{Axis}
 use Rattle.bondevents.specs.Calls.{redemptions, redemption_step_of}
 use Rattle.bondevents.specs.Parts.{FlowSteps, Principals, principal_after}
-use Rattle.bondevents.specs.laws.Repaid.{one_more}
+use Rattle.bondevents.proofs.laws.Repaid.{one_more}
 use Rattle.bondevents.proofs.Filling.{Filling}
 
 -- What is left to add from i on, to this total, is the whole sum. The list of days, or of steps, may be longer than the cashflows.

@@ -12,3 +12,4 @@ pub mod Scanning
 pub mod SideBySide
 pub mod Sides
 pub mod Single
+pub mod laws

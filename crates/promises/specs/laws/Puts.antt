@@ -14,7 +14,7 @@ use Rattle.terms.specs.laws.EntryChecks.{grid-terms, market-puts-alike}
 use Rattle.terms.specs.laws.MadeLists.{reordered-calls}
 use Rattle.bondevents.specs.declared.BondEventGrid.{BondEventGrid}
 use Rattle.bondevents.specs.Grid.{event_grid, refused_grid, accepted_grid, grid_answer}
-use Rattle.bondevents.specs.laws.GridAnswers.{accepted, checked-no_lower}
+use Rattle.bondevents.proofs.laws.GridAnswers.{accepted, checked-no_lower}
 use Rattle.floats.specs.laws.Cases.{Holds}
 use Rattle.lattice.specs.Layers.{Room}
 use Rattle.treebasedbondpricer.specs.declared.TreeValue.TheVariants.{Value}

@@ -17,7 +17,7 @@ use Rattle.terms.specs.laws.EntryChecks.{grid-calls, market-alike}
 use Rattle.terms.specs.laws.MadeLists.{reordered-calls}
 use Rattle.bondevents.specs.declared.GridAnswer.{GridAnswer}
 use Rattle.bondevents.specs.Grid.{grid_answer}
-use Rattle.bondevents.specs.laws.GridAnswers.{accepted}
+use Rattle.bondevents.proofs.laws.GridAnswers.{accepted}
 use Rattle.lattice.specs.Layers.{Room}
 use Rattle.treebasedbondpricer.specs.declared.TreeValue.{TreeValue}
 use Rattle.treebasedbondpricer.specs.Tree.{tree_value, Lent, room_of, zeroed}

@@ -30,11 +30,11 @@ use Rattle.bondevents.specs.declared.GridAnswer.{GridAnswer}
 use Rattle.bondevents.specs.Steps.{Axis, step_cashflows}
 use Rattle.bondevents.specs.Calls.{Entry, none, new_step, kept, keep, over_steps, with_entry, over_entries, exercises, joined, put_above, puts_below, call_steps}
 use Rattle.bondevents.specs.Grid.{axis_of, event_grid, grid_answer, refused_grid, accepted_grid}
-use Rattle.bondevents.specs.laws.SamePrices.{exercises-unread}
-use Rattle.bondevents.specs.laws.LowestPrices.{lowest-prices}
-use Rattle.bondevents.specs.laws.CallSteps.{of_parts, refused-of_calls}
-use Rattle.bondevents.specs.laws.Grids.{grid_of, grid_is}
-use Rattle.bondevents.specs.laws.GridAnswers.{call-entries}
+use Rattle.bondevents.proofs.laws.SamePrices.{exercises-unread}
+use Rattle.bondevents.proofs.laws.LowestPrices.{lowest-prices}
+use Rattle.bondevents.proofs.laws.CallSteps.{of_parts, refused-of_calls}
+use Rattle.bondevents.proofs.laws.Grids.{grid_of, grid_is}
+use Rattle.bondevents.proofs.laws.GridAnswers.{call-entries}
 use Rattle.lattice.specs.declared.Transition.{Transition}
 use Rattle.lattice.specs.Layers.{At, value_at, Room}
 use Rattle.lattice.specs.Lattice.{Layer, node_count}

@@ -19,7 +19,7 @@ use Rattle.terms.specs.laws.MadeLists.{AllWithin, strikes-decided, tree-made-ref
 use Rattle.bondevents.specs.declared.BondEventGrid.{BondEventGrid}
 use Rattle.bondevents.specs.Grid.{event_grid, grid_answer}
 use Rattle.bondevents.specs.laws.NoLower.{NoLowerGrid}
-use Rattle.bondevents.specs.laws.GridAnswers.{Accepted, accepted, checked-no_lower, reordered-accepted, answer-reordered}
+use Rattle.bondevents.proofs.laws.GridAnswers.{Accepted, accepted, checked-no_lower, reordered-accepted, answer-reordered}
 use Rattle.treebasedbondpricer.specs.declared.TreeValue.{TreeValue}
 use Rattle.treebasedbondpricer.specs.declared.TreeValue.TheVariants.{Value, Refused}
 use Rattle.lattice.specs.Layers.{Room}

@@ -16,7 +16,7 @@ use Rattle.terms.specs.laws.MadeLists.{reordered-calls}
 use Rattle.bondevents.specs.declared.BondEventGrid.{BondEventGrid}
 use Rattle.bondevents.specs.Grid.{grid_answer}
 use Rattle.bondevents.specs.laws.NoLower.{NoLowerGrid}
-use Rattle.bondevents.specs.laws.GridAnswers.{Accepted, accepted, checked-puts, puts-reordered-accepted, answer-puts-reordered}
+use Rattle.bondevents.proofs.laws.GridAnswers.{Accepted, accepted, checked-puts, puts-reordered-accepted, answer-puts-reordered}
 use Rattle.lattice.specs.Layers.{Room}
 use Rattle.treebasedbondpricer.specs.declared.TreeValue.{TreeValue}
 use Rattle.treebasedbondpricer.specs.declared.TreeValue.TheVariants.{Value}

@@ -25,8 +25,8 @@ use Rattle.bondevents.specs.declared.BondEventGrid.{BondEventGrid}
 use Rattle.bondevents.specs.Grid.{event_grid, grid_answer, refused_grid, accepted_grid}
 use Rattle.bondevents.specs.laws.NoLower.{NoLowerGrid}
 use Rattle.bondevents.specs.laws.Pricing.{Above}
-use Rattle.bondevents.specs.laws.Grids as grids
-use Rattle.bondevents.specs.laws.Grids.{grid-no_lower, grid-refused, grid-puts-no_lower, grid-puts-reordered}
+use Rattle.bondevents.proofs.laws.Grids as grids
+use Rattle.bondevents.proofs.laws.Grids.{grid-no_lower, grid-refused, grid-puts-no_lower, grid-puts-reordered}
 
 -- ---- what the checks say, as the grid's laws ask it
 

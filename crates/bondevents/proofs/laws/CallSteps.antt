@@ -24,11 +24,11 @@ use Rattle.bondevents.specs.Steps.{Axis}
 use Rattle.bondevents.specs.Calls.{none, exercises, joined, puts_below, call_steps}
 use Rattle.bondevents.specs.laws.Pricing.{Above}
 use Rattle.bondevents.specs.laws.Sides.{Before, before-refl}
-use Rattle.bondevents.specs.laws.SamePrices.{exercises-unread}
-use Rattle.bondevents.specs.laws.LowestPrices.{LowestPrices, lowest-prices, refused_by_lem, refused_20_or_27}
+use Rattle.bondevents.proofs.laws.SamePrices.{exercises-unread}
+use Rattle.bondevents.proofs.laws.LowestPrices.{LowestPrices, lowest-prices, refused_by_lem, refused_20_or_27}
 use Rattle.bondevents.specs.laws.NoLower.{Thinner, ThinnerRow, NoLowerSteps}
-use Rattle.bondevents.specs.laws.MadeLists.{Goes, goes_made, step_thinner, made_thinner}
-use Rattle.bondevents.specs.laws.Reordering.{reordered_same}
+use Rattle.bondevents.proofs.laws.MadeLists.{Goes, goes_made, step_thinner, made_thinner}
+use Rattle.bondevents.proofs.laws.Reordering.{reordered_same}
 use Rattle.bondevents.specs.laws.Joined.{joined_at, rows-below}
 
 -- What is made of both lists once the whole is filled.

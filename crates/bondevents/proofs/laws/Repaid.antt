@@ -22,9 +22,9 @@ use Rattle.bondevents.specs.Calls.{Entry, discrete, none, counted, redemptions, 
 use Rattle.bondevents.specs.Grid.{axis_of}
 use Rattle.bondevents.specs.Repaid.{repaid, unrepaid, without_repaid, RepaidNowhere}
 use Rattle.bondevents.specs.laws.Pricing.{same_price}
-use Rattle.bondevents.specs.laws.SamePrices.{entries_same}
-use Rattle.bondevents.specs.laws.CallSteps.{filled, steps_are}
-use Rattle.bondevents.specs.laws.Grids.{grid_of, grid_is}
+use Rattle.bondevents.proofs.laws.SamePrices.{entries_same}
+use Rattle.bondevents.proofs.laws.CallSteps.{filled, steps_are}
+use Rattle.bondevents.proofs.laws.Grids.{grid_of, grid_is}
 
 -- ---- one cashflow more
 

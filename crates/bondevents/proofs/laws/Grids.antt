@@ -18,7 +18,7 @@ use Rattle.bondevents.specs.Calls.{call_steps}
 use Rattle.bondevents.specs.Grid.{axis_of, event_grid}
 use Rattle.bondevents.specs.laws.Pricing.{Above}
 use Rattle.bondevents.specs.laws.NoLower.{NoLowerSteps, NoLowerGrid}
-use Rattle.bondevents.specs.laws.CallSteps.{steps-refused, calls-no_lower, calls-reordered, puts-no_lower, puts-reordered}
+use Rattle.bondevents.proofs.laws.CallSteps.{steps-refused, calls-no_lower, calls-reordered, puts-no_lower, puts-reordered}
 
 -- The grid of an axis, a bond's cashflows and call steps.
 abbrev pub grid_of : Axis → Bond → List CallStep → BondEventGrid

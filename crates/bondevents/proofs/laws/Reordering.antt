@@ -18,10 +18,10 @@ use Rattle.bondevents.specs.Calls.{Entry, call_price, none, exercises}
 use Rattle.bondevents.specs.laws.Pricing.{Above, price_of-value, price-fits, price-signed}
 use Rattle.bondevents.specs.laws.Sides.{Before, before_both}
 use Rattle.bondevents.specs.laws.OneEntry.{Reached}
-use Rattle.bondevents.specs.laws.KeptSteps.{same_step}
-use Rattle.bondevents.specs.laws.LowestPrices.{LowestAt, entry_of, lowest-prices, given_where_priced}
+use Rattle.bondevents.proofs.laws.KeptSteps.{same_step}
+use Rattle.bondevents.proofs.laws.LowestPrices.{LowestAt, entry_of, lowest-prices, given_where_priced}
 use Rattle.bondevents.specs.laws.NoLower.{Thinner}
-use Rattle.bondevents.specs.laws.MadeLists.{Goes, step_thinner}
+use Rattle.bondevents.proofs.laws.MadeLists.{Goes, step_thinner}
 
 -- The entries of a reordered list are the first's own.
 pub same_entry : {first second : CallSchedule} (r : Reordered first second) (i : ℕ) → i < size second → entry_of second i ≡ entry_of first (r.made.partner i)
