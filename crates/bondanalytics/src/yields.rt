@@ -60,7 +60,7 @@ fn solve_yield(
     target: f64,
 ) -> Root
     requires { length amounts.now ≡ length days.now }
-    ensures { result ≡ solve_yield settlement (record { days = days.entry.now; kinds = []; amounts = amounts.now }) rate target }
+    ensures { result ≡ solve_yield settlement (record { days = days.now; kinds = []; amounts = amounts.now }) rate target }
 {
     let sought = Sought {
         priced: Priced::Yield,

@@ -111,7 +111,7 @@ pub fn discounted_value(
     factors: &[f64],
 ) -> Answer
     requires { length amounts.now ≡ length days.now }
-    ensures { result ≡ discounted_value (curve_over curve_times.now factors.now) settlement (record { days = days.entry.now; kinds = []; amounts = amounts.now }) spread }
+    ensures { result ≡ discounted_value (curve_over curve_times.now factors.now) settlement (record { days = days.now; kinds = []; amounts = amounts.now }) spread }
 {
     let a = curve_at(
         curve_times,

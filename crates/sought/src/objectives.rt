@@ -30,7 +30,7 @@ fn above_target(value: f64, target: f64) -> Answer
 // Price less target at a yield. The derivative is worked out too.
 fn at_yield(sought: Sought, days: &[u32], amounts: &[f64], y: f64) -> Answer
     requires { length amounts.now ≡ length days.now }
-    ensures { result ≡ objective sought.settlement (record { days = days.entry.now; kinds = []; amounts = amounts.now }) sought.rate sought.target y }
+    ensures { result ≡ objective sought.settlement (record { days = days.now; kinds = []; amounts = amounts.now }) sought.rate sought.target y }
 {
     let rate = sought.rate;
     match yield_price_and_derivative(sought.settlement, days, amounts, rate, y) {

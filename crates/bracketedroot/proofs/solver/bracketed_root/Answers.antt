@@ -31,7 +31,7 @@ pub returns-in_default : goal.returns-in_default
 returns-in_default c = search (prices, first_refused_lem)
 
 pub objective-z-requires : goal.objective-z-requires
-objective-z-requires c = still_ready c.requires c.objective-y.auto.1.1.1.1.1.1.1.1.1.1.1.0 c.objective-y.auto.1.1.1.1.1.1.1.1.1.1.1.1.0
+objective-z-requires c = still_ready c.requires c.objective-y.auto.first c.objective-y.auto.second
 
 pub enum_known-z : goal.enum_known-z
 enum_known-z c = search prices
@@ -52,7 +52,7 @@ pub returns-in_default-z : goal.returns-in_default-z
 returns-in_default-z c = search (prices, second-refused)
 
 pub widened_to_root-requires : goal.widened_to_root-requires
-widened_to_root-requires c = (still_ready c.requires (c.objective-z.auto.1.1.1.1.1.1.1.1.1.1.1.0 ∙ c.objective-y.auto.1.1.1.1.1.1.1.1.1.1.1.0) (c.objective-z.auto.1.1.1.1.1.1.1.1.1.1.1.1.0 ∙ c.objective-y.auto.1.1.1.1.1.1.1.1.1.1.1.1.0), omega arith)
+widened_to_root-requires c = record { ready = still_ready c.requires (c.objective-z.auto.first ∙ c.objective-y.auto.first) (c.objective-z.auto.second ∙ c.objective-y.auto.second); evaluations_bound = omega arith }
 
 pub shape_of-first : goal.shape_of-first
 shape_of-first c = search prices

@@ -13,7 +13,7 @@ pub overflow_sub-left : goal.overflow_sub-left
 overflow_sub-left c = search prices
 
 pub halve-requires : goal.halve-requires
-halve-requires c = (still_ready c.requires.ready c.loop-left.invariant.1.same_first c.loop-left.invariant.1.same_second, omega (arith, c.loop-left.invariant.0.room))
+halve-requires c = record { ready = still_ready c.requires.ready c.loop-left.invariant.1.same_first c.loop-left.invariant.1.same_second; evaluations_bound = omega (arith, c.loop-left.invariant.0.room) }
 
 pub enum_known-next : goal.enum_known-next
 enum_known-next c = search prices
@@ -22,7 +22,7 @@ pub loop-left-smaller : goal.loop-left-smaller
 loop-left-smaller c = search prices
 
 pub loop-left-preserved : goal.loop-left-preserved
-loop-left-preserved c = (halving_goes_on _ _ _ _ c.loop-left.invariant.0 c.loop-left-test.true _ c.halve.ensures c.in-Next.is, record { same_first = c.halve.auto.1.1.1.1.1.1.1.1.1.1.1.1.0 ∙ c.loop-left.invariant.1.same_first; same_second = c.halve.auto.1.1.1.1.1.1.1.1.1.1.1.1.1.0 ∙ c.loop-left.invariant.1.same_second })
+loop-left-preserved c = (halving_goes_on _ _ _ _ c.loop-left.invariant.0 c.loop-left-test.true _ c.halve.ensures c.in-Next.is, record { same_first = c.halve.auto.first ∙ c.loop-left.invariant.1.same_first; same_second = c.halve.auto.second ∙ c.loop-left.invariant.1.same_second })
 
 pub enum_known-x : goal.enum_known-x
 enum_known-x c = search prices

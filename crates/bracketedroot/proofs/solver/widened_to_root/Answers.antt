@@ -13,7 +13,7 @@ pub overflow_sub-left : goal.overflow_sub-left
 overflow_sub-left c = search prices
 
 pub widen-requires : goal.widen-requires
-widen-requires c = (still_ready c.requires.ready c.loop-left.invariant.1.same_first c.loop-left.invariant.1.same_second, omega (arith, c.loop-left.invariant.0.room))
+widen-requires c = record { ready = still_ready c.requires.ready c.loop-left.invariant.1.same_first c.loop-left.invariant.1.same_second; evaluations_bound = omega (arith, c.loop-left.invariant.0.room) }
 
 pub enum_known-next : goal.enum_known-next
 enum_known-next c = search prices
@@ -22,13 +22,13 @@ pub loop-left-smaller : goal.loop-left-smaller
 loop-left-smaller c = search prices
 
 pub loop-left-preserved : goal.loop-left-preserved
-loop-left-preserved c = (widening_goes_on _ _ _ _ _ c.loop-left.invariant.0 c.loop-left-test.true _ c.widen.ensures c.in-Next.is, record { same_first = c.widen.auto.1.1.1.1.1.1.1.1.1.1.1.1.0 ∙ c.loop-left.invariant.1.same_first; same_second = c.widen.auto.1.1.1.1.1.1.1.1.1.1.1.1.1.0 ∙ c.loop-left.invariant.1.same_second })
+loop-left-preserved c = (widening_goes_on _ _ _ _ _ c.loop-left.invariant.0 c.loop-left-test.true _ c.widen.ensures c.in-Next.is, record { same_first = c.widen.auto.first ∙ c.loop-left.invariant.1.same_first; same_second = c.widen.auto.second ∙ c.loop-left.invariant.1.same_second })
 
 pub enum_known-last : goal.enum_known-last
 enum_known-last c = search prices
 
 pub settle-requires : goal.settle-requires
-settle-requires c = (still_ready c.requires.ready (c.widen.auto.1.1.1.1.1.1.1.1.1.1.1.1.0 ∙ c.loop-left.invariant.1.same_first) (c.widen.auto.1.1.1.1.1.1.1.1.1.1.1.1.1.0 ∙ c.loop-left.invariant.1.same_second), last_room _ _ _ _ _ c.loop-left.invariant.0 c.loop-left-test.true _ c.widen.ensures c.in-Last.is)
+settle-requires c = record { ready = still_ready c.requires.ready (c.widen.auto.first ∙ c.loop-left.invariant.1.same_first) (c.widen.auto.second ∙ c.loop-left.invariant.1.same_second); evaluations_bound = last_room _ _ _ _ _ c.loop-left.invariant.0 c.loop-left-test.true _ c.widen.ensures c.in-Last.is }
 
 pub shape_of-first-in-Last : goal.shape_of-first-in-Last
 shape_of-first-in-Last c = search prices
@@ -52,7 +52,7 @@ pub returns-in-Refused : goal.returns-in-Refused
 returns-in-Refused c = search (prices, widening-stops)
 
 pub settle-requires-2 : goal.settle-requires-2
-settle-requires-2 c = (still_ready c.requires.ready c.loop-left.invariant.1.same_first c.loop-left.invariant.1.same_second, end-room _ _ _ _ _ c.loop-left.invariant.0)
+settle-requires-2 c = record { ready = still_ready c.requires.ready c.loop-left.invariant.1.same_first c.loop-left.invariant.1.same_second; evaluations_bound = end-room _ _ _ _ _ c.loop-left.invariant.0 }
 
 pub shape_of-first : goal.shape_of-first
 shape_of-first c = search prices

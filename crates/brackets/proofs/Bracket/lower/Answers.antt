@@ -67,7 +67,7 @@ pub returns-in_default-y : goal.returns-in_default-y
 returns-in_default-y c = lowering _ _ _ c.requires.self_value c.requires.plus_zero_value c.mul_add_at-a.ensures c.in-Value.is c.greater-lower.ensures (left_call _ _ _ c.not_finite.ensures c.if-not_finite.false (left_call _ _ _ c.is_small.ensures c.if-is_small.false (handed _ _ _ c.objective-y.ensures c.in_default-y.is c.refusal_of-in_default-y.ensures refl)))
 
 pub raise-requires : goal.raise-requires
-raise-requires c = (still_ready c.requires.ready c.objective-y.auto.1.1.1.1.1.1.1.1.1.1.1.0 c.objective-y.auto.1.1.1.1.1.1.1.1.1.1.1.1.0, omega (arith, c.requires.evaluations_bound))
+raise-requires c = record { ready = still_ready c.requires.ready c.objective-y.auto.first c.objective-y.auto.second; evaluations_bound = omega (arith, c.requires.evaluations_bound) }
 
 pub shape_of-first : goal.shape_of-first
 shape_of-first c = search prices

@@ -12,7 +12,7 @@ unfolding widen
 returns-then-falls c = search prices
 
 pub lower-requires : goal.lower-requires
-lower-requires c = (c.requires.ready, (c.requires.evaluations_bound, (called_no _ c.falls.ensures c.if-falls.false, c.if-self.true)))
+lower-requires c = record { ready = c.requires.ready; evaluations_bound = c.requires.evaluations_bound; self_value = called_no _ c.falls.ensures c.if-falls.false; plus_zero_value = c.if-self.true }
 
 pub shape_of-first-then-self : goal.shape_of-first-then-self
 shape_of-first-then-self c = search prices

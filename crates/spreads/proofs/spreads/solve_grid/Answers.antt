@@ -37,19 +37,19 @@ pub slice_bounds-solve_over-end-6 : goal.slice_bounds-solve_over-end-6
 slice_bounds-solve_over-end-6 c = let p = c.requires in sym (length-take-le _ _ (omega arith))
 
 pub solve_over-requires : goal.solve_over-requires
-solve_over-requires c = let p = c.requires in ((p.0, p.1, sym (length-map c.args.grid.cashflows _) ∙ c.well_formed.0.1.1.1.1.0.1.0.1, omega arith, omega arith), (length-take-le _ _ (omega arith), length-take-le _ _ (omega arith), length-take-le _ _ (omega arith)))
+solve_over-requires c = let p = c.requires in record { steps_nonzero = (p.0, p.1, sym (length-map c.args.grid.cashflows _) ∙ c.well_formed.0.1.1.1.1.0.1.0.1, omega arith, omega arith); counts_len = (length-take-le _ _ (omega arith), length-take-le _ _ (omega arith), length-take-le _ _ (omega arith)) }
 
 pub shape_of-nodes : goal.shape_of-nodes
-shape_of-nodes c = c.solve_over.auto.1.1.1.1.1.1.1.1.1.1.1.1.1.1.0
+shape_of-nodes c = c.solve_over.auto.nodes
 
 pub shape_of-probabilities : goal.shape_of-probabilities
-shape_of-probabilities c = c.solve_over.auto.1.1.1.1.1.1.1.1.1.1.1.1.1.1.1.0
+shape_of-probabilities c = c.solve_over.auto.probabilities
 
 pub shape_of-first : goal.shape_of-first
-shape_of-first c = c.solve_over.auto.1.1.1.1.1.1.1.1.1.1.1.1.1.1.1.1.0
+shape_of-first c = c.solve_over.auto.first
 
 pub shape_of-second : goal.shape_of-second
-shape_of-second c = c.solve_over.auto.1.1.1.1.1.1.1.1.1.1.1.1.1.1.1.1.1.0
+shape_of-second c = c.solve_over.auto.second
 
 pub returns : goal.returns
 returns c = root-with_calls _ _ _ _ c.solve_over.ensures c.step_marks-marks.ensures c.step_prices-prices.ensures

@@ -41,7 +41,7 @@ checked_spread-root-requires c =
     let calls = (calls-sized _ _ _ _ passed refl).entries in
     let puts = (puts-sized _ _ _ _ passed refl).entries in
     let times = fronted _ _ _ c.timed_pillars-count.ensures c.pillar_times-table.ensures in
-    ((steps.some-steps, steps.few-steps), ((leg.few, leg.kinds_too, leg.amounts_too), ((calls.ends_too, calls.strikes_too), ((puts.ends_too, puts.strikes_too), times.timed (spread-few-pillars _ _ all)))))
+    record { le_maximum = (steps.some-steps, steps.few-steps); days_len_bound = (leg.few, leg.kinds_too, leg.amounts_too); ends_len = (calls.ends_too, calls.strikes_too); put_ends_len = (puts.ends_too, puts.strikes_too); curve_times_value = times.timed (spread-few-pillars _ _ all) }
 
 pub zero_numbers-requires : goal.zero_numbers-requires
 zero_numbers-requires c = tt
@@ -56,18 +56,17 @@ pub zero_floats-requires-3 : goal.zero_floats-requires-3
 zero_floats-requires-3 c = tt
 
 pub shape_of-nodes : goal.shape_of-nodes
-shape_of-nodes c = c.zero_numbers.auto.0 ∙ c.checked_spread-root.auto.1.1.1.1.1.1.1.1.1.1.1.1.1.1.1.1.1.1.1.1.0
+shape_of-nodes c = c.zero_numbers.auto.nodes ∙ c.checked_spread-root.auto.nodes
 
 pub shape_of-probabilities : goal.shape_of-probabilities
-shape_of-probabilities c = c.zero_floats.auto.0 ∙ c.checked_spread-root.auto.1.1.1.1.1.1.1.1.1.1.1.1.1.1.1.1.1.1.1.1.1.0
+shape_of-probabilities c = c.zero_floats.auto.probabilities ∙ c.checked_spread-root.auto.probabilities
 
 pub shape_of-first_row : goal.shape_of-first_row
-shape_of-first_row c = c.zero_floats-2.auto.0 ∙ c.checked_spread-root.auto.1.1.1.1.1.1.1.1.1.1.1.1.1.1.1.1.1.1.1.1.1.1.0
+shape_of-first_row c = c.zero_floats-2.auto.first_row ∙ c.checked_spread-root.auto.first_row
 
 pub shape_of-second_row : goal.shape_of-second_row
-shape_of-second_row c = c.zero_floats-3.auto.0 ∙ c.checked_spread-root.auto.1.1.1.1.1.1.1.1.1.1.1.1.1.1.1.1.1.1.1.1.1.1.1.0
+shape_of-second_row c = c.zero_floats-3.auto.second_row ∙ c.checked_spread-root.auto.second_row
 
 pub returns : goal.returns
 returns c =
-    let kept = c.checked_spread-root.auto in
-    solved-zeroed _ _ c.spread_checks-check.ensures _ c.in_default.is c.checked_spread-root.ensures c.zero_numbers.ensures c.zero_floats.ensures c.zero_floats-2.ensures c.zero_floats-3.ensures kept.1.1.1.1.1.1.1.1.1.1.1.1.1.1.1.1.1.1.1.1.0 kept.1.1.1.1.1.1.1.1.1.1.1.1.1.1.1.1.1.1.1.1.1.0 kept.1.1.1.1.1.1.1.1.1.1.1.1.1.1.1.1.1.1.1.1.1.1.0 kept.1.1.1.1.1.1.1.1.1.1.1.1.1.1.1.1.1.1.1.1.1.1.1.0
+    solved-zeroed _ _ c.spread_checks-check.ensures _ c.in_default.is c.checked_spread-root.ensures c.zero_numbers.ensures c.zero_floats.ensures c.zero_floats-2.ensures c.zero_floats-3.ensures c.checked_spread-root.auto.nodes c.checked_spread-root.auto.probabilities c.checked_spread-root.auto.first_row c.checked_spread-root.auto.second_row
