@@ -16,7 +16,7 @@ use Rattle.lattice.specs.Layers.{Room}
 use Rattle.bondevents.specs.Grid.{event_grid}
 use Rattle.treebasedbondpricer.specs.declared.TreeValue.{TreeValue}
 use Rattle.treebasedbondpricer.specs.declared.TreeValue.TheVariants.{Value, Refused}
-use Rattle.treebasedbondpricer.specs.Tree.{lattice_value_over, tree_value_over, tree_value, value_of, counted_by}
+use Rattle.treebasedbondpricer.specs.Tree.{lattice_value_over, tree_value_over, tree_value, curve_of, value_of, counted_by}
 use Rattle.bookchecks.specs.declared.Holding.{Holding}
 use Rattle.bookchecks.specs.declared.BookCheck.{BookCheck}
 use Rattle.bookchecks.specs.declared.BookCheck.TheVariants as book
@@ -147,7 +147,7 @@ tree_not_0 m calls room {q} e z = (subst (Among tree_refusals) z (tree_numbers_l
 
 tree_check_refused : (m : Market) (calls : CallSchedule) (room : Room) {q : Refusal} → tree_checks m calls ≡ check.Refused q → tree_value m calls room ≡ Refused q
 unfolding tree_value
-tree_check_refused m calls room e = refused_by_check _ m calls room e
+tree_check_refused m calls room e = refused_by_check (curve_of m) m calls room e
 
 pub check_not_0 : {m : Market} {calls : CallSchedule} {q : Refusal} → CheckNumber m calls q → q.number ≡ 0 → ⊥
 check_not_0 (of_cut e) z = omega arith

@@ -8,7 +8,7 @@ use Rattle.lattice.specs.Layers.{Room}
 use Rattle.lattice.specs.Transitions.{Step, transition_of}
 use Rattle.lattice.specs.Lattice.{transitions_of, step_of, grown, flat, curved, lattice}
 use Rattle.terms.specs.Outcomes.{Outcome}
-use Rattle.chances.specs.laws.NeverTooLow.{Only23Or27, was_given, too_far, not_finite, SpacedStep, transition-only, made-spaced}
+use Rattle.chances.specs.laws.NeverTooLow.{Only23Or27, was_given, too_far_lem, not_finite_lem, SpacedStep, transition-only, made-spaced}
 use Rattle.floats.specs.laws.Cases.{Holds}
 use Rattle.promises.specs.laws.Numbers.{arithmetic_refusals, built_refusals, AnswerAmong, OutcomeAmong, wider-answer, then_known, numbers}
 use Rattle.promises.specs.laws.ElementaryNumbers.{exp-number, exp_m1_number, sqrt-number}
@@ -55,8 +55,8 @@ transition-number s sp node = go (transition-only s sp node)
   where
     go : {A : Type 0} {o : Outcome A} → Only23Or27 o → Holds (OutcomeAmong built_refusals) o
     go was_given = search numbers
-    go too_far = search numbers
-    go not_finite = search numbers
+    go too_far_lem = search numbers
+    go not_finite_lem = search numbers
 
 transitions-number : (s : Step) → SpacedStep s → (nodes : List ℤ) → Holds (OutcomeAmong built_refusals) (transitions_of s nodes)
 unfolding transitions_of

@@ -92,8 +92,8 @@ refuse_check r h = record { it = h }
 -- ---- on a wider list
 
 pub wider-answer : (ns ms : List ℕ) → every ns ms ≡ true → (a : Answer) → Holds (AnswerAmong ns) a → Holds (AnswerAmong ms) a
-wider-answer ns ms e (answer.Value x) h = value-only x
-wider-answer ns ms e (answer.Refused r) h = refused-only r (wider ns ms r.number e h.it)
+wider-answer ns ms e (answer.Value x) h = value-only (Among ms) x
+wider-answer ns ms e (answer.Refused r) h = refused-only (Among ms) r (wider ns ms r.number e h.it)
 
 pub wider-outcome : {A : Type 0} (ns ms : List ℕ) → every ns ms ≡ true → (o : Outcome A) → Holds (OutcomeAmong ns) o → Holds (OutcomeAmong ms) o
 wider-outcome ns ms e (given x) h = give_outcome x
