@@ -18,7 +18,7 @@ use Rattle.terms.specs.laws.CallChecks.{call-counted}
 use Rattle.terms.specs.laws.TermChecks.{units-passed}
 use Rattle.terms.specs.laws.Groups.{CallsPassed}
 use Rattle.terms.specs.laws.EntryChecks.{grid-terms, grid-calls, grid-puts-alike}
-use Rattle.terms.specs.laws.MadeLists as lists
+use Rattle.terms.proofs.MadeLists as lists
 use Rattle.terms.specs.laws.MadeLists.{accepted-strike}
 use Rattle.terms.specs.laws.Numbered.{grid-numbered}
 use Rattle.bondevents.specs.declared.BondEventGrid.{BondEventGrid}

@@ -9,7 +9,7 @@ use Rattle.floats.specs.laws.SameNumber.{same_of_eq}
 use Rattle.terms.specs.Terms.{CallSchedule, Bond}
 use Rattle.terms.specs.CallLists.{Entries, Reordered, size, strike_of}
 use Rattle.terms.specs.Outcomes.{given}
-use Rattle.terms.specs.laws.Pairing.{reordered-back}
+use Rattle.terms.proofs.Pairing.{reordered-back}
 use Rattle.bondevents.specs.declared.Side.{Side}
 use Rattle.bondevents.specs.declared.Side.TheVariants.{Call, Put}
 use Rattle.bondevents.specs.declared.Exercise.{Exercise}

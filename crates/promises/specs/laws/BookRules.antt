@@ -16,7 +16,8 @@ use Rattle.terms.specs.CallLists.{MadeFrom, StrikeAbove, strike_of}
 use Rattle.terms.specs.Checks.{on_check, first_of, single, outside}
 use Rattle.terms.specs.Entries.{tree_checks}
 use Rattle.terms.specs.laws.EntryChecks.{grid-calls, grid-terms, tree-puts-alike}
-use Rattle.terms.specs.laws.MadeLists.{AllWithin, strikes-decided, tree-made-refused, tree-made-passed, tree-reordered-alike, reordered-calls}
+use Rattle.terms.specs.laws.MadeLists.{AllWithin, strikes-decided}
+use Rattle.terms.proofs.MadeLists.{tree-made-refused, tree-made-passed, tree-reordered-alike, reordered-calls}
 use Rattle.bondevents.proofs.laws.GridAnswers as grids
 use Rattle.lattice.specs.Layers.{Room}
 use Rattle.treebasedbondpricer.specs.declared.TreeValue.{TreeValue}

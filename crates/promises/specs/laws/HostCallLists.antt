@@ -13,7 +13,8 @@ use Rattle.terms.specs.Numbers.{float, million}
 use Rattle.terms.specs.Outcomes.{Outcome, on_outcome}
 use Rattle.terms.specs.declared.Check.{Check}
 use Rattle.terms.specs.declared.Check.TheVariants as check
-use Rattle.terms.specs.laws.MadeLists.{AllWithin, strikes-decided, tree-made-refused, tree-made-passed}
+use Rattle.terms.specs.laws.MadeLists.{AllWithin, strikes-decided}
+use Rattle.terms.proofs.MadeLists.{tree-made-refused, tree-made-passed}
 use Rattle.bondevents.specs.declared.GridAnswer.{GridAnswer}
 use Rattle.bondevents.specs.Grid.{grid_answer}
 use Rattle.bondevents.specs.declared.Side.TheVariants.{Call, Put}

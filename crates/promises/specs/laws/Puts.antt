@@ -11,7 +11,7 @@ use Rattle.terms.specs.Entries.{grid_checks}
 use Rattle.terms.specs.Outcomes.{Outcome, on_outcome}
 use Rattle.terms.specs.laws.Lockstep.{GivenOr27, is_given, is_27}
 use Rattle.terms.specs.laws.EntryChecks.{grid-terms, market-puts-alike}
-use Rattle.terms.specs.laws.MadeLists.{reordered-calls}
+use Rattle.terms.proofs.MadeLists.{reordered-calls}
 use Rattle.bondevents.specs.declared.BondEventGrid.{BondEventGrid}
 use Rattle.bondevents.specs.Grid.{event_grid, refused_grid, accepted_grid, grid_answer}
 use Rattle.bondevents.proofs.laws.GridAnswers.{accepted, checked-no_lower}

@@ -14,7 +14,7 @@ use Rattle.terms.specs.Checks.{on_check}
 use Rattle.terms.specs.CallLists.{Reordered}
 use Rattle.terms.specs.Entries.{market_checks, spread_checks}
 use Rattle.terms.specs.laws.EntryChecks.{grid-calls, market-alike}
-use Rattle.terms.specs.laws.MadeLists.{reordered-calls}
+use Rattle.terms.proofs.MadeLists.{reordered-calls}
 use Rattle.bondevents.specs.declared.GridAnswer.{GridAnswer}
 use Rattle.bondevents.specs.Grid.{grid_answer}
 use Rattle.bondevents.proofs.laws.GridAnswers.{accepted}

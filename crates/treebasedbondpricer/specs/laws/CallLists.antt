@@ -15,7 +15,8 @@ use Rattle.terms.specs.Entries.{tree_checks}
 use Rattle.terms.specs.Outcomes.{Outcome, given, refused, on_outcome, follow}
 use Rattle.terms.specs.laws.Lockstep.{GivenOr27, is_given, is_27}
 use Rattle.terms.specs.laws.EntryChecks.{grid-calls, tree-grid}
-use Rattle.terms.specs.laws.MadeLists.{AllWithin, strikes-decided, tree-made-refused, tree-made-passed, tree-reordered-alike}
+use Rattle.terms.specs.laws.MadeLists.{AllWithin, strikes-decided}
+use Rattle.terms.proofs.MadeLists.{tree-made-refused, tree-made-passed, tree-reordered-alike}
 use Rattle.bondevents.specs.declared.BondEventGrid.{BondEventGrid}
 use Rattle.bondevents.specs.Grid.{event_grid, grid_answer}
 use Rattle.bondevents.specs.laws.NoLower.{NoLowerGrid}

@@ -12,7 +12,7 @@ use Rattle.terms.specs.Outcomes.{Outcome, given}
 use Rattle.terms.specs.laws.Outcomes.{given_or_refused, same_given}
 use Rattle.terms.specs.laws.Lockstep.{GivenOr27, is_given, is_27}
 use Rattle.terms.specs.laws.EntryChecks.{grid-terms, tree-grid, tree-puts-alike}
-use Rattle.terms.specs.laws.MadeLists.{reordered-calls}
+use Rattle.terms.proofs.MadeLists.{reordered-calls}
 use Rattle.bondevents.specs.declared.BondEventGrid.{BondEventGrid}
 use Rattle.bondevents.specs.Grid.{grid_answer}
 use Rattle.bondevents.specs.laws.NoLower.{NoLowerGrid}
