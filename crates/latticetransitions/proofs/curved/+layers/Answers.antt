@@ -1,7 +1,6 @@
 -- `layers` meets its contract: the layer in front is grown, and the call of itself lays the rest in the parts behind it. Assumes nothing.
 use Prim.Native.Nat.{◌<◌}
 use native.Mathlib.Omega.{arith}
-use mathlib.Core.Path.{◌∙◌}
 use lib.ListN.{length, set}
 use Rattle.lattice.specs.laws.Layering.{layers_last}
 use Rattle.lattice.specs.laws.Parts.{part_length, rest-length}

@@ -29,9 +29,9 @@ pub rooted-requires : goal.rooted-requires
 rooted-requires c =
     record {
       t = (
-    decay-above c.args.alpha c.args.dt c.in-Value.decay (sym c.decay_of-found.ensures ∙ c.in-Value.is),
-    (spacing_bounds (get_or c.args.variances.now 0 nan) 0 c.in-Value-first.spacing (sym c.spacing_of-first.ensures ∙ c.in-Value-first.is)).not_below_lem,
-    c.requires.variances_nonzero.1,
+        decay-above c.args.alpha c.args.dt c.in-Value.decay (sym c.decay_of-found.ensures ∙ c.in-Value.is),
+        (spacing_bounds (get_or c.args.variances.now 0 nan) 0 c.in-Value-first.spacing (sym c.spacing_of-first.ensures ∙ c.in-Value-first.is)).not_below_lem,
+        c.requires.variances_nonzero.1,
       );
       counts_len = c.requires.counts_len;
     }
