@@ -1,6 +1,6 @@
 -- Each probability before clamping is at least 0.04, rounding included: from an error of at most 501/1000 of the new spacing. Assumes nothing.
 use Rattle.std.specs.Prelude.{◌≡◌, refl, ℕ, ◌+◌, ◌*◌, ◌^◌, ◌≤◌, ◌<◌, T, Float}
-use Rattle.std.proofs.Common.{ap, inl, inr, zero-le, le_trans, mul-pos, mul-le-mul_right, le_of_mul-le-mul_right, arith, lit≤, lit<, pow_pos}
+use Rattle.std.proofs.Common.{ap, inl, inr, zero-le, mul-pos, mul-le-mul_right, le_of_mul-le-mul_right, arith, lit≤, lit<, pow_pos}
 use Rattle.std.specs.Float.{binary64}
 use Rattle.std.specs.Float.Ieee.{add, sub, mul, div, le, of_bits, of_int, round}
 use Rattle.std.specs.Float.Ieee.Positive.{num, den, den_pos}

@@ -1,5 +1,5 @@
 -- What a step's new spacing and its two divisors are, counted in units of the smallest double, for every variance above 2^−52. Assumes nothing.
-use Rattle.std.specs.Prelude.{◌≡◌, false, not, ℕ, ◌*◌, ◌^◌, ◌≤◌, ◌<◌, T, Float}
+use Rattle.std.specs.Prelude.{◌≡◌, false, ℕ, ◌*◌, ◌^◌, ◌≤◌, ◌<◌, T, Float}
 use Rattle.std.proofs.Math.Path.{refl, subst}
 use Rattle.std.proofs.Common.{sym, ◌∙◌, inl, inr, mul_assoc, mul-le-mul, le_of_lt as less-le, mul-pos, mul-le-mul_right, le_of_mul-le-mul_right, lit≤, lit<, pow_pos}
 use Rattle.std.proofs.Math.Nat.{eq_of_mul-eq-mul_right}

@@ -1,5 +1,5 @@
 -- A loop that puts a layer's middles into the places of its nodes: the first i are there, and what is left gives the whole. Assumes nothing.
-use Rattle.std.specs.Prelude.{ℕ, suc, ◌+◌, ◌-◌, ◌≤◌, ◌<◌, ◌≡◌, refl, length, get_or, set, ℤ, pos, Float}
+use Rattle.std.specs.Prelude.{ℕ, suc, ◌+◌, ◌≤◌, ◌<◌, ◌≡◌, refl, length, get_or, set, ℤ, pos, Float}
 use Rattle.std.proofs.Common.{add-one, add-zero, sym, ap, ◌∙◌, length-set, take-append-drop, take-suc-set, drop-set-lt, drop-drop, get_or-drop}
 use native.Mathlib.Omega.{arith}
 use mathlib.Core.List.{List, [], ◌∷◌, ◌++◌, append-nil}

@@ -7,7 +7,7 @@ use Rattle.std.specs.Float.Ieee.{le}
 use Rattle.floats.specs.Answers.{plus_zero}
 use Rattle.rounded.specs.laws.RootBounds.{NotBelow}
 use Rattle.terms.specs.Outcomes.{given}
-use Rattle.terms.specs.laws.Outcomes.{Gives, gives, nothing, gives-follow, given_of}
+use Rattle.terms.specs.laws.Outcomes.{Gives, gives, gives-follow, given_of}
 use Rattle.lattice.specs.declared.Middle.{Middle}
 use Rattle.lattice.specs.declared.Transition.{Transition}
 use Rattle.lattice.specs.declared.reach.Reach.{Reach}

@@ -7,19 +7,17 @@ use Rattle.std.specs.Float.Ieee.{le}
 use Rattle.std.specs.Float.{nan}
 use Rattle.std.proofs.lemmas.Bool.{lt-leb}
 use Rattle.floats.specs.declared.Refusal.{Refusal}
-use Rattle.floats.specs.declared.Answer.{Answer}
 use Rattle.floats.specs.declared.Answer.TheVariants as answer
 use Rattle.floats.specs.Answers.{plus_zero}
 use Rattle.terms.specs.Outcomes.{Outcome, given, refused, on_outcome, follow, valued, refuse}
 use Rattle.terms.specs.laws.Outcomes.{valued-value, valued-refused, same_given, given_or_refused, follow-given, follow-refused, of_given}
-use Rattle.lattice.specs.declared.NextLayer.{NextLayer}
 use Rattle.lattice.specs.declared.NextLayer.TheVariants as next
 use Rattle.lattice.specs.Lattice.{root_layer, spacing_of, decay_of}
 use Rattle.lattice.specs.laws.Growing.{Size, next_outcome}
 use Rattle.lattice.specs.laws.RisingMiddles.{Climbs, none, above, around, around-laid}
 use Rattle.widths.specs.declared.tree.Widths.{Widths}
 use Rattle.widths.specs.declared.tree.Widths.TheVariants.{Found, Refused}
-use Rattle.widths.specs.Widths.{middle_nodes, new_spacing, widths_from, flat_widths, curved_widths, widths, total, widest}
+use Rattle.widths.specs.Widths.{middle_nodes, new_spacing, widths_from, flat_widths, curved_widths, total, widest}
 use Rattle.widths.specs.laws.LayerMiddles.{Reached, reached, few-around}
 use Rattle.widths.specs.laws.Widening.{Wide, wide, size_wide, next_wide, wide_from, widths_next, Fore, Widened, new-not_below}
 

@@ -19,7 +19,7 @@ use Rattle.rounded.specs.laws.RootBounds.{NotBelow}
 use Rattle.terms.specs.Numbers.{epsilon}
 use Rattle.terms.specs.declared.Check.TheVariants as check
 use Rattle.terms.specs.Outcomes.{Outcome, given, refused, on_outcome, follow, valued, refuse}
-use Rattle.terms.specs.laws.Outcomes.{nothing, same_given, given_or_refused, follow-given, follow-refused}
+use Rattle.terms.specs.laws.Outcomes.{same_given, given_or_refused, follow-given, follow-refused}
 use Rattle.hullwhite.specs.laws.Filled.{check_of}
 use Rattle.lattice.specs.declared.NextLayer.{NextLayer}
 use Rattle.lattice.specs.declared.NextLayer.TheVariants as next

@@ -1,5 +1,4 @@
 -- `count_next` meets its contract: the invariant is that the middles from node i on, replayed, give the whole reach. Assumes nothing.
-use Prim.Native.Nat.{◌-◌}
 use native.Mathlib.Omega.{arith}
 use borrow.Author.Rules.{rules}
 use Rattle.lattice.specs.laws.Bounds.{within-numbered}

@@ -1,5 +1,4 @@
 -- `fill` meets its contract: the invariant is that the first i middles are there and the rest gives the whole. Assumes nothing.
-use Prim.Native.Nat.{◌-◌}
 use native.Mathlib.Omega.{arith}
 use borrow.Author.Rules.{rules}
 use mir.Syntax.{w32}

@@ -1,8 +1,6 @@
 -- `spread` meets its contract: middle by middle, with the layer in front as it was. Assumes nothing.
 use borrow.Author.Rules.{rules}
-use Prim.Native.Nat.{◌-◌, ◌≤◌}
 use native.Mathlib.Omega.{arith}
-use lib.ListN.{length}
 use Rattle.lattice.specs.laws.Bounds.{within-numbered}
 use Rattle.widths.specs.laws.CountingNext.{first_held}
 use Rattle.widths.specs.laws.Spreading.{spreading_begun, spread-held, spread-long, spread-room, spreading_one, spreading_all}

@@ -1,6 +1,5 @@
 -- `to_front` meets its contract: entry by entry, each read before it is written over. Assumes nothing.
 use borrow.Author.Rules.{rules}
-use Prim.Native.Nat.{◌-◌}
 use mir.Facts.{to_z-of_z}
 use mir.Syntax.{w32}
 use Rattle.widths.specs.laws.Moving.{moving_begun, moving-one, moving_all}

@@ -1,5 +1,4 @@
 -- `layers` meets its contract: the invariant is that the layers from the i-th on, with the sums so far, give the whole. Assumes nothing.
-use Prim.Native.Nat.{◌-◌}
 use native.Mathlib.Omega.{arith}
 use mathlib.Core.Path.{◌∙◌}
 use Rattle.widths.specs.laws.Summing.{summing_begun, summing_one, summing_stopped, summing_all}
