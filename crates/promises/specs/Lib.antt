@@ -20,4 +20,3 @@ pub mod OneCount
 pub mod Books
 pub mod Desks
 pub mod BookExamples
-pub mod laws

@@ -43,7 +43,7 @@ use Rattle.bookvalue.specs.laws.Answers.{answer_of, answer_is}
 use Rattle.bookvalue.specs.laws.Entered.{tree-passed, by_size, by_desks, by_bonds, valued-alike}
 use Rattle.promises.specs.Books as page
 use Rattle.promises.specs.Books.{size, AddsUp, over_curves, book_over, Accepted, CallsMade, LowestAbove, NoLowerBook, ThinnedBook, puts_at, PutsMade, Moved, kept, calls_moved, puts_moved, BondsMoved}
-use Rattle.promises.specs.laws.BookAnswers.{Cause, by_checks, by_value, by_sum, all_passed, cause, answer_of-checks, checked-alone}
+use Rattle.promises.proofs.laws.BookAnswers.{Cause, by_checks, by_value, by_sum, all_passed, cause, answer_of-checks, checked-alone}
 
 -- ---- what passes
 

@@ -18,11 +18,11 @@ use Rattle.promises.specs.HostCallLists.{BookCall}
 use Rattle.promises.specs.Rooms.{SameValueOr21, same, first_21, second_21}
 use Rattle.promises.specs.Books.{size}
 use Rattle.promises.specs.Sizing.{Shorter, Stops, lengths_in, BookSizes, AllSized, AmpleFor, bond_before_fit, BookShort}
-use Rattle.promises.specs.laws.Rooms.{any_room}
-use Rattle.promises.specs.laws.SizedValues.{refusal_of}
-use Rattle.promises.specs.laws.Sizing.{stops_not_0, sizing_rule, called}
-use Rattle.promises.specs.laws.BookAnswers.{Cause, by_checks, by_value, by_sum, all_passed, cause, answer_of-checks}
-use Rattle.promises.specs.laws.Books.{value_of_lem, refusal_of_lem, valued-call, never}
+use Rattle.promises.proofs.laws.Rooms.{any_room}
+use Rattle.promises.proofs.laws.SizedValues.{refusal_of}
+use Rattle.promises.proofs.laws.Sizing.{stops_not_0, sizing_rule, called}
+use Rattle.promises.proofs.laws.BookAnswers.{Cause, by_checks, by_value, by_sum, all_passed, cause, answer_of-checks}
+use Rattle.promises.proofs.laws.Books.{value_of_lem, refusal_of_lem, valued-call, never}
 
 -- The first bond that is refused while it is valued.
 answer_of-value : (value : ℕ → TreeValue) (b : Book) {bond : ℕ} {q : Refusal} → book_checks b ≡ book.Passed → first_refused (λ i. refused_tree (value i)) (size b) 0 ≡ book.Refused bond q → book_by value b ≡ refused_book bond q

@@ -26,12 +26,12 @@ use Rattle.spreads.specs.laws.SpreadTree.{grid-refused-at_first, tree-refused-at
 use Rattle.widths.specs.Widths.{total, widest}
 use Rattle.sizing.specs.Sizing.{tree_widths}
 use Rattle.promises.specs.Sizing.{before_fit}
-use Rattle.promises.specs.laws.Converges.{Settles}
-use Rattle.promises.specs.laws.Numbers.{check_refusals, grid_refusals, OutcomeAmong, CheckAmong}
-use Rattle.promises.specs.laws.GridNumbers.{checks-number, grid_number_lem}
-use Rattle.promises.specs.laws.SpreadNumbers.{solved_with}
-use Rattle.promises.specs.laws.SizedLayers.{Sized, all_laid, no_room, stopped_by}
-use Rattle.promises.specs.laws.SizedValues.{layers_at, fit_of, fitted_from_layers, grid-sized, fits_from_none, fits_to_none, not_of_checks, not_of_grid, Ends, after-layers, without_room, before-layers, ends_not_21, tree-ends}
+use Rattle.promises.proofs.laws.Converges.{Settles}
+use Rattle.promises.proofs.laws.Numbers.{check_refusals, grid_refusals, OutcomeAmong, CheckAmong}
+use Rattle.promises.proofs.laws.GridNumbers.{checks-number, grid_number_lem}
+use Rattle.promises.proofs.laws.SpreadNumbers.{solved_with}
+use Rattle.promises.proofs.laws.SizedLayers.{Sized, all_laid, no_room, stopped_by}
+use Rattle.promises.proofs.laws.SizedValues.{layers_at, fit_of, fitted_from_layers, grid-sized, fits_from_none, fits_to_none, not_of_checks, not_of_grid, Ends, after-layers, without_room, before-layers, ends_not_21, tree-ends}
 
 -- Number 0 where a spread is found.
 abbrev pub root_refusal : Root → Refusal

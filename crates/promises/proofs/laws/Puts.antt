@@ -23,9 +23,9 @@ use Rattle.treebasedbondpricer.specs.laws.CallLists.{any_curve_rule}
 use Rattle.treebasedbondpricer.specs.laws.PutLists.{put_list_rule, put_reordering_rule, any_curve_put_rule}
 use Rattle.promises.specs.Puts.{HostPutListRule, HostPutReorderingRule, CallsWithPuts, Never38, GridNever38, ListsOverCurves}
 use Rattle.promises.specs.RefusalNumbers.{Among}
-use Rattle.promises.specs.laws.Numbers.{check_refusals, CheckAmong, numbers}
-use Rattle.promises.specs.laws.SpreadReordering.{with_model, AnsweredAlike}
-use Rattle.promises.specs.laws.HostCallLists.{valued, unchanged, host_call_list_rule, host_reordering_rule}
+use Rattle.promises.proofs.laws.Numbers.{check_refusals, CheckAmong, numbers}
+use Rattle.promises.proofs.laws.SpreadReordering.{with_model, AnsweredAlike}
+use Rattle.promises.proofs.laws.HostCallLists.{valued, unchanged, host_call_list_rule, host_reordering_rule}
 
 -- ---- put lists
 

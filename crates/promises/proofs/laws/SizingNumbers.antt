@@ -20,10 +20,10 @@ use Rattle.sizing.specs.Sizing.{tree_widths, sizes_from, sizes_of, sizes_number}
 use Rattle.promises.specs.RefusalNumbers.{Among}
 use Rattle.promises.specs.Sizing.{sizing_refusals}
 use Rattle.promises.specs.Sizing as page
-use Rattle.promises.specs.laws.Numbers.{one_of, one_more, arithmetic_refusals, check_refusals, AnswerAmong, OutcomeAmong, CheckAmong, wider-answer, wider-outcome, wider_check, numbers}
-use Rattle.promises.specs.laws.ElementaryNumbers as elementary
-use Rattle.promises.specs.laws.GridNumbers.{checks-number}
-use Rattle.promises.specs.laws.LatticeNumbers as lattices
+use Rattle.promises.proofs.laws.Numbers.{one_of, one_more, arithmetic_refusals, check_refusals, AnswerAmong, OutcomeAmong, CheckAmong, wider-answer, wider-outcome, wider_check, numbers}
+use Rattle.promises.proofs.laws.ElementaryNumbers as elementary
+use Rattle.promises.proofs.laws.GridNumbers.{checks-number}
+use Rattle.promises.proofs.laws.LatticeNumbers as lattices
 
 abbrev width_refusals : List ℕ
 width_refusals = 21 ∷ 22 ∷ 23 ∷ 26 ∷ 27 ∷ []

@@ -32,10 +32,10 @@ use Rattle.widths.specs.Widths.{widths, total, widest}
 use Rattle.sizing.specs.Sizing.{tree_widths}
 use Rattle.promises.specs.RefusalNumbers.{Among}
 use Rattle.promises.specs.Sizing.{before_fit}
-use Rattle.promises.specs.laws.Numbers.{check_refusals, grid_refusals, walk_refusals, OutcomeAmong, CheckAmong, on_outcome_lem}
-use Rattle.promises.specs.laws.GridNumbers.{checks-number, grid_number_lem}
-use Rattle.promises.specs.laws.WalkNumbers.{shifts-number, walk-number}
-use Rattle.promises.specs.laws.SizedLayers.{Sized, all_laid, no_room, stopped_by, widths_of, sized}
+use Rattle.promises.proofs.laws.Numbers.{check_refusals, grid_refusals, walk_refusals, OutcomeAmong, CheckAmong, on_outcome_lem}
+use Rattle.promises.proofs.laws.GridNumbers.{checks-number, grid_number_lem}
+use Rattle.promises.proofs.laws.WalkNumbers.{shifts-number, walk-number}
+use Rattle.promises.proofs.laws.SizedLayers.{Sized, all_laid, no_room, stopped_by, widths_of, sized}
 
 -- ---- time_step, variances and layers
 

@@ -33,16 +33,16 @@ use Rattle.promises.specs.RefusalNumbers.{Among, tree_refusals}
 use Rattle.promises.specs.HostCallLists.{TreeCall, SpreadCall, SheetCall, SizesCall}
 use Rattle.promises.specs.Sizing.{AsLong, Shorter, fewer-nodes, fewer-probabilities, shorter_first, shorter-second, before_fit, Stops, with_21, earlier, RightLengths, lengths_in, Sized, SizingRule}
 use Rattle.promises.specs.Rooms.{same, first_21, second_21}
-use Rattle.promises.specs.laws.Rooms.{Alike, after, either, lattice-alike}
-use Rattle.promises.specs.laws.Numbers.{arithmetic_refusals, built_refusals, grid_refusals, OutcomeAmong, CheckAmong, wider-outcome, then_outcome, then_checked, numbers}
-use Rattle.promises.specs.laws.GridNumbers.{grid_number_lem}
-use Rattle.promises.specs.laws.LatticeNumbers.{variances-number, lattice-number}
-use Rattle.promises.specs.laws.TreeNumbers.{checks-tree}
-use Rattle.promises.specs.laws.SizedValues.{layers_at, ValueSized, was_laid, had_no_room, stopped, Ends, after-layers, without_room, before-layers, ends_not_21, refusal_of, value-ends, tree-ends, value-sized, counted_as}
-use Rattle.promises.specs.laws.SizedSpreads.{root_refusal, widths_any_spread, spread-ends}
-use Rattle.promises.specs.laws.SizingNumbers.{accepted}
-use Rattle.promises.specs.laws.HostCallLists.{valued}
-use Rattle.promises.specs.laws.ClosingSheet.{Shows, a_refusal, too_wide, a_value, shows}
+use Rattle.promises.proofs.laws.Rooms.{Alike, after, either, lattice-alike}
+use Rattle.promises.proofs.laws.Numbers.{arithmetic_refusals, built_refusals, grid_refusals, OutcomeAmong, CheckAmong, wider-outcome, then_outcome, then_checked, numbers}
+use Rattle.promises.proofs.laws.GridNumbers.{grid_number_lem}
+use Rattle.promises.proofs.laws.LatticeNumbers.{variances-number, lattice-number}
+use Rattle.promises.proofs.laws.TreeNumbers.{checks-tree}
+use Rattle.promises.proofs.laws.SizedValues.{layers_at, ValueSized, was_laid, had_no_room, stopped, Ends, after-layers, without_room, before-layers, ends_not_21, refusal_of, value-ends, tree-ends, value-sized, counted_as}
+use Rattle.promises.proofs.laws.SizedSpreads.{root_refusal, widths_any_spread, spread-ends}
+use Rattle.promises.proofs.laws.SizingNumbers.{accepted}
+use Rattle.promises.proofs.laws.HostCallLists.{valued}
+use Rattle.promises.proofs.laws.ClosingSheet.{Shows, a_refusal, too_wide, a_value, shows}
 
 -- ---- lengths and room
 

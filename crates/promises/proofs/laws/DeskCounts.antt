@@ -10,7 +10,7 @@ use Rattle.bookchecks.specs.laws.Naming.{all_pass}
 use Rattle.bookvalue.specs.Values.{each, desk_to, desk_counts, desk_of}
 use Rattle.promises.specs.OneCount.{total_to}
 use Rattle.promises.specs.Books.{size}
-use Rattle.promises.specs.laws.BookRules.{desks_in}
+use Rattle.promises.proofs.laws.BookRules.{desks_in}
 
 -- Where no desk is refused, each is 0 to 7.
 pub desk_in : (b : Book) → book_checks b ≡ book.Passed → (i : ℕ) → i < size b → desk_of b i ≤ 7

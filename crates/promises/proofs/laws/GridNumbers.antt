@@ -9,7 +9,7 @@ use Rattle.bondevents.specs.Steps.{Axis}
 use Rattle.bondevents.specs.Calls.{Entry, call_price, over_steps, with_entry, over_entries, call_steps}
 use Rattle.bondevents.specs.Grid.{event_grid}
 use Rattle.floats.specs.laws.Cases.{Holds}
-use Rattle.promises.specs.laws.Numbers.{check_refusals, grid_refusals, AnswerAmong, OutcomeAmong, CheckAmong, numbers}
+use Rattle.promises.proofs.laws.Numbers.{check_refusals, grid_refusals, AnswerAmong, OutcomeAmong, CheckAmong, numbers}
 
 -- The limit is the spread's, or that of the target in its place.
 pub checks-number : (limit : Float) (m : Market) (calls : CallSchedule) → Holds (CheckAmong check_refusals) (market_checks limit m calls)

@@ -34,9 +34,9 @@ use Rattle.spreadtable.specs.laws.NoHash.{Unhashed, none, more, cell_unhashed}
 use Rattle.promises.specs.RefusalNumbers.{member, Among, tree_refusals}
 use Rattle.promises.specs.HostCallLists.{TreeCall, TableCall}
 use Rattle.promises.specs.SpreadTable.{row_start, cell_in, cell_terms, On, NoPage, Paged, EveryPage, Single, EachCell, OtherCells, ShowsValue, CellCallListRule, CellPutListRule, RowSized}
-use Rattle.promises.specs.laws.TreeNumbers.{tree_numbers_lem}
-use Rattle.promises.specs.laws.HostCallLists.{valued}
-use Rattle.promises.specs.laws.Sizing.{sizing_rule, called}
+use Rattle.promises.proofs.laws.TreeNumbers.{tree_numbers_lem}
+use Rattle.promises.proofs.laws.HostCallLists.{valued}
+use Rattle.promises.proofs.laws.Sizing.{sizing_rule, called}
 
 -- ---- the page
 

@@ -19,9 +19,9 @@ use Rattle.spreadtable.specs.Table.{shifted, with_shift, any_outside}
 use Rattle.promises.specs.RefusalNumbers.{Among, tree_refusals}
 use Rattle.promises.specs.Sizing.{before_fit}
 use Rattle.promises.specs.SpreadTable.{cell_terms, RowShort}
-use Rattle.promises.specs.laws.Numbers.{CheckAmong}
-use Rattle.promises.specs.laws.Sizing.{tree_checks-number, stops_not_0, sizing_rule, called}
-use Rattle.promises.specs.laws.SpreadTable.{each-cell}
+use Rattle.promises.proofs.laws.Numbers.{CheckAmong}
+use Rattle.promises.proofs.laws.Sizing.{tree_checks-number, stops_not_0, sizing_rule, called}
+use Rattle.promises.proofs.laws.SpreadTable.{each-cell}
 
 -- ---- what sizing accepts passes the checks, so no sigma is out of range
 

@@ -25,13 +25,13 @@ use Rattle.bookvalue.specs.laws.Placed.{each-alike}
 use Rattle.promises.specs.OneCount.{total_to}
 use Rattle.promises.specs.Rooms.{SameValueOr21, same, first_21, second_21}
 use Rattle.promises.specs.Books.{size, over_curves, book_over, Accepted, AllOrNoneOver, all_given, none-given, AnyCurveBooks}
-use Rattle.promises.specs.laws.Rooms.{Alike}
-use Rattle.promises.specs.laws.SizedValues.{fit_and_walk, value_from_layers}
-use Rattle.promises.specs.laws.Sizing.{layers-alike}
-use Rattle.promises.specs.laws.BookAnswers.{Cause, by_checks, by_value, by_sum, all_passed, cause, answer_of_all, counts_of}
-use Rattle.promises.specs.laws.BookRules.{thinned, book-lowered, same_book}
-use Rattle.promises.specs.laws.DeskCounts.{together, desk_in}
-use Rattle.promises.specs.laws.Books.{value_of_lem}
+use Rattle.promises.proofs.laws.Rooms.{Alike}
+use Rattle.promises.proofs.laws.SizedValues.{fit_and_walk, value_from_layers}
+use Rattle.promises.proofs.laws.Sizing.{layers-alike}
+use Rattle.promises.proofs.laws.BookAnswers.{Cause, by_checks, by_value, by_sum, all_passed, cause, answer_of_all, counts_of}
+use Rattle.promises.proofs.laws.BookRules.{thinned, book-lowered, same_book}
+use Rattle.promises.proofs.laws.DeskCounts.{together, desk_in}
+use Rattle.promises.proofs.laws.Books.{value_of_lem}
 
 -- ---- the tree value over any curve, in two rooms
 

@@ -10,8 +10,8 @@ use Rattle.lattice.specs.Lattice.{Layer}
 use Rattle.forwardinduction.specs.Fit.{weighted, shift_of, contribute, contribute_three, onward, shifts_from}
 use Rattle.backwardinduction.specs.Walk.{Reads, expected, discount_of, node_value, rolled, walk_from}
 use Rattle.floats.specs.laws.Cases.{Holds}
-use Rattle.promises.specs.laws.Numbers.{arithmetic_refusals, walk_refusals, AnswerAmong, OutcomeAmong, wider-answer, numbers}
-use Rattle.promises.specs.laws.ElementaryNumbers as elementary
+use Rattle.promises.proofs.laws.Numbers.{arithmetic_refusals, walk_refusals, AnswerAmong, OutcomeAmong, wider-answer, numbers}
+use Rattle.promises.proofs.laws.ElementaryNumbers as elementary
 
 pub exp-number : (x : Float) (place : ℕ) → Holds (AnswerAmong walk_refusals) (exp_at x place)
 exp-number x place = wider-answer arithmetic_refusals walk_refusals refl (exp_at x place) (elementary.exp-number x place)

@@ -7,7 +7,7 @@ use Rattle.elementary.specs.Exponential.{exp_at, exp_m1_at}
 use Rattle.elementary.specs.Logarithm.{ln_at}
 use Rattle.elementary.specs.laws.Refusing.{exp-refuses, exp_m1_refuses, ln-refuses}
 use Rattle.promises.specs.RefusalNumbers.{Among}
-use Rattle.promises.specs.laws.Numbers.{arithmetic_refusals, AnswerAmong, one_of}
+use Rattle.promises.proofs.laws.Numbers.{arithmetic_refusals, AnswerAmong, one_of}
 
 pub exp-number : (x : Float) (place : ℕ) → Holds (AnswerAmong arithmetic_refusals) (exp_at x place)
 exp-number = exp-refuses (Among arithmetic_refusals) (one_of 26 refl) (one_of 27 refl)

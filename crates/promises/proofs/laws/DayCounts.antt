@@ -3,7 +3,7 @@ use Rattle.std.specs.Prelude.{refl}
 use Rattle.terms.specs.Times.{time_from}
 use Rattle.terms.specs.laws.Later.{later_no_smaller}
 use Rattle.promises.specs.DayCounts.{LaterNoSmaller, ActualTime, LaterGreater, NeverGiven}
-use Rattle.promises.specs.laws.ActualDays.{later-greater, pillars_apart_lem, matures_apart}
+use Rattle.promises.proofs.laws.ActualDays.{later-greater, pillars_apart_lem, matures_apart}
 
 pub no_smaller : LaterNoSmaller
 no_smaller = later_no_smaller

@@ -10,8 +10,8 @@ use Rattle.lattice.specs.Lattice.{transitions_of, step_of, grown, flat, curved, 
 use Rattle.terms.specs.Outcomes.{Outcome}
 use Rattle.chances.specs.laws.NeverTooLow.{Only23Or27, was_given, too_far_lem, not_finite_lem, SpacedStep, transition-only, made-spaced}
 use Rattle.floats.specs.laws.Cases.{Holds}
-use Rattle.promises.specs.laws.Numbers.{arithmetic_refusals, built_refusals, AnswerAmong, OutcomeAmong, wider-answer, then_known, numbers}
-use Rattle.promises.specs.laws.ElementaryNumbers.{exp-number, exp_m1_number, sqrt-number}
+use Rattle.promises.proofs.laws.Numbers.{arithmetic_refusals, built_refusals, AnswerAmong, OutcomeAmong, wider-answer, then_known, numbers}
+use Rattle.promises.proofs.laws.ElementaryNumbers.{exp-number, exp_m1_number, sqrt-number}
 
 -- ---- variances
 

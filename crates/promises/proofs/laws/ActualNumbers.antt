@@ -26,13 +26,13 @@ use Rattle.spreads.specs.Spreads.{Quoted, at_spread, quoted_checks, spread_from_
 use Rattle.floats.specs.laws.Cases.{Holds}
 use Rattle.promises.specs.RefusalNumbers.{Among}
 use Rattle.promises.specs.DayCounts.{Neither34Nor35, NeverAnswered}
-use Rattle.promises.specs.laws.Numbers.{one_of, one_more, wider, grid_refusals, walk_refusals, AnswerAmong, CheckAmong, wider-answer, on_outcome_lem, on_check_lem, numbers}
-use Rattle.promises.specs.laws.ActualDays.{pillars_apart_lem, matures_apart}
-use Rattle.promises.specs.laws.Converges.{Settles}
-use Rattle.promises.specs.laws.GridNumbers.{grid_number_lem}
-use Rattle.promises.specs.laws.WalkNumbers.{exp-number, curve-number}
-use Rattle.promises.specs.laws.TreeNumbers as tree_numbers_lem
-use Rattle.promises.specs.laws.SpreadNumbers as spread-numbers
+use Rattle.promises.proofs.laws.Numbers.{one_of, one_more, wider, grid_refusals, walk_refusals, AnswerAmong, CheckAmong, wider-answer, on_outcome_lem, on_check_lem, numbers}
+use Rattle.promises.proofs.laws.ActualDays.{pillars_apart_lem, matures_apart}
+use Rattle.promises.proofs.laws.Converges.{Settles}
+use Rattle.promises.proofs.laws.GridNumbers.{grid_number_lem}
+use Rattle.promises.proofs.laws.WalkNumbers.{exp-number, curve-number}
+use Rattle.promises.proofs.laws.TreeNumbers as tree_numbers_lem
+use Rattle.promises.proofs.laws.SpreadNumbers as spread-numbers
 
 -- All numbers of grid, tree value, straight value and spread from price, but for 34 and 35.
 abbrev actual_refusals : List ℕ

@@ -28,7 +28,7 @@ use Rattle.bookvalue.specs.Values.{refused_tree, placed, sum_check, desk_of, ref
 use Rattle.bookvalue.specs.laws.Entered.{by_size, by_desks, by_bonds}
 use Rattle.promises.specs.Books.{AddsUp, CheckedAlone, size}
 use Rattle.promises.specs.RefusalNumbers.{Among, tree_refusals}
-use Rattle.promises.specs.laws.TreeNumbers.{tree_numbers_lem}
+use Rattle.promises.proofs.laws.TreeNumbers.{tree_numbers_lem}
 
 -- ---- the answer's causes
 

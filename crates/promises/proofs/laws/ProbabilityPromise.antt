@@ -6,8 +6,8 @@ use Rattle.lattice.specs.declared.Transition.{Transition}
 use Rattle.lattice.specs.laws.Proper.{Weighted, Each, none, more, proper_of_lattice}
 use Rattle.chances.specs.laws.Chances.{step-made, transition_clamps, at_least_four_hundredths}
 use Rattle.promises.specs.Probabilities.{FourHundredths, AtLeastFourHundredths, HandedOn, BetweenZeroAndOne, NeverGiven24}
-use Rattle.promises.specs.laws.TreeNumbers.{tree_never_24}
-use Rattle.promises.specs.laws.SpreadNumbers.{spread_never_24}
+use Rattle.promises.proofs.laws.TreeNumbers.{tree_never_24}
+use Rattle.promises.proofs.laws.SpreadNumbers.{spread_never_24}
 
 pub four_hundredths : FourHundredths
 unfolding of_bits

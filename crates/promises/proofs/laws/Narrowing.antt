@@ -18,7 +18,7 @@ use Rattle.floats.specs.laws.Rounding.{Rounds, above, under, rounds-mono}
 use Rattle.floats.specs.laws.Exactly.{add_rounds, sub-rounds, div-rounds}
 use Rattle.terms.specs.Numbers.{width_tolerance}
 use Rattle.brackets.specs.Brackets.{small}
-use Rattle.promises.specs.laws.Cells.{Above, Below, rounded-above, rounded-below, fine, fine-pos, held-fine, held_finer, Cell}
+use Rattle.promises.proofs.laws.Cells.{Above, Below, rounded-above, rounded-below, fine, fine-pos, held-fine, held_finer, Cell}
 
 -- ---- the sum of x = (xp - xm) / a and y = (yp - ym) / b
 sum-above : (A B xp xm a yp ym b k : ℕ) → A * a + xm * k ≤ xp * k + k * a → B * b + ym * k ≤ yp * k + k * b

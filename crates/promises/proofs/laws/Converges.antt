@@ -23,8 +23,8 @@ use Rattle.brackets.specs.declared.Root.TheVariants.{Found, Refused}
 use Rattle.brackets.specs.Brackets.{small, raised, widen, halve, on_widened, on_halved, halving, settled, widening, bracketed_root}
 use Rattle.floats.specs.laws.Cases.{Holds, cases}
 use Rattle.brackets.specs.laws.Roots.{Ends}
-use Rattle.promises.specs.laws.Cells.{fine, cell, Cell, cell_of_lem}
-use Rattle.promises.specs.laws.Narrowing.{midpoint-cell, narrow}
+use Rattle.promises.proofs.laws.Cells.{fine, cell, Cell, cell_of_lem}
+use Rattle.promises.proofs.laws.Narrowing.{midpoint-cell, narrow}
 
 -- ---- what each outcome keeps: Q holds of the number of every refusal
 

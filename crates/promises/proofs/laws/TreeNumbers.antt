@@ -19,10 +19,10 @@ use Rattle.treebasedbondpricer.specs.declared.TreeValue.TheVariants.{Value, Refu
 use Rattle.treebasedbondpricer.specs.Tree.{fitted_tree_over, lattice_value_over, fitted_tree, lattice_value, tree_value, number_of}
 use Rattle.floats.specs.laws.Cases.{Holds}
 use Rattle.promises.specs.RefusalNumbers.{Among, tree_refusals, TreeNumbers}
-use Rattle.promises.specs.laws.Numbers.{one_of, one_more, every, wider, arithmetic_refusals, check_refusals, grid_refusals, walk_refusals, built_refusals, OutcomeAmong, CheckAmong, wider-outcome, wider_check, on_outcome_lem, on_check_lem, numbers}
-use Rattle.promises.specs.laws.GridNumbers.{checks-number, grid_number_lem}
-use Rattle.promises.specs.laws.LatticeNumbers.{variances-number, lattice-number}
-use Rattle.promises.specs.laws.WalkNumbers.{shifts-number, walk-number}
+use Rattle.promises.proofs.laws.Numbers.{one_of, one_more, every, wider, arithmetic_refusals, check_refusals, grid_refusals, walk_refusals, built_refusals, OutcomeAmong, CheckAmong, wider-outcome, wider_check, on_outcome_lem, on_check_lem, numbers}
+use Rattle.promises.proofs.laws.GridNumbers.{checks-number, grid_number_lem}
+use Rattle.promises.proofs.laws.LatticeNumbers.{variances-number, lattice-number}
+use Rattle.promises.proofs.laws.WalkNumbers.{shifts-number, walk-number}
 
 abbrev pub TreeAmong : List ℕ → TreeValue → Type 0
 TreeAmong ns (Value x n) = Unit

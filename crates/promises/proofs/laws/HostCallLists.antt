@@ -39,10 +39,10 @@ use Rattle.spreadtable.specs.Table as table
 use Rattle.spreadtable.specs.laws.Alike.{same_table}
 use Rattle.promises.specs.RefusalNumbers.{Among, tree_refusals}
 use Rattle.promises.specs.HostCallLists.{GridCall, TreeCall, SpreadCall, SheetCall, SizesCall, TableCall, HostCallListRule, SameGrids, SameValues, SameSpreads, SameLines, SameSizes, SameTables, Unchanged, HostReorderingRule, HostSizesRule}
-use Rattle.promises.specs.laws.TreeNumbers.{tree_numbers_lem}
-use Rattle.promises.specs.laws.SpreadNumbers.{passed}
-use Rattle.promises.specs.laws.SpreadReordering.{AnsweredAlike, same_spread, reordered-calls-alike}
-use Rattle.promises.specs.laws.SizingNumbers.{never_4}
+use Rattle.promises.proofs.laws.TreeNumbers.{tree_numbers_lem}
+use Rattle.promises.proofs.laws.SpreadNumbers.{passed}
+use Rattle.promises.proofs.laws.SpreadReordering.{AnsweredAlike, same_spread, reordered-calls-alike}
+use Rattle.promises.proofs.laws.SizingNumbers.{never_4}
 
 -- ---- the call-list rule
 

@@ -36,8 +36,8 @@ use Rattle.closingsheet.specs.laws.Halves.{nothing_else}
 use Rattle.promises.specs.RefusalNumbers.{member, Among, tree_refusals, Met}
 use Rattle.promises.specs.Examples.{market99, no_calls, lent}
 use Rattle.promises.specs.ClosingSheet.{value_columns, value_shown, NoLine, RefusalShown, ValueShown, Line, EveryLine, LastExample, sheet_refusals, LineNumbers, MetOnSheet, EachMetOnSheet, LineCallListRule, HalfToEven, OnlyTheValue, OnlyTheValueOf}
-use Rattle.promises.specs.laws.TreeNumbers.{tree_numbers_lem}
-use Rattle.promises.specs.laws.NumbersMet.{each_met}
+use Rattle.promises.proofs.laws.TreeNumbers.{tree_numbers_lem}
+use Rattle.promises.proofs.laws.NumbersMet.{each_met}
 
 -- ---- a line in range shows a refusal, or 32, or a value
 

@@ -20,7 +20,7 @@ use Rattle.brackets.specs.laws.Evaluations.{at_most_386}
 use Rattle.bondanalytics.specs.Yields.{solve_yield, yield_from_price}
 use Rattle.spreads.specs.Spreads.{quoted_checks, spread_from_price}
 use Rattle.promises.specs.Evaluations.{EveryYield, EverySpread}
-use Rattle.promises.specs.laws.SpreadPromise.{spreads_at_most_386}
+use Rattle.promises.proofs.laws.SpreadPromise.{spreads_at_most_386}
 
 -- Where the input is refused there are none.
 refused_none : (c : Check) (go : Root) (r : Refusal) → c ≡ check.Refused r → evaluations_of (on_check c (λ q. root.Refused q 0) go) ≡ 0

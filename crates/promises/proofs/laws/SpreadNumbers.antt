@@ -27,9 +27,9 @@ use Rattle.floats.specs.laws.Cases.{Holds, of_cond}
 use Rattle.sought.specs.Objectives.{first_lower, first_upper}
 use Rattle.spreads.specs.Spreads.{Quoted, at_spread, quoted_checks, on_tree_value, spread_objective, solve_spread, spread_from_price}
 use Rattle.promises.specs.RefusalNumbers.{Among, tree_refusals, spread_refusals, SpreadNumbers}
-use Rattle.promises.specs.laws.Converges.{Settles, converges}
-use Rattle.promises.specs.laws.Numbers.{one_of, one_more, on_check_lem}
-use Rattle.promises.specs.laws.TreeNumbers.{checks-tree, tree_numbers_lem}
+use Rattle.promises.proofs.laws.Converges.{Settles, converges}
+use Rattle.promises.proofs.laws.Numbers.{one_of, one_more, on_check_lem}
+use Rattle.promises.proofs.laws.TreeNumbers.{checks-tree, tree_numbers_lem}
 
 abbrev SpreadAmong : ℕ → Type 0
 SpreadAmong = Among spread_refusals

@@ -16,7 +16,7 @@ use Rattle.lattice.specs.Transitions.{Step, transition_of}
 use Rattle.lattice.specs.Lattice.{Layer, Lattice, transitions_of, destinations, step_of, spacing_of, decay_of, grown, root_layer, flat_layer, flat, curved, all_flat, lattice}
 use Rattle.forwardinduction.specs.Fit.{contribute, contribute_three, onward}
 use Rattle.promises.specs.FitNodes.{nodes_in, ByNode, last, step, FitByNode}
-use Rattle.promises.specs.laws.SortedSets.{neither, either_first}
+use Rattle.promises.proofs.laws.SortedSets.{neither, either_first}
 
 -- ---- contributions
 

@@ -27,15 +27,15 @@ use Rattle.bookvalue.specs.Entry.{book_lent}
 use Rattle.bookvalue.specs.laws.Placed.{placed_at, each-alike}
 use Rattle.promises.specs.HostCallLists.{TreeCall, BookCall}
 use Rattle.promises.specs.Rooms.{SameValueOr21, same, first_21, second_21}
-use Rattle.promises.specs.laws.Rooms.{any_room, same_in_any_room}
+use Rattle.promises.proofs.laws.Rooms.{any_room, same_in_any_room}
 use Rattle.promises.specs.OneCount.{total_to}
-use Rattle.promises.specs.laws.DeskCounts.{together, desk_in}
+use Rattle.promises.proofs.laws.DeskCounts.{together, desk_in}
 use Rattle.promises.specs.Sizing.{BookSizes, AllSized, AmpleFor, BookSizingRule}
-use Rattle.promises.specs.laws.Sizing.{sizing_rule, called}
+use Rattle.promises.proofs.laws.Sizing.{sizing_rule, called}
 use Rattle.promises.specs.Books as page
 use Rattle.promises.specs.Books.{size, NoValues, Alone, AllOrNone, BookRule, over_curves, book_over, Accepted, CallsMade, LowestAbove, NoLowerBook, ThinnedBook, ThinnedCall, BookCallListRule, puts_at, PutsMade, BookPutListRule, BondsMoved, SameBooks, BookReorderingRule}
-use Rattle.promises.specs.laws.BookAnswers.{Cause, by_checks, by_value, by_sum, all_passed, cause, values_of, counts_of, CheckNumber, of_cut, of_settings, of_day-count, of_tree, check_number, Checked, of_size, of_desk_lem, of_bond, checks-refused, checks_not_0, tree_not_0, refused_by_check}
-use Rattle.promises.specs.laws.BookRules.{sum_27, none_above, decided, thinned, book-alike, moved_curves, same_book, same_left}
+use Rattle.promises.proofs.laws.BookAnswers.{Cause, by_checks, by_value, by_sum, all_passed, cause, values_of, counts_of, CheckNumber, of_cut, of_settings, of_day-count, of_tree, check_number, Checked, of_size, of_desk_lem, of_bond, checks-refused, checks_not_0, tree_not_0, refused_by_check}
+use Rattle.promises.proofs.laws.BookRules.{sum_27, none_above, decided, thinned, book-alike, moved_curves, same_book, same_left}
 
 -- ---- accepted
 

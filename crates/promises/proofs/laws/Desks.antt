@@ -19,9 +19,9 @@ use Rattle.bookvalue.specs.laws.Placed.{placed_at, each_at}
 use Rattle.promises.specs.HostCallLists.{BookCall}
 use Rattle.promises.specs.Books.{size}
 use Rattle.promises.specs.Desks.{BookBond, bond_at, of_desk, desk_bonds, desk_values, DeskRule}
-use Rattle.promises.specs.laws.Rooms.{same_in_any_room}
-use Rattle.promises.specs.laws.BookAnswers.{counts_of}
-use Rattle.promises.specs.laws.Books.{valued-call, value-handed}
+use Rattle.promises.proofs.laws.Rooms.{same_in_any_room}
+use Rattle.promises.proofs.laws.BookAnswers.{counts_of}
+use Rattle.promises.proofs.laws.Books.{valued-call, value-handed}
 
 -- A bond's terms in a book.
 abbrev market_with : Shared → BookBond → Market

@@ -1,0 +1,2 @@
+-- The theorems whose statements stand in specs.
+pub mod laws
