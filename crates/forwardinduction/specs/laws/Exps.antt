@@ -1,13 +1,13 @@
 -- The exps of a layer, 64 nodes at a time: exp's own test stands for those before it, and what is kept of a part's exps on the way through it. Assumes nothing.
-use Rattle.std.specs.Prelude.{ℕ, ◌+◌, ◌-◌, ◌*◌, ◌/◌, ◌%◌, min, ◌≤◌, ◌<◌, ◌≡◌, refl, Bool, true, cond, List, ◌++◌, T, length, get_or, set, take, ℤ, pos, Float}
+use Rattle.std.specs.Prelude.{ℕ, ◌+◌, ◌-◌, ◌*◌, ◌/◌, ◌%◌, min, ◌≤◌, ◌<◌, ◌≡◌, refl, Bool, true, cond, List, ◌++◌, length, get_or, set, take, ℤ, pos, Float}
 use Rattle.std.proofs.Common.{sym, ap, ◌∙◌, arith, get_or-take, length-take-le}
 use Rattle.std.proofs.Math.ListN.{get_or-append}
-use Rattle.std.specs.Float.{nan, inf, fin}
+use Rattle.std.specs.Float.{nan}
 use Rattle.std.specs.Float.Ieee.{binary64, add, mul, neg}
 use Rattle.floats.specs.declared.Answer.{Answer}
 use Rattle.floats.specs.declared.Answer.TheVariants.{Value, Refused}
 use Rattle.floats.specs.Answers.{refusal, on_answer, and_then, not_finite, tested, when_finite}
-use Rattle.floats.specs.laws.Propagation.{Spoils, test_later, add_right, mul_left, mul_right}
+use Rattle.floats.specs.laws.Propagation.{test_later, add_right, mul_left, mul_right}
 use Rattle.elementary.specs.Exponential.{exp_at, ExpRow}
 use Rattle.elementary.specs.laws.Rows.{Filled, filled_more}
 use Rattle.elementary.specs.laws.Tested.{exp_later_then}

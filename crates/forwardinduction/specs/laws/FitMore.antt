@@ -1,5 +1,5 @@
 -- One step of the fit over the lent rows is one step of the definition. Assumes nothing.
-use Rattle.std.specs.Prelude.{ℕ, suc, ◌+◌, ◌*◌, ◌%◌, ◌≤◌, ◌<◌, ◌≡◌, Bool, cond, eqb, get_or, take, drop, ℤ}
+use Rattle.std.specs.Prelude.{ℕ, suc, ◌+◌, ◌*◌, ◌%◌, ◌≤◌, ◌≡◌, Bool, cond, take, drop, ℤ}
 use Rattle.std.proofs.Math.Path.{refl, sym, ap}
 use Rattle.std.proofs.Common.{◌∙◌, arith}
 use Rattle.std.proofs.Math.Bool.{true, false}
@@ -10,12 +10,12 @@ use Rattle.std.proofs.Math.Seq.{length-take-le}
 use Rattle.std.specs.Float.Ieee.{Float}
 use Rattle.floats.specs.Answers.{plus_zero}
 use Rattle.floats.specs.declared.Answer.{Answer}
-use Rattle.terms.specs.Outcomes.{Outcome, given, follow, valued}
+use Rattle.terms.specs.Outcomes.{Outcome, given, follow}
 use Rattle.lattice.specs.Layers.{At}
 use Rattle.lattice.specs.Lattice.{Layer}
 use Rattle.forwardinduction.specs.Fit.{weighted, shift_of, onward, shifts_from}
 use Rattle.lattice.specs.laws.Binds.{valued_then, valued_same, follow-valued, follow-follow, follow-given}
-use Rattle.lattice.specs.laws.Stored.{numbers_in, middles_in, transitions_in, row_of}
+use Rattle.lattice.specs.laws.Stored.{numbers_in, transitions_in, row_of}
 use Rattle.lattice.specs.laws.Positions.{start_of, Layered}
 use Rattle.lattice.specs.laws.Replayed.{roomy_of}
 use Rattle.lattice.specs.laws.Rows.{even, current_part, Both}
@@ -58,7 +58,7 @@ module _ {flat : Bool} {one two c n : ℕ} {nodes : List ℤ} {probabilities : L
   unfolding row_of
   onward-front spacing dt shift place row out h k =
       let e : length (take c row) ≡ c = length-take-le c row h in
-      onward_at_lem s.climbs flat spacing dt shift place (front_nodes c nodes) (take (c * 3) probabilities) (take c row) out s.placed (rw e front-pairs) (rw e front-threes) (omega (arith, s.counted))
+      onward_at_lem s.climbs flat spacing dt shift place _ _ (front_nodes c nodes) (take (c * 3) probabilities) (take c row) out s.placed (rw e front-pairs) (rw e front-threes) (omega (arith, s.counted))
 
   -- the row of the step after
   abbrev pub next_row : ℕ → Both → List At

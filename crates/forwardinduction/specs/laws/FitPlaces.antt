@@ -1,11 +1,10 @@
 -- The fit by positions is the fit: over a next layer whose numbers climb, and whose places the replay finds, one layer's contributions are those of the definition. Assumes nothing.
-use Rattle.std.specs.Prelude.{ℕ, zero, suc, ◌+◌, ◌*◌, ◌≤◌, ◌<◌, ◌≡◌, refl, Bool, true, false, ltb, length, get_or, set, take, ℤ, pos}
+use Rattle.std.specs.Prelude.{ℕ, ◌*◌, ◌≤◌, ◌≡◌, refl, Bool, ltb, length, get_or, take, ℤ}
 use Rattle.std.proofs.Math.Path.{sym, ap}
 use Rattle.std.proofs.Common.{◌∙◌, arith, length-set}
 use Rattle.std.proofs.Math.Bool.{cond}
 use mathlib.Core.List.{List, [], ◌∷◌}
 use Rattle.std.proofs.Math.Seq.{take-length}
-use Rattle.std.proofs.Math.IntN.{pred_ℤ, suc_ℤ}
 use Rattle.std.specs.Float.Ieee.{Float, binary64, add, mul}
 use Rattle.std.specs.Float.{nan}
 use Rattle.floats.specs.Answers.{not_finite}
@@ -115,16 +114,16 @@ module _ {t : ℤ} {ns : List ℤ} (climbs : Climbs t ns) (flat : Bool) (spacing
   laid_out o = given (row_of ns o)
 
   -- The next row holds the values of the definition's, in order.
-  pub onward_at_lem : {r : Reach} {c : ℕ} (nodes : List ℤ) (probabilities row out : List Float) → Placed ns flat r c (middles_in nodes) → length nodes ≡ length row * 2 → length probabilities ≡ length row * 3 → length ns ≤ length out → onward spacing dt shift place (transitions_in flat nodes probabilities) (row_of (numbers_in nodes) row) (row_of (take c ns) out) ≡ follow (onward_at spacing dt shift place flat r nodes probabilities row out) laid_out
+  pub onward_at_lem : (r : Reach) (c : ℕ) (nodes : List ℤ) (probabilities row out : List Float) → Placed ns flat r c (middles_in nodes) → length nodes ≡ length row * 2 → length probabilities ≡ length row * 3 → length ns ≤ length out → onward spacing dt shift place (transitions_in flat nodes probabilities) (row_of (numbers_in nodes) row) (row_of (take c ns) out) ≡ follow (onward_at spacing dt shift place flat r nodes probabilities row out) laid_out
   unfolding onward_at transitions_in row_of numbers_in middles_in
-  onward_at_lem [] ps row out (all_placed e) a b l =
+  onward_at_lem r c [] ps row out (all_placed e) a b l =
       onward-none spacing dt shift place _ _ ∙ rw (e, take-length ns) (sym (follow-given laid_out out))
-  onward_at_lem (n ∷ []) ps row out q a b l = absurd (omega arith)
-  onward_at_lem (n ∷ m ∷ nodes) ps [] out q a b l = absurd (omega arith)
-  onward_at_lem (n ∷ m ∷ nodes) [] (x ∷ row) out q a b l = absurd (omega arith)
-  onward_at_lem (n ∷ m ∷ nodes) (d ∷ []) (x ∷ row) out q a b l = absurd (omega arith)
-  onward_at_lem (n ∷ m ∷ nodes) (d ∷ p ∷ []) (x ∷ row) out q a b l = absurd (omega arith)
-  onward_at_lem {r} {c} (n ∷ m ∷ nodes) (d ∷ p ∷ u ∷ ps) (x ∷ row) out (next_placed e s rest) a b l =
+  onward_at_lem r c (n ∷ []) ps row out q a b l = absurd (omega arith)
+  onward_at_lem r c (n ∷ m ∷ nodes) ps [] out q a b l = absurd (omega arith)
+  onward_at_lem r c (n ∷ m ∷ nodes) [] (x ∷ row) out q a b l = absurd (omega arith)
+  onward_at_lem r c (n ∷ m ∷ nodes) (d ∷ []) (x ∷ row) out q a b l = absurd (omega arith)
+  onward_at_lem r c (n ∷ m ∷ nodes) (d ∷ p ∷ []) (x ∷ row) out q a b l = absurd (omega arith)
+  onward_at_lem r c (n ∷ m ∷ nodes) (d ∷ p ∷ u ∷ ps) (x ∷ row) out (next_placed e s rest) a b l =
       let after : Reach = reach r m in
       let ko : List At → Outcome (List At) = λ nx. onward spacing dt shift place (transitions_in flat nodes ps) (row_of (numbers_in nodes) row) nx in
       let ka : List Float → Outcome (List Float) = λ o. onward_at spacing dt shift place flat after nodes ps row o in
@@ -136,6 +135,6 @@ module _ {t : ℤ} {ns : List ℤ} (climbs : Climbs t ns) (flat : Bool) (spacing
       (ap (λ (z : Outcome (List At)). follow z ko) (three_at climbs place price d p u out s l)
       ∙ follow-follow ko (three price) _ (λ o. ko (row_of (take (after_three flat r.count after.count) ns) o)) (λ o. follow-given ko _)
       ∙ follow_where _ _ (three_length place flat r.count after.count price d p u out)
-      (λ o lo. onward_at_lem nodes ps row o rest (omega arith) (omega arith) (omega arith))
+      (λ o lo. onward_at_lem after _ nodes ps row o rest (omega arith) (omega arith) (omega arith))
       ∙ sym (follow-follow laid_out (three price) ka _ (λ o. refl))))
       ∙ sym (follow-valued laid_out (discounted_of spacing dt shift place (node_float n) x) _ _ (λ price. refl))

@@ -1,14 +1,13 @@
 -- The fit by positions: what is done at one node, and one layer over the lent row that is written. Assumes nothing.
-use Rattle.std.specs.Prelude.{ℕ, suc, ◌-◌, ◌≡◌, refl, Bool, cond, List, [], ◌∷◌, ltb, leb, get_or, set, ℤ, Float}
+use Rattle.std.specs.Prelude.{ℕ, ◌≡◌, Bool, cond, List, [], ◌∷◌, ltb, get_or, set, ℤ, Float}
 use Rattle.std.proofs.Common.{sym}
 use Rattle.std.specs.Float.{binary64, nan}
 use Rattle.std.specs.Float.Ieee.{add, mul, div, neg, le}
 use Rattle.floats.specs.declared.Answer.{Answer}
-use Rattle.floats.specs.declared.Answer.TheVariants.{Value}
-use Rattle.floats.specs.Answers.{plus_zero, on_answer, and_then, refusal, tested, when_finite}
+use Rattle.floats.specs.Answers.{plus_zero, and_then, refusal, tested, when_finite}
 use Rattle.elementary.specs.Exponential.{exp_at}
 use Rattle.elementary.specs.Logarithm.{ln_at}
-use Rattle.terms.specs.Outcomes.{Outcome, given, on_outcome, follow, valued, finite_then}
+use Rattle.terms.specs.Outcomes.{Outcome, given, follow, valued, finite_then}
 use Rattle.lattice.specs.declared.reach.Reach.{Reach}
 use Rattle.lattice.specs.Layers.{At, node_float}
 use Rattle.forwardinduction.specs.Fit.{weighted}

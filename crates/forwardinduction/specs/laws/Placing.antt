@@ -1,7 +1,7 @@
 -- Node numbers and positions: in a layer whose numbers climb, what a row has at a node is what it has at the node's position, and a contribution to the node goes there. Assumes nothing.
-use Rattle.std.specs.Prelude.{ℕ, zero, suc, ◌+◌, ◌≤◌, ◌<◌, ◌≡◌, Bool, true, false, not, ◌||◌, List, [], ◌∷◌, T, ltb, length, get_or, set, take, ℤ, pos, negsuc, Float}
+use Rattle.std.specs.Prelude.{ℕ, zero, suc, ◌+◌, ◌≤◌, ◌<◌, ◌≡◌, Bool, true, false, not, List, [], ◌∷◌, T, ltb, length, get_or, set, take, ℤ, pos, negsuc, Float}
 use Rattle.std.proofs.Math.Path.{refl}
-use Rattle.std.proofs.Common.{sym, ap, subst, ◌∙◌, arith, lt_trans, lt-ltb, le-ltb, ltb→lt, lt→ltb}
+use Rattle.std.proofs.Common.{sym, ◌∙◌, arith, lt-ltb, ltb→lt, lt→ltb}
 use Rattle.std.proofs.Math.Bool.{cond}
 use Rattle.std.proofs.Math.Dec.{leb-suc-suc}
 use Rattle.std.proofs.Math.IntN.{pred_ℤ, suc_ℤ}
@@ -9,16 +9,14 @@ use Rattle.std.specs.Float.{binary64, nan}
 use Rattle.std.specs.Float.Ieee.{add}
 use Rattle.std.specs.Float.Ieee.Scale.{finite}
 use Rattle.floats.specs.Answers.{not_finite}
-use Rattle.terms.specs.Outcomes.{Outcome, given, on_outcome, follow, refuse}
-use Rattle.lattice.specs.declared.reach.Reach.{Reach}
-use Rattle.lattice.specs.Layers.{below, At, value_at}
+use Rattle.terms.specs.Outcomes.{given, on_outcome, follow, refuse}
+use Rattle.lattice.specs.Layers.{below, value_at}
 use Rattle.forwardinduction.specs.Fit.{contribute}
 use Rattle.lattice.specs.laws.IntegerOrder.{below_self, below_asym}
-use Rattle.lattice.specs.laws.Reaching.{reach}
 use Rattle.lattice.specs.laws.RisingMiddles.{Climbs, none, above}
 use Rattle.lattice.specs.laws.Stored.{row_of, made_of}
 use Rattle.lattice.specs.laws.Binds.{follow-cond, follow-follow, follow-given}
-use Rattle.lattice.specs.laws.Positions.{spot_at, past}
+use Rattle.lattice.specs.laws.Positions.{past}
 use Rattle.forwardinduction.specs.laws.FitSteps.{add_at}
 
 -- ---- the order of numbers

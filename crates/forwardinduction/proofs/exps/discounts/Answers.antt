@@ -25,11 +25,8 @@ part_exps-requires c = (simp length-take (omega arith), simp length-take (omega 
 
 pub returns : goal.returns
 returns c =
-    let asked = c in
-    let part = asked.before.before.before in
-    let entry = part.before.before.before in
     let p = c.part_exps in
-    let filled = asked.rate-arguments.ensures in
-    let n = part.part_of.ensures in
-    let a = entry.args in
-    ready_made (rate_argument a.spacing a.dt a.shift) a.nodes.now a.count _ part.before.if1.false n (search rules) filled (p.auto.1.0 ∙ length-take-le _ _ (search rules)) p.ensures refl
+    let filled = c.rate_arguments.ensures in
+    let n = c.part_of-n.ensures in
+    let a = c.args in
+    ready_made (rate_argument a.spacing a.dt a.shift) a.nodes.now a.count _ c.if-i-ne0.false n (search rules) filled (p.auto.es ∙ length-take-le _ _ (search rules)) p.ensures refl

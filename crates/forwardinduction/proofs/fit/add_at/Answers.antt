@@ -26,9 +26,6 @@ offset_bounds-next-at-then-at-count c = search answers
 pub bounds-next-at-then-at-count : goal.bounds-next-at-then-at-count
 bounds-next-at-then-at-count c = search answers
 
-pub shape_of-next-then-at-count : goal.shape_of-next-then-at-count
-shape_of-next-then-at-count c = search answers
-
 pub returns-then-at-count : goal.returns-then-at-count
 unfolding add_at
 returns-then-at-count c = search outcomes
@@ -38,9 +35,6 @@ offset_bounds-next-at-2 c = search answers
 
 pub bounds-next-at-2 : goal.bounds-next-at-2
 bounds-next-at-2 c = search answers
-
-pub shape_of-next : goal.shape_of-next
-shape_of-next c = search answers
 
 pub returns : goal.returns
 unfolding add_at

@@ -17,9 +17,6 @@ returns-then-not_finite c = search outcomes
 pub add_at-requires : goal.add_at-requires
 add_at-requires c = search answers
 
-pub shape_of-next : goal.shape_of-next
-shape_of-next c = c.add_at.auto.0
-
 pub returns : goal.returns
 unfolding share_at
 returns c = search outcomes

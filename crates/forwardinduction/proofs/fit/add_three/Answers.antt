@@ -24,40 +24,19 @@ passed-second-requires c = let h = spot-below c.args.flat c.args.after 2 _ c.spo
 pub add_share-a-requires : goal.add_share-a-requires
 add_share-a-requires c = spot-below c.args.flat c.args.after 3 _ c.spot-low.ensures (omega arith) c.requires.1
 
-pub enum_told-1 : goal.enum_told-1
-enum_told-1 c = c.in-Passed.keys1
-
-pub enum_told-in_default : goal.enum_told-in_default
-enum_told-in_default c = c.in_default.keys2
-
-pub shape_of-next-in_default : goal.shape_of-next-in_default
-shape_of-next-in_default c = c.add_share-a.auto.0
-
 pub returns-in_default : goal.returns-in_default
 unfolding add_three
 returns-in_default c = rw (← c.spot-low.ensures, ← c.spot-mid.ensures, ← c.spot-high.ensures, ← c.passed-first.ensures, ← c.passed-second.ensures) (search outcomes depth 20 fits 4000)
 
 pub add_share-b-requires : goal.add_share-b-requires
-add_share-b-requires c = let h = spot-below c.args.flat c.args.after 2 _ c.spot-mid.ensures (omega arith) c.requires.1 in omega (arith, c.add_share-a.auto.0)
-
-pub enum_told-in-Passed-b : goal.enum_told-in-Passed-b
-enum_told-in-Passed-b c = c.in-Passed-b.keys1
-
-pub enum_told-in_default-b : goal.enum_told-in_default-b
-enum_told-in_default-b c = c.in_default-b.keys2
-
-pub shape_of-next-in_default-b : goal.shape_of-next-in_default-b
-shape_of-next-in_default-b c = search answers
+add_share-b-requires c = let h = spot-below c.args.flat c.args.after 2 _ c.spot-mid.ensures (omega arith) c.requires.1 in omega (arith, c.add_share-a.auto.next)
 
 pub returns-in_default-b : goal.returns-in_default-b
 unfolding add_three
 returns-in_default-b c = rw (← c.spot-low.ensures, ← c.spot-mid.ensures, ← c.spot-high.ensures, ← c.passed-first.ensures, ← c.passed-second.ensures) (search outcomes depth 20 fits 4000)
 
 pub add_share-requires : goal.add_share-requires
-add_share-requires c = let h = spot-below c.args.flat c.args.after 1 _ c.spot-high.ensures (omega arith) c.requires.1 in omega (arith, c.add_share-a.auto.0, c.add_share-b.auto.0)
-
-pub shape_of-next : goal.shape_of-next
-shape_of-next c = search answers
+add_share-requires c = let h = spot-below c.args.flat c.args.after 1 _ c.spot-high.ensures (omega arith) c.requires.1 in omega (arith, c.add_share-a.auto.next, c.add_share-b.auto.next)
 
 pub returns : goal.returns
 unfolding add_three

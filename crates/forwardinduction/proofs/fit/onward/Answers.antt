@@ -1,9 +1,10 @@
 -- `fit::onward` meets its contract. The invariant: what is left from node i on, over the row as it is, is the whole, and the exps of the part that i stands in are kept. Assumes nothing.
-use Prim.Native.Nat.{ℕ, ◌+◌, ◌-◌, ◌*◌, ◌≤◌, ◌<◌}
+use Prim.Native.Nat.{ℕ, ◌+◌, ◌*◌, ◌≤◌, ◌<◌}
 use mathlib.Core.Path.{◌≡◌, refl, sym, ◌∙◌}
 use mathlib.Core.Bool.{Bool, false}
 use mathlib.Core.List.{List}
 use native.Mathlib.Omega.{arith}
+use mir.Syntax.{w32}
 use mir.Facts.{to_z-of_z}
 use lib.ListN.{length, get_or, drop, drop_of_length-le}
 use lib.IntN.{ℤ, pos}
@@ -21,7 +22,7 @@ use Rattle.lattice.specs.laws.Stored.{middles_in}
 use Rattle.lattice.specs.laws.StoredAt.{drop_one, drop_two, drop_three, middles_from_lem}
 use Rattle.lattice.specs.laws.Bounds.{Within}
 use Rattle.lattice.specs.laws.Reaching.{reach, nothing_below}
-use Rattle.lattice.specs.laws.Positions.{start_of, Layered, Roomy, Held, roomy_next}
+use Rattle.lattice.specs.laws.Positions.{start_of, Layered, Held, roomy_next}
 use Rattle.terms.specs.Checks.{refused_by}
 use Rattle.lattice.specs.laws.Rows.{outcome_of}
 use Rattle.lattice.specs.laws.Binds.{went_on, stopped_at}
@@ -29,6 +30,7 @@ use Rattle.forwardinduction.specs.laws.FitSteps.{discounted_of, add_three, onwar
 use Rattle.forwardinduction.specs.laws.Exps.{rate_argument, Kept, kept-none, kept_more, ready-here}
 use Rattle.forwardinduction.proofs.Outcomes.{passes, refuses-call, followed, halted}
 use Rattle.floats.proofs.Laws.{answers}
+use Rattle.forwardinduction.proofs.fit.onward.Invariants.{At}
 use Rattle.forwardinduction.proofs.fit.onward.Goals as goal
 
 module _ (nodes : List ℤ) (probabilities row next₀ : List Float) (flat : Bool) (spacing dt shift : Float) (place : ℕ) where
@@ -38,15 +40,8 @@ module _ (nodes : List ℤ) (probabilities row next₀ : List Float) (flat : Boo
   abbrev from : Reach → ℕ → List Float → Outcome (List Float)
   from r i next = onward_at spacing dt shift place flat r (drop (i * 2) nodes) (drop (i * 3) probabilities) (drop i row) next
 
-  record At (next es : List Float) (good : Bool) (r : Reach) (i : ℕ) : Type 0 where
-    within : i ≤ length row
-    same : length next ≡ length next₀
-    room : Roomy flat (length next₀) r (middles_in (drop (i * 2) nodes))
-    kept : Kept (rate_argument spacing dt shift) nodes (length row) good i es
-    left : from r i next ≡ whole
-
   module _ (l : Layered flat (length next₀) nodes probabilities (length row)) where
-    start : {r : Reach} {z : ℤ} (es : List Float) → length es ≡ 64 → z ≡ get_or nodes 1 (pos 0) → r ≡ nothing_below z → At next₀ es false r 0
+    start : {r : Reach} {z : ℤ} (es : List Float) → length es ≡ 64 → z ≡ get_or nodes 1 (pos 0) → r ≡ nothing_below z → At nodes probabilities row next₀ flat spacing dt shift place next₀ es false r 0
     start es k e f =
         rw (f, e) (record { within = omega arith; same = refl; room = l.roomy; kept = kept-none _ _ _ _ _ k; left = refl })
 
@@ -124,12 +119,12 @@ bounds-nodes-1 c =
 pub nothing_below-r-requires : goal.nothing_below-r-requires
 nothing_below-r-requires c =
     let a = c.args in
-    first a.nodes.now a.probabilities.now a.row.now a.next.now a.flat a.spacing a.dt a.shift a.place c.requires (to_z-of_z (record { sfits = c.nothing_below-arg-1.given }))
+    first a.nodes.now a.probabilities.now a.row.now a.next.now a.flat a.spacing a.dt a.shift a.place c.requires (to_z-of_z {w = w32} (record { sfits = c.nothing_below-arg-1.given }))
 
 pub loop-i-init : goal.loop-i-init
 loop-i-init c =
     let a = c.args in
-    start a.nodes.now a.probabilities.now a.row.now a.next.now a.flat a.spacing a.dt a.shift a.place c.requires _ refl (to_z-of_z (record { sfits = c.nothing_below-arg-1.given })) c.nothing_below-r.ensures
+    start a.nodes.now a.probabilities.now a.row.now a.next.now a.flat a.spacing a.dt a.shift a.place c.requires _ refl (to_z-of_z {w = w32} (record { sfits = c.nothing_below-arg-1.given })) c.nothing_below-r.ensures
 
 pub slice_bounds-discounts-end : goal.slice_bounds-discounts-end
 slice_bounds-discounts-end c = sym c.loop-i.invariant.kept.full
@@ -175,54 +170,32 @@ bounds-row-i c = search answers
 
 pub discounted-d-requires : goal.discounted-d-requires
 discounted-d-requires c =
-    let exps = c in
-    let test = exps.before.before in
-    let entry = test.before.before.before.before.before.before.before in
-    let number = to_z-of_z (record { sfits = c.node-1.given }) in
-    let a = entry.args in
+    let number = to_z-of_z {w = w32} (record { sfits = c.node-1.given }) in
+    let a = c.args in
     let f = rate_argument a.spacing a.dt a.shift in
-    ready-here f a.nodes.now (length a.row.now) a.place exps.discounts.ensures test.loop-test.true number
-
-pub enum_known-d : goal.enum_known-d
-enum_known-d c = c.in-Value.keys1
-
-pub enum_told-1 : goal.enum_told-1
-enum_told-1 c = c.in_default.keys2
+    ready-here f a.nodes.now (length a.row.now) a.place c.discounts-good.ensures c.loop-i-test.true number
 
 pub refused_by-requires : goal.refused_by-requires
 refused_by-requires c = tt
 
-pub shape_of-next-in_default : goal.shape_of-next-in_default
-shape_of-next-in_default c = search answers
-
 pub returns-in_default : goal.returns-in_default
 returns-in_default c =
-    let read = c in
-    let test = read.before.before.before.before in
-    let head = test.before in
-    let entry = head.before.before.before.before.before.before in
-    let number = to_z-of_z (record { sfits = read.node.given }) in
-    let l = head.loop in
-    price-stopped l.invariant entry.requires test.loop-test.true number c.discounted-d.ensures _ c.in_default.is c.refused_by.ensures
+    let number = to_z-of_z {w = w32} (record { sfits = c.node-1.given }) in
+    let l = c.loop-i in
+    price-stopped l.invariant c.requires c.loop-i-test.true number c.discounted-d.ensures _ c.in_default.is c.refused_by.ensures
 
 pub reached-after-requires : goal.reached-after-requires
 reached-after-requires c =
-    let read = c in
-    let test = read.before.before.before.before.before in
-    let head = test.before in
-    let entry = head.before.before.before.before.before.before in
-    let middle = to_z-of_z (record { sfits = read.middle.given }) in
-    let h = held head.loop.invariant entry.requires test.loop-test.true middle in
-    (omega (arith, h.counted, entry.well-formed), h.within)
+    let middle = to_z-of_z {w = w32} (record { sfits = c.middle-1.given }) in
+    let h = held c.loop-i.invariant c.requires c.loop-i-test.true middle in
+    (omega (arith, h.counted, c.well_formed), h.within)
 
 pub overflow_mul-i : goal.overflow_mul-i
 overflow_mul-i c = search answers
 
 pub offset_bounds-probabilities-i : goal.offset_bounds-probabilities-i
 offset_bounds-probabilities-i c =
-    let test = c in
-    let entry = test.before.before.before.before.before.before.before in
-    omega (arith, test.loop-test.true, entry.requires.threes, entry.well-formed)
+    omega (arith, c.loop-i-test.true, c.requires.threes, c.well_formed)
 
 pub bounds-probabilities-i : goal.bounds-probabilities-i
 bounds-probabilities-i c = search answers
@@ -235,9 +208,7 @@ overflow_add-i c = search answers
 
 pub offset_bounds-probabilities-i-in-loop-i : goal.offset_bounds-probabilities-i-in-loop-i
 offset_bounds-probabilities-i-in-loop-i c =
-    let test = c in
-    let entry = test.before.before.before.before.before.before.before in
-    omega (arith, test.loop-test.true, entry.requires.threes, entry.well-formed)
+    omega (arith, c.loop-i-test.true, c.requires.threes, c.well_formed)
 
 pub bounds-probabilities-i-in-loop-i : goal.bounds-probabilities-i-in-loop-i
 bounds-probabilities-i-in-loop-i c = search answers
@@ -250,84 +221,48 @@ overflow_add-i-in-loop-i c = search answers
 
 pub offset_bounds-probabilities-i-in-loop-i-2 : goal.offset_bounds-probabilities-i-in-loop-i-2
 offset_bounds-probabilities-i-in-loop-i-2 c =
-    let test = c in
-    let entry = test.before.before.before.before.before.before.before in
-    omega (arith, test.loop-test.true, entry.requires.threes, entry.well-formed)
+    omega (arith, c.loop-i-test.true, c.requires.threes, c.well_formed)
 
 pub bounds-probabilities-i-in-loop-i-2 : goal.bounds-probabilities-i-in-loop-i-2
 bounds-probabilities-i-in-loop-i-2 c = search answers
 
 pub add_three-a-requires : goal.add_three-a-requires
 add_three-a-requires c =
-    let after = c in
-    let read = after.before.before.before.before.before.before.before in
-    let test = read.before.before.before.before.before in
-    let head = test.before in
-    let entry = head.before.before.before.before.before.before in
-    let middle = to_z-of_z (record { sfits = read.middle.given }) in
-    let l = head.loop in
-    let h = held l.invariant entry.requires test.loop-test.true middle in
-    rw after.reached.ensures (h.three, rw l.invariant.same h.spot)
-
-pub enum_told-in-Passed : goal.enum_told-in-Passed
-enum_told-in-Passed c = c.in-Passed.keys1
-
-pub enum_told-in_default-a : goal.enum_told-in_default-a
-enum_told-in_default-a c = c.in_default-a.keys2
-
-pub shape_of-next-in_default-a : goal.shape_of-next-in_default-a
-shape_of-next-in_default-a c = search answers
+    let middle = to_z-of_z {w = w32} (record { sfits = c.middle-1.given }) in
+    let l = c.loop-i in
+    let h = held l.invariant c.requires c.loop-i-test.true middle in
+    rw c.reached-after.ensures (h.three, rw l.invariant.same h.spot)
 
 pub returns-in_default-a : goal.returns-in_default-a
 returns-in_default-a c =
-    let sum = c in
-    let after = sum.before.before.before.before.before in
-    let worth = after.before.before.before.before in
-    let read = worth.before.before.before in
-    let test = read.before.before.before.before.before in
-    let head = test.before in
-    let entry = head.before.before.before.before.before.before in
-    let number = to_z-of_z (record { sfits = read.before.node.given }) in
-    let middle = to_z-of_z (record { sfits = read.middle.given }) in
-    let price = worth.discounted.ensures in
-    let value = after.before.before.d.given.1 in
-    let taken = test.loop-test.true in
-    let added = sum.add-three in
-    row-stopped head.loop.invariant entry.requires taken number price value middle after.reached.ensures _ added.ensures c.in_default-a.is
+    let number = to_z-of_z {w = w32} (record { sfits = c.node-1.given }) in
+    let middle = to_z-of_z {w = w32} (record { sfits = c.middle-1.given }) in
+    let price = c.discounted-d.ensures in
+    let value = c.in-Value.is in
+    let taken = c.loop-i-test.true in
+    let added = c.add_three-a in
+    row-stopped c.loop-i.invariant c.requires taken number price value middle c.reached-after.ensures _ added.ensures c.in_default-a.is
 
 pub overflow_add-i-in-loop-i-2 : goal.overflow_add-i-in-loop-i-2
 overflow_add-i-in-loop-i-2 c =
-    let test = c in
-    let entry = test.before.before.before.before.before.before.before in
-    let taken = test.loop-test.true in
-    omega (arith, taken, entry.well-formed)
+    let taken = c.loop-i-test.true in
+    omega (arith, taken, c.well_formed)
 
 pub loop-i-smaller : goal.loop-i-smaller
 loop-i-smaller c = search answers
 
 pub loop-i-preserved : goal.loop-i-preserved
 loop-i-preserved c =
-    let sum = c in
-    let after = sum.before.before.before.before.before in
-    let worth = after.before.before.before.before in
-    let read = worth.before.before.before in
-    let refill = read.before.before.before in
-    let test = refill.before.before in
-    let head = test.before in
-    let entry = head.before.before.before.before.before.before in
-    let number = to_z-of_z (record { sfits = read.before.node.given }) in
-    let middle = to_z-of_z (record { sfits = read.middle.given }) in
-    let price = worth.discounted.ensures in
-    let value = after.before.before.d.given.1 in
-    let taken = test.loop-test.true in
-    let l = head.loop in
-    let exps = refill.discounts in
-    let kept = kept_more _ _ _ (exps.auto.1.1.1.1.1.1.1.0 ∙ l.invariant.kept.full) exps.ensures in
-    let added = sum.add-three in
-    stepped l.invariant entry.requires taken number price value middle after.reached.ensures _ added.ensures c.in-Passed.is added.auto.0 kept
-
-pub shape_of-next : goal.shape_of-next
-shape_of-next c = search answers
+    let number = to_z-of_z {w = w32} (record { sfits = c.node-1.given }) in
+    let middle = to_z-of_z {w = w32} (record { sfits = c.middle-1.given }) in
+    let price = c.discounted-d.ensures in
+    let value = c.in-Value.is in
+    let taken = c.loop-i-test.true in
+    let l = c.loop-i in
+    let exps = c.discounts-good in
+    let kept = kept_more _ _ _ (exps.auto.es ∙ l.invariant.kept.full) exps.ensures in
+    let added = c.add_three-a in
+    stepped l.invariant c.requires taken number price value middle c.reached-after.ensures _ added.ensures c.in-Passed.is added.auto.next kept
 
 pub returns : goal.returns
 returns c =

@@ -20,12 +20,6 @@ returns-then-not_finite c = search answers depth 20 fits 4000
 pub ln_at-l-requires : goal.ln_at-l-requires
 ln_at-l-requires c = tt
 
-pub enum_known-l : goal.enum_known-l
-enum_known-l c = c.in-Value.keys1
-
-pub enum_told-1 : goal.enum_told-1
-enum_told-1 c = c.in_default.keys2
-
 pub returns-in_default : goal.returns-in_default
 unfolding shift_from
 returns-in_default c = search answers depth 20 fits 4000

@@ -13,12 +13,6 @@ returns-then-known c = rw weigh-fused (valued _ _ _ refl (c.requires c.if-known.
 pub exp_at-a-requires : goal.exp_at-a-requires
 exp_at-a-requires c = tt
 
-pub enum_known-a : goal.enum_known-a
-enum_known-a c = c.in-Value.keys1
-
-pub enum_told-1 : goal.enum_told-1
-enum_told-1 c = c.in_default.keys2
-
 pub returns-in_default : goal.returns-in_default
 returns-in_default c = rw weigh-fused (search answers depth 20 fits 4000)
 

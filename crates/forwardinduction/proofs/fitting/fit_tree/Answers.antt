@@ -1,5 +1,5 @@
 -- `fitting::fit_tree` meets its contract. Assumes nothing.
-use mathlib.Core.Path.{refl, ◌∙◌}
+use mathlib.Core.Path.{refl}
 use native.Mathlib.Omega.{arith}
 use lib.ListN.{length-set}
 use Rattle.floats.specs.Answers.{one}
@@ -11,16 +11,7 @@ pub bounds-first-0 : goal.bounds-first-0
 bounds-first-0 c = omega (arith, (fronted c.requires.laid).first_room, c.requires.counts_value.0)
 
 pub fit-requires : goal.fit-requires
-fit-requires c = (laid-over (length-set c.args.first.now 0 one) refl c.requires.laid, (c.requires.shifts_len.0, omega (arith, c.requires.shifts_len.1)))
-
-pub shape_of-first : goal.shape_of-first
-shape_of-first c = c.fit.auto.1.1.1.1.1.1.1.1.1.0 ∙ length-set c.args.first.now 0 one
-
-pub shape_of-second : goal.shape_of-second
-shape_of-second c = c.fit.auto.1.1.1.1.1.1.1.1.1.1.0
-
-pub shape_of-shifts : goal.shape_of-shifts
-shape_of-shifts c = c.fit.auto.1.1.1.1.1.1.1.1.1.1.1.0
+fit-requires c = record { laid = laid-over (length-set c.args.first.now 0 one) refl c.requires.laid; shifts_len = (c.requires.shifts_len.0, omega (arith, c.requires.shifts_len.1)) }
 
 pub returns : goal.returns
 returns c =

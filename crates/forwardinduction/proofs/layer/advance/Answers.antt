@@ -1,5 +1,5 @@
 -- `layer::advance` meets its contract. Assumes nothing.
-use mathlib.Core.Path.{sym, refl}
+use mathlib.Core.Path.{sym}
 use mathlib.Core.List.{List}
 use lib.Seq.{length-take-le}
 use lib.Ieee.{Float}
@@ -13,36 +13,24 @@ pub slice_bounds-onward-end : goal.slice_bounds-onward-end
 slice_bounds-onward-end c = search answers
 
 pub slice_bounds-onward-end-then-step-eq0 : goal.slice_bounds-onward-end-then-step-eq0
-slice_bounds-onward-end-then-step-eq0 c = sym (length-take-le _ _ c.requires.0.0)
+slice_bounds-onward-end-then-step-eq0 c = sym (length-take-le _ _ c.requires.count_in_bounds.0)
 
 pub onward-requires : goal.onward-requires
-onward-requires c = rw (length-take-le c.args.count c.args.first.now c.requires.0.0) c.requires.1.1
-
-pub shape_of-first-then-step-eq0 : goal.shape_of-first-then-step-eq0
-shape_of-first-then-step-eq0 c = refl
-
-pub shape_of-second-then-step-eq0 : goal.shape_of-second-then-step-eq0
-shape_of-second-then-step-eq0 c = c.onward.auto.1.1.1.0
+onward-requires c = rw (length-take-le c.args.count c.args.first.now c.requires.count_in_bounds.0) c.requires.layered.1
 
 pub returns-then-step-eq0 : goal.returns-then-step-eq0
 unfolding advanced_at
-returns-then-step-eq0 c = taken_eq _ _ _ _ c.if1.true (beside _ _ (λ (o : List Float). record { first = c.args.first.now; second = o }) c.onward.ensures)
+returns-then-step-eq0 c = taken_eq _ _ _ _ c.if-step-eq0.true (beside _ _ (λ (o : List Float). record { first = c.args.first.now; second = o }) c.onward.ensures)
 
 pub slice_bounds-onward-end-2 : goal.slice_bounds-onward-end-2
 slice_bounds-onward-end-2 c = search answers
 
 pub slice_bounds-onward-end-3 : goal.slice_bounds-onward-end-3
-slice_bounds-onward-end-3 c = sym (length-take-le _ _ c.requires.0.1)
+slice_bounds-onward-end-3 c = sym (length-take-le _ _ c.requires.count_in_bounds.1)
 
 pub onward-requires-2 : goal.onward-requires-2
-onward-requires-2 c = rw (length-take-le c.args.count c.args.second.now c.requires.0.1) c.requires.1.0
-
-pub shape_of-first : goal.shape_of-first
-shape_of-first c = c.onward-2.auto.1.1.1.0
-
-pub shape_of-second : goal.shape_of-second
-shape_of-second c = refl
+onward-requires-2 c = rw (length-take-le c.args.count c.args.second.now c.requires.count_in_bounds.1) c.requires.layered.0
 
 pub returns : goal.returns
 unfolding advanced_at
-returns c = left_eq _ _ _ _ c.if1.false (beside _ _ (λ (o : List Float). record { first = o; second = c.args.second.now }) c.onward-2.ensures)
+returns c = left_eq _ _ _ _ c.if-step-eq0.false (beside _ _ (λ (o : List Float). record { first = o; second = c.args.second.now }) c.onward-2.ensures)

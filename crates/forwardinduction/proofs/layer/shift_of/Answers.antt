@@ -23,12 +23,6 @@ returns-then-not_finite c = search answers depth 20 fits 4000
 pub curve_at-f-requires : goal.curve_at-f-requires
 curve_at-f-requires c = tt
 
-pub enum_known-f : goal.enum_known-f
-enum_known-f c = c.in-Value.keys1
-
-pub enum_told-1 : goal.enum_told-1
-enum_told-1 c = c.in_default.keys2
-
 pub returns-in_default : goal.returns-in_default
 unfolding shift_of shift_from
 returns-in_default c = search answers depth 20 fits 4000
