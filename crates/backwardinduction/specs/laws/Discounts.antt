@@ -1,11 +1,11 @@
 -- Discount factors of several nodes at a time, and one test where a later one gives the same number and place. Assumes nothing.
-use Rattle.std.specs.Prelude.{ℕ, ◌+◌, ◌*◌, ◌/◌, ◌%◌, ◌≤◌, ◌<◌, ◌≡◌, refl, Bool, true, false, cond, List, ◌++◌, T, length, get_or, set, take, ℤ, pos, Float}
+use Rattle.std.specs.Prelude.{ℕ, ◌+◌, ◌*◌, ◌/◌, ◌%◌, ◌≤◌, ◌<◌, ◌≡◌, Bool, true, false, List, ◌++◌, length, get_or, set, take, ℤ, pos, Float}
 use Rattle.std.proofs.Common.{sym, ap, subst, ◌∙◌, arith, take_at}
-use Rattle.std.specs.Float.{nan, inf, fin, binary64}
+use Rattle.std.specs.Float.{nan, binary64}
 use Rattle.std.specs.Float.Ieee.{add, mul, neg}
 use Rattle.floats.specs.declared.Answer.{Answer}
 use Rattle.floats.specs.declared.Answer.TheVariants.{Value}
-use Rattle.floats.specs.Answers.{refusal, plus_zero, not_finite, when_finite, tested}
+use Rattle.floats.specs.Answers.{plus_zero, when_finite, tested}
 use Rattle.floats.specs.laws.Propagation.{Spoils, test_later, add_left, add_right, mul_left}
 use Rattle.elementary.specs.Exponential.{exp_at, ExpRow}
 use Rattle.elementary.specs.laws.Rows.{Filled, filled_more, false_not}

@@ -116,7 +116,7 @@ module _ (dt spread : Float) (cashflows : List Float) (calls : List CallStep) (s
         let long : length vs ≡ next = current-length (step + 1) next behind.first behind.second (omega (arith, s.next_first)) (omega (arith, s.next_second)) in
         let wide : length out ≡ count = current-length step count behind.first behind.second (omega (arith, s.first_room)) (omega (arith, s.second-room)) in
         rw (part_from_lem 1 counts, part_from_lem (count * 2) nodes, b.next, ← s.are_next)
-        (rolled_at_lem rates (get_or calls step new_step) (get_or cashflows step nan) step flat vs s.climbs (omega (arith, s.counted)) count 0 (front_nodes count nodes) (take (count * 3) probabilities) out s.placed (length-take-le (count * 2) nodes s.pairs) (length-take-le (count * 3) probabilities s.threes) (omega arith))
+        (rolled_at_lem rates (get_or calls step new_step) (get_or cashflows step nan) step flat vs s.climbs (omega (arith, s.counted)) _ _ count 0 (front_nodes count nodes) (take (count * 3) probabilities) out s.placed (length-take-le (count * 2) nodes s.pairs) (length-take-le (count * 3) probabilities s.threes) (omega arith))
 
     -- one step, those behind it passed
     pub walk_step : {r : Check} (q : Check) (behind rows : Both) {call : CallStep} → length behind.first ≡ one → length behind.second ≡ two → r ≡ Passed → rest_leaves r behind ≡ rest → call ≡ get_or calls step new_step

@@ -1,5 +1,5 @@
 -- `walk::discounts` meets its contract: exp of each exponent. Assumes nothing.
-use Prim.Native.Nat.{ℕ, ◌+◌, ◌≤◌}
+use Prim.Native.Nat.{ℕ, ◌≤◌}
 use mathlib.Core.Path.{◌≡◌, sym, ◌∙◌}
 use mathlib.Core.List.{List, ◌++◌}
 use native.Mathlib.Omega.{arith}
@@ -32,10 +32,10 @@ pub exponents-requires : goal.exponents-requires
 exponents-requires c = let start = c in omega (arith, room _ start.requires.0, start.requires.1)
 
 pub slice_bounds-xs-end-2 : goal.slice_bounds-xs-end-2
-slice_bounds-xs-end-2 c = let xs = c.exponents in inside _ c.requires.0 xs.new.1.1.1.0 xs.ensures.kept
+slice_bounds-xs-end-2 c = let xs = c.exponents in inside _ c.requires.0 xs.new.xs xs.ensures.kept
 
 pub slice_bounds-exp_row-end : goal.slice_bounds-exp_row-end
-slice_bounds-exp_row-end c = let xs = c.exponents in sym (written _ c.requires.0 xs.new.1.1.1.0 xs.ensures.kept)
+slice_bounds-exp_row-end c = let xs = c.exponents in sym (written _ c.requires.0 xs.new.xs xs.ensures.kept)
 
 pub slice_bounds-exp_row-end-2 : goal.slice_bounds-exp_row-end-2
 slice_bounds-exp_row-end-2 c = sym (length-take-le _ _ (omega arith))
@@ -47,12 +47,10 @@ pub exp_row-requires : goal.exp_row-requires
 exp_row-requires c =
     let xs = c.exponents in
     let few = c.requires.0 in
-    let n = sym (written _ few xs.new.1.1.1.0 xs.ensures.kept) in
+    let n = sym (written _ few xs.new.xs xs.ensures.kept) in
     (n, room _ few ∙ n, room _ few ∙ n)
 
 pub returns : goal.returns
 returns c =
-    let called = c in
-    let xs = called.before.before.before.before.before.before.exponents in
-    let start = called.before.before.before.before.before.before.before.before.before in
-    discounts_are (drop (length start.args.es.now) zeros) xs.ensures (room _ start.requires.0) called.exp-row.auto.1.0 called.exp-row.ensures
+    let xs = c.exponents in
+    discounts_are (drop (length c.args.es.now) zeros) xs.ensures (room _ c.requires.0) c.exp_row.auto.ys c.exp_row.ensures

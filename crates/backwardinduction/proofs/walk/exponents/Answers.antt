@@ -1,6 +1,6 @@
 -- `walk::exponents` meets its contract. The invariant: the entries passed hold their exponents, the others are as they were. Assumes nothing.
-use Prim.Native.Nat.{◌-◌}
 use native.Mathlib.Omega.{arith}
+use mir.Syntax.{w32}
 use mir.Facts.{to_z-of_z}
 use Rattle.elementary.specs.laws.Rows.{filled_none, filled-end}
 use Rattle.backwardinduction.specs.laws.Discounts.{exponents_more}
@@ -42,11 +42,8 @@ loop-i-smaller c = omega arith
 pub loop-i-preserved : goal.loop-i-preserved
 loop-i-preserved c =
     let start = c.args in
-    let node = to_z-of_z (record { sfits = c.node-1.given }) in
+    let node = to_z-of_z {w = w32} (record { sfits = c.node-1.given }) in
     (omega arith, exponents_more start.rates start.nodes.now start.from _ _ _ node c.exponent.ensures c.loop-i.invariant.1 (omega arith))
-
-pub shape_of-xs : goal.shape_of-xs
-shape_of-xs c = omega arith
 
 pub returns : goal.returns
 returns c = filled-end c.loop-i.invariant.1 c.loop-i.invariant.0 (omega arith)

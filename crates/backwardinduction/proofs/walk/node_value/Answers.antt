@@ -35,24 +35,12 @@ bounds-next-high c = spot-below c.args.flat c.args.count 1 _ c.spot-high.ensures
 pub summed-e-requires : goal.summed-e-requires
 summed-e-requires c = tt
 
-pub enum_known-e : goal.enum_known-e
-enum_known-e c = c.in-Value.keys1
-
-pub enum_told-1 : goal.enum_told-1
-enum_told-1 c = c.in_default.keys2
-
 pub returns-in_default : goal.returns-in_default
 unfolding value_with
 returns-in_default c = rw (← c.spot-low.ensures, ← c.spot-mid.ensures, ← c.spot-high.ensures) (search answers depth 20 fits 4000)
 
 pub discount-d-requires : goal.discount-d-requires
 discount-d-requires c = search answers
-
-pub enum_known-d : goal.enum_known-d
-enum_known-d c = c.in-Value-d.keys1
-
-pub enum_told-in_default-d : goal.enum_told-in_default-d
-enum_told-in_default-d c = c.in_default-d.keys2
 
 pub returns-in_default-d : goal.returns-in_default-d
 unfolding value_with

@@ -13,21 +13,19 @@ slice_bounds-discounts-end-then-left-lt64 c = sym (length-take-le _ _ (omega ari
 
 pub discounts-requires : goal.discounts-requires
 discounts-requires c =
-    let start = c in
-    let few = length-take-le (start.args.count - start.args.i) start.args.es.now (omega arith) in
+    let few = length-take-le (c.args.count - c.args.i) c.args.es.now (omega arith) in
     (omega (arith, few), omega (arith, few))
 
 pub returns-then-left-lt64 : goal.returns-then-left-lt64
 returns-then-left-lt64 c =
     let called = c.discounts in
-    let start = c in
-    let few = called.auto.1.1.1.0 ∙ length-take-le (start.args.count - start.args.i) start.args.es.now (omega arith) in
-    ahead_part _ (omega (arith, c.if-i-eq0.true)) (λ j l h. omega (arith, few)) (λ j h. get_or-append called.new.1.1.1.0 (drop (start.args.count - start.args.i) start.args.es.now) nan j h) called.ensures
+    let few = called.auto.es ∙ length-take-le (c.args.count - c.args.i) c.args.es.now (omega arith) in
+    ahead_part _ (omega (arith, c.if-i-eq0.true)) (λ j l h. omega (arith, few)) (λ j h. get_or-append called.new.es (drop (c.args.count - c.args.i) c.args.es.now) nan j h) called.ensures
 
 pub returns-then-i-eq0 : goal.returns-then-i-eq0
 returns-then-i-eq0 c =
     let called = c.discounts-then-i-eq0 in
-    ahead_part _ (omega (arith, c.if-i-eq0.true)) (λ j l h. omega (arith, called.auto.1.1.1.0)) (λ j h. refl) called.ensures
+    ahead_part _ (omega (arith, c.if-i-eq0.true)) (λ j l h. omega (arith, called.auto.es)) (λ j h. refl) called.ensures
 
 pub returns : goal.returns
 returns c = ahead_kept (λ z. c.if-i-eq0.false (omega arith)) c.requires.3

@@ -1,9 +1,10 @@
 -- `walk::roll` meets its contract. The invariant: what is left from node i on, over the row as it is, is the whole, and where the flag says so the factors of the part are at hand. Assumes nothing.
-use Prim.Native.Nat.{ℕ, ◌+◌, ◌-◌, ◌*◌, ◌%◌, ◌≤◌, ◌<◌}
+use Prim.Native.Nat.{ℕ, ◌+◌, ◌*◌, ◌%◌, ◌≤◌, ◌<◌}
 use mathlib.Core.Path.{◌≡◌, refl, sym, ◌∙◌}
 use mathlib.Core.Bool.{Bool, true, false}
 use mathlib.Core.List.{List}
 use native.Mathlib.Omega.{arith}
+use mir.Syntax.{w32}
 use mir.Facts.{to_z-of_z}
 use lib.ListN.{length, get_or, set, drop, drop_of_length-le, length-set}
 use lib.IntN.{ℤ, pos}
@@ -23,7 +24,7 @@ use Rattle.lattice.specs.laws.Stored.{middles_in}
 use Rattle.lattice.specs.laws.StoredAt.{drop_two, drop_three, middles_from_lem}
 use Rattle.lattice.specs.laws.Bounds.{Within}
 use Rattle.lattice.specs.laws.Reaching.{reach, nothing_below}
-use Rattle.lattice.specs.laws.Positions.{start_of, Layered, Roomy, Held, roomy_next}
+use Rattle.lattice.specs.laws.Positions.{start_of, Layered, Held, roomy_next}
 use Rattle.terms.specs.Checks.{refused_by}
 use Rattle.lattice.specs.laws.Rows.{outcome_of}
 use Rattle.lattice.specs.laws.Binds.{went_on, stopped_at}
@@ -31,6 +32,7 @@ use Rattle.backwardinduction.specs.laws.WalkSteps.{discount_with, value_with, ro
 use Rattle.backwardinduction.specs.laws.Discounts.{Ahead, ahead_none, ahead_count, ahead_next, ahead_here}
 use Rattle.forwardinduction.proofs.Outcomes.{passes}
 use Rattle.floats.proofs.Laws.{answers}
+use Rattle.backwardinduction.proofs.walk.roll.Invariants.{At}
 use Rattle.backwardinduction.proofs.walk.roll.Goals as goal
 
 module _ (nodes : List ℤ) (probabilities next row₀ : List Float) (flat : Bool) (rates : Rates) (call : CallStep) (cashflow : Float) (place : ℕ) where
@@ -40,22 +42,14 @@ module _ (nodes : List ℤ) (probabilities next row₀ : List Float) (flat : Boo
   abbrev from : Reach → ℕ → List Float → Outcome (List Float)
   from r i row = rolled_at rates call cashflow place flat next r i (drop (i * 2) nodes) (drop (i * 3) probabilities) row
 
-  record At (row : List Float) (r : Reach) (es : List Float) (known : Bool) (i : ℕ) : Type 0 where
-    within : i ≤ length row₀
-    same : length row ≡ length row₀
-    room : Roomy flat (length next) r (middles_in (drop (i * 2) nodes))
-    left : from r i row ≡ whole
-    part : length es ≡ 64
-    ahead : Ahead known rates nodes (length row₀) i i es
-
   module _ (l : Layered flat (length next) nodes probabilities (length row₀)) where
-    start : {r : Reach} {z : ℤ} (es : List Float) → length es ≡ 64 → z ≡ get_or nodes 1 (pos 0) → r ≡ nothing_below z → At row₀ r es false 0
+    start : {r : Reach} {z : ℤ} (es : List Float) → length es ≡ 64 → z ≡ get_or nodes 1 (pos 0) → r ≡ nothing_below z → At nodes probabilities next row₀ flat rates call cashflow place row₀ r es false 0
     start es p e f = rw (f, e) (record { within = omega arith; same = refl; room = l.roomy; left = refl; part = p; ahead = ahead_none })
 
     first : {z : ℤ} → z ≡ get_or nodes 1 (pos 0) → Within z
     first e = let b : 0 * 2 + 1 < length nodes = omega (arith, l.pairs, l.some-node) in rw e (roomy_next (rw (middles_from_lem nodes 0 b) at l.roomy)).within
 
-    module _ (row : List Float) (r : Reach) (es : List Float) (known : Bool) (i : ℕ) (a : At row r es known i) (t : i < length row) where
+    module _ (row : List Float) (r : Reach) (es : List Float) (known : Bool) (i : ℕ) (a : At nodes probabilities next row₀ flat rates call cashflow place row r es known i) (t : i < length row) where
       inside : i < length row₀
       inside = omega (arith, a.same)
 
@@ -90,7 +84,7 @@ module _ (nodes : List ℤ) (probabilities next row₀ : List Float) (flat : Boo
         unfolding on_answer outcome_of
         stopped x v e = rw (e, v) (sym (turn ∙ stopped_at _ _ (rw (k, g, n) at w) v) ∙ a.left)
 
-        stepped : {v : Float} {now : Bool} {fs : List Float} → length fs ≡ 64 → Ahead now rates nodes (length row) i (i + 1) fs → s ≡ Value v → At (set row i v) after fs now (i + 1)
+        stepped : {v : Float} {now : Bool} {fs : List Float} → length fs ≡ 64 → Ahead now rates nodes (length row) i (i + 1) fs → s ≡ Value v → At nodes probabilities next row₀ flat rates call cashflow place (set row i v) after fs now (i + 1)
         stepped p f v =
             rw (k, g)
             (record {
@@ -102,7 +96,7 @@ module _ (nodes : List ℤ) (probabilities next row₀ : List Float) (flat : Boo
               ahead = ahead_next (ahead_count a.same f);
             })
 
-    done : (row : List Float) (r : Reach) (es : List Float) (known : Bool) (i : ℕ) → At row r es known i → length row ≤ i → outcome_of Passed row ≡ whole
+    done : (row : List Float) (r : Reach) (es : List Float) (known : Bool) (i : ℕ) → At nodes probabilities next row₀ flat rates call cashflow place row r es known i → length row ≤ i → outcome_of Passed row ≡ whole
     unfolding rolled_at
     done row r es known i a h =
         let b : length nodes ≤ i * 2 = omega (arith, l.pairs, a.same) in
@@ -113,228 +107,154 @@ bounds-nodes-1 c = let s = c in omega (arith, s.requires.pairs, s.requires.three
 
 pub nothing_below-r-requires : goal.nothing_below-r-requires
 nothing_below-r-requires c =
-    let s = c in
-    let a = s.args in
-    first a.nodes.now a.probabilities.now a.next.now a.row.now a.flat a.rates a.call a.cashflow a.place s.requires (to_z-of_z (record { sfits = c.nothing_below-arg-1.given }))
+    let a = c.args in
+    first a.nodes.now a.probabilities.now a.next.now a.row.now a.flat a.rates a.call a.cashflow a.place c.requires (to_z-of_z {w = w32} (record { sfits = c.nothing_below-arg-1.given }))
 
 pub loop-i-init : goal.loop-i-init
 loop-i-init c =
-    let s = c in
-    start _ _ _ _ _ _ _ _ _ s.requires _ refl (to_z-of_z (record { sfits = c.nothing_below-arg-1.given })) c.nothing_below-r.ensures
+    start _ _ _ _ _ _ _ _ _ c.requires _ refl (to_z-of_z {w = w32} (record { sfits = c.nothing_below-arg-1.given })) c.nothing_below-r.ensures
 
 pub slice_bounds-refill-end : goal.slice_bounds-refill-end
 slice_bounds-refill-end c = sym c.loop-i.invariant.part
 
 pub refill-known-requires : goal.refill-known-requires
 refill-known-requires c =
-    let t = c in
-    let s = t.before.before.before.before.before.before.before in
-    let l = t.before.loop in
-    let f = given _ _ _ _ _ _ _ _ _ s.requires _ _ _ _ _ l.invariant t.loop-test.true in
-    (l.invariant.part, t.loop-test.true, omega (arith, s.requires.pairs, l.invariant.same), f)
+    let l = c.loop-i in
+    let f = given _ _ _ _ _ _ _ _ _ c.requires _ _ _ _ _ l.invariant c.loop-i-test.true in
+    (l.invariant.part, c.loop-i-test.true, omega (arith, c.requires.pairs, l.invariant.same), f)
 
 pub overflow_mul-node : goal.overflow_mul-node
 overflow_mul-node c =
-    let t = c in
-    let s = t.before.before.before.before.before.before.before in
-    omega (arith, s.requires.pairs, s.requires.threes, t.before.loop.invariant.same, t.loop-test.true, s.well-formed)
+    omega (arith, c.requires.pairs, c.requires.threes, c.loop-i.invariant.same, c.loop-i-test.true, c.well_formed)
 
 pub offset_bounds-nodes-i : goal.offset_bounds-nodes-i
 offset_bounds-nodes-i c =
-    let t = c in
-    let s = t.before.before.before.before.before.before.before in
-    omega (arith, s.requires.pairs, s.requires.threes, t.before.loop.invariant.same, t.loop-test.true, s.well-formed)
+    omega (arith, c.requires.pairs, c.requires.threes, c.loop-i.invariant.same, c.loop-i-test.true, c.well_formed)
 
 pub bounds-nodes-i : goal.bounds-nodes-i
 bounds-nodes-i c =
-    let t = c in
-    let s = t.before.before.before.before.before.before.before in
-    omega (arith, s.requires.pairs, s.requires.threes, t.before.loop.invariant.same, t.loop-test.true, s.well-formed)
+    omega (arith, c.requires.pairs, c.requires.threes, c.loop-i.invariant.same, c.loop-i-test.true, c.well_formed)
 
 pub overflow_mul-middle : goal.overflow_mul-middle
 overflow_mul-middle c =
-    let t = c in
-    let s = t.before.before.before.before.before.before.before in
-    omega (arith, s.requires.pairs, s.requires.threes, t.before.loop.invariant.same, t.loop-test.true, s.well-formed)
+    omega (arith, c.requires.pairs, c.requires.threes, c.loop-i.invariant.same, c.loop-i-test.true, c.well_formed)
 
 pub overflow_add-middle : goal.overflow_add-middle
 overflow_add-middle c =
-    let t = c in
-    let s = t.before.before.before.before.before.before.before in
-    omega (arith, s.requires.pairs, s.requires.threes, t.before.loop.invariant.same, t.loop-test.true, s.well-formed)
+    omega (arith, c.requires.pairs, c.requires.threes, c.loop-i.invariant.same, c.loop-i-test.true, c.well_formed)
 
 pub offset_bounds-nodes-i-in-loop-i : goal.offset_bounds-nodes-i-in-loop-i
 offset_bounds-nodes-i-in-loop-i c =
-    let t = c in
-    let s = t.before.before.before.before.before.before.before in
-    omega (arith, s.requires.pairs, s.requires.threes, t.before.loop.invariant.same, t.loop-test.true, s.well-formed)
+    omega (arith, c.requires.pairs, c.requires.threes, c.loop-i.invariant.same, c.loop-i-test.true, c.well_formed)
 
 pub bounds-nodes-i-in-loop-i : goal.bounds-nodes-i-in-loop-i
 bounds-nodes-i-in-loop-i c =
-    let t = c in
-    let s = t.before.before.before.before.before.before.before in
-    omega (arith, s.requires.pairs, s.requires.threes, t.before.loop.invariant.same, t.loop-test.true, s.well-formed)
+    omega (arith, c.requires.pairs, c.requires.threes, c.loop-i.invariant.same, c.loop-i-test.true, c.well_formed)
 
 pub reached-after-requires : goal.reached-after-requires
 reached-after-requires c =
-    let t = c in
-    let s = t.before.before.before.before.before.before.before in
-    let l = t.before.loop in
-    let h = held _ _ _ _ _ _ _ _ _ s.requires _ _ _ _ _ l.invariant t.loop-test.true (to_z-of_z (record { sfits = c.middle-1.given })) in
-    (omega (arith, h.counted, s.well-formed), h.within)
+    let l = c.loop-i in
+    let h = held _ _ _ _ _ _ _ _ _ c.requires _ _ _ _ _ l.invariant c.loop-i-test.true (to_z-of_z {w = w32} (record { sfits = c.middle-1.given })) in
+    (omega (arith, h.counted, c.well_formed), h.within)
 
 pub int_to_float-node : goal.int_to_float-node
 int_to_float-node c = tt
 
 pub overflow_mul-i : goal.overflow_mul-i
 overflow_mul-i c =
-    let t = c in
-    let s = t.before.before.before.before.before.before.before in
-    omega (arith, s.requires.pairs, s.requires.threes, t.before.loop.invariant.same, t.loop-test.true, s.well-formed)
+    omega (arith, c.requires.pairs, c.requires.threes, c.loop-i.invariant.same, c.loop-i-test.true, c.well_formed)
 
 pub offset_bounds-probabilities-i : goal.offset_bounds-probabilities-i
 offset_bounds-probabilities-i c =
-    let t = c in
-    let s = t.before.before.before.before.before.before.before in
-    omega (arith, s.requires.pairs, s.requires.threes, t.before.loop.invariant.same, t.loop-test.true, s.well-formed)
+    omega (arith, c.requires.pairs, c.requires.threes, c.loop-i.invariant.same, c.loop-i-test.true, c.well_formed)
 
 pub bounds-probabilities-i : goal.bounds-probabilities-i
 bounds-probabilities-i c =
-    let t = c in
-    let s = t.before.before.before.before.before.before.before in
-    omega (arith, s.requires.pairs, s.requires.threes, t.before.loop.invariant.same, t.loop-test.true, s.well-formed)
+    omega (arith, c.requires.pairs, c.requires.threes, c.loop-i.invariant.same, c.loop-i-test.true, c.well_formed)
 
 pub overflow_mul-i-in-loop-i : goal.overflow_mul-i-in-loop-i
 overflow_mul-i-in-loop-i c =
-    let t = c in
-    let s = t.before.before.before.before.before.before.before in
-    omega (arith, s.requires.pairs, s.requires.threes, t.before.loop.invariant.same, t.loop-test.true, s.well-formed)
+    omega (arith, c.requires.pairs, c.requires.threes, c.loop-i.invariant.same, c.loop-i-test.true, c.well_formed)
 
 pub overflow_add-i : goal.overflow_add-i
 overflow_add-i c =
-    let t = c in
-    let s = t.before.before.before.before.before.before.before in
-    omega (arith, s.requires.pairs, s.requires.threes, t.before.loop.invariant.same, t.loop-test.true, s.well-formed)
+    omega (arith, c.requires.pairs, c.requires.threes, c.loop-i.invariant.same, c.loop-i-test.true, c.well_formed)
 
 pub offset_bounds-probabilities-i-in-loop-i : goal.offset_bounds-probabilities-i-in-loop-i
 offset_bounds-probabilities-i-in-loop-i c =
-    let t = c in
-    let s = t.before.before.before.before.before.before.before in
-    omega (arith, s.requires.pairs, s.requires.threes, t.before.loop.invariant.same, t.loop-test.true, s.well-formed)
+    omega (arith, c.requires.pairs, c.requires.threes, c.loop-i.invariant.same, c.loop-i-test.true, c.well_formed)
 
 pub bounds-probabilities-i-in-loop-i : goal.bounds-probabilities-i-in-loop-i
 bounds-probabilities-i-in-loop-i c =
-    let t = c in
-    let s = t.before.before.before.before.before.before.before in
-    omega (arith, s.requires.pairs, s.requires.threes, t.before.loop.invariant.same, t.loop-test.true, s.well-formed)
+    omega (arith, c.requires.pairs, c.requires.threes, c.loop-i.invariant.same, c.loop-i-test.true, c.well_formed)
 
 pub overflow_mul-i-in-loop-i-2 : goal.overflow_mul-i-in-loop-i-2
 overflow_mul-i-in-loop-i-2 c =
-    let t = c in
-    let s = t.before.before.before.before.before.before.before in
-    omega (arith, s.requires.pairs, s.requires.threes, t.before.loop.invariant.same, t.loop-test.true, s.well-formed)
+    omega (arith, c.requires.pairs, c.requires.threes, c.loop-i.invariant.same, c.loop-i-test.true, c.well_formed)
 
 pub overflow_add-i-in-loop-i : goal.overflow_add-i-in-loop-i
 overflow_add-i-in-loop-i c =
-    let t = c in
-    let s = t.before.before.before.before.before.before.before in
-    omega (arith, s.requires.pairs, s.requires.threes, t.before.loop.invariant.same, t.loop-test.true, s.well-formed)
+    omega (arith, c.requires.pairs, c.requires.threes, c.loop-i.invariant.same, c.loop-i-test.true, c.well_formed)
 
 pub offset_bounds-probabilities-i-in-loop-i-2 : goal.offset_bounds-probabilities-i-in-loop-i-2
 offset_bounds-probabilities-i-in-loop-i-2 c =
-    let t = c in
-    let s = t.before.before.before.before.before.before.before in
-    omega (arith, s.requires.pairs, s.requires.threes, t.before.loop.invariant.same, t.loop-test.true, s.well-formed)
+    omega (arith, c.requires.pairs, c.requires.threes, c.loop-i.invariant.same, c.loop-i-test.true, c.well_formed)
 
 pub bounds-probabilities-i-in-loop-i-2 : goal.bounds-probabilities-i-in-loop-i-2
 bounds-probabilities-i-in-loop-i-2 c =
-    let t = c in
-    let s = t.before.before.before.before.before.before.before in
-    omega (arith, s.requires.pairs, s.requires.threes, t.before.loop.invariant.same, t.loop-test.true, s.well-formed)
+    omega (arith, c.requires.pairs, c.requires.threes, c.loop-i.invariant.same, c.loop-i-test.true, c.well_formed)
 
 pub offset_bounds-es-i : goal.offset_bounds-es-i
 offset_bounds-es-i c =
-    let t = c in
-    let s = t.before.before.before.before.before.before.before in
-    omega (arith, s.requires.pairs, s.requires.threes, t.before.loop.invariant.same, t.loop-test.true, s.well-formed)
+    omega (arith, c.requires.pairs, c.requires.threes, c.loop-i.invariant.same, c.loop-i-test.true, c.well_formed)
 
 pub bounds-es-i : goal.bounds-es-i
 bounds-es-i c = omega arith
 
 pub node_value-v-requires : goal.node_value-v-requires
 node_value-v-requires c =
-    let went = c in
-    let t = went.before.before.before.before.before.before in
-    let s = t.before.before.before.before.before.before.before in
-    let l = t.before.loop in
-    let h = held _ _ _ _ _ _ _ _ _ s.requires _ _ _ _ _ l.invariant t.loop-test.true (to_z-of_z (record { sfits = went.before.middle.given })) in
-    let node = to_z-of_z (record { sfits = went.before.before.node.given }) in
-    let f = factor _ _ _ _ _ _ _ _ _ s.requires _ _ _ _ _ l.invariant t.loop-test.true node went.before.before.before.before.refill.ensures in
-    rw went.reached.ensures (h.three, h.spot, f)
-
-pub enum_known-v : goal.enum_known-v
-enum_known-v c = c.in-Value.keys1
-
-pub enum_told-1 : goal.enum_told-1
-enum_told-1 c = c.in_default.keys2
+    let l = c.loop-i in
+    let h = held _ _ _ _ _ _ _ _ _ c.requires _ _ _ _ _ l.invariant c.loop-i-test.true (to_z-of_z {w = w32} (record { sfits = c.middle-1.given })) in
+    let node = to_z-of_z {w = w32} (record { sfits = c.node-1.given }) in
+    let f = factor _ _ _ _ _ _ _ _ _ c.requires _ _ _ _ _ l.invariant c.loop-i-test.true node c.refill-known.ensures in
+    rw c.reached-after.ensures (h.three, h.spot, f)
 
 pub refused_by-requires : goal.refused_by-requires
 refused_by-requires c = tt
 
-pub shape_of-row-in_default : goal.shape_of-row-in_default
-shape_of-row-in_default c = c.loop-i.invariant.same
-
 pub returns-in_default : goal.returns-in_default
 returns-in_default c =
-    let called = c in
-    let went = called.before.before.before.before.before in
-    let t = went.before.before.before.before.before.before in
-    let s = t.before.before.before.before.before.before.before in
-    let l = t.before.loop in
-    stopped _ _ _ _ _ _ _ _ _ s.requires _ _ _ _ _ l.invariant t.loop-test.true
-    (to_z-of_z (record { sfits = went.before.before.node.given }))
-    (to_z-of_z (record { sfits = went.before.middle.given }))
-    went.reached.ensures called.node-value.ensures _ c.in_default.is c.refused_by.ensures
+    let l = c.loop-i in
+    stopped _ _ _ _ _ _ _ _ _ c.requires _ _ _ _ _ l.invariant c.loop-i-test.true
+    (to_z-of_z {w = w32} (record { sfits = c.node-1.given }))
+    (to_z-of_z {w = w32} (record { sfits = c.middle-1.given }))
+    c.reached-after.ensures c.node_value-v.ensures _ c.in_default.is c.refused_by.ensures
 
 pub offset_bounds-row-i : goal.offset_bounds-row-i
 offset_bounds-row-i c =
-    let t = c in
-    let s = t.before.before.before.before.before.before.before in
-    omega (arith, s.requires.pairs, s.requires.threes, t.before.loop.invariant.same, t.loop-test.true, s.well-formed)
+    omega (arith, c.requires.pairs, c.requires.threes, c.loop-i.invariant.same, c.loop-i-test.true, c.well_formed)
 
 pub bounds-row-i : goal.bounds-row-i
 bounds-row-i c = search answers
 
 pub overflow_add-i-in-loop-i-2 : goal.overflow_add-i-in-loop-i-2
 overflow_add-i-in-loop-i-2 c =
-    let t = c in
-    let s = t.before.before.before.before.before.before.before in
-    omega (arith, t.loop-test.true, t.before.loop.invariant.same, s.well-formed)
+    omega (arith, c.loop-i-test.true, c.loop-i.invariant.same, c.well_formed)
 
 pub loop-i-smaller : goal.loop-i-smaller
 loop-i-smaller c =
-    let t = c in
-    let s = t.before.before.before.before.before.before.before in
-    omega (arith, s.requires.pairs, s.requires.threes, t.before.loop.invariant.same, t.loop-test.true, s.well-formed)
+    omega (arith, c.requires.pairs, c.requires.threes, c.loop-i.invariant.same, c.loop-i-test.true, c.well_formed)
 
 pub loop-i-preserved : goal.loop-i-preserved
 loop-i-preserved c =
-    let called = c in
-    let went = called.before.before.before.before.before in
-    let t = went.before.before.before.before.before.before in
-    let refilled = went.before.before.before.before.refill in
-    let s = t.before.before.before.before.before.before.before in
-    let l = t.before.loop in
-    stepped _ _ _ _ _ _ _ _ _ s.requires _ _ _ _ _ l.invariant t.loop-test.true
-    (to_z-of_z (record { sfits = went.before.before.node.given }))
-    (to_z-of_z (record { sfits = went.before.middle.given }))
-    went.reached.ensures called.node-value.ensures (refilled.auto.1.1.1.1.1.0 ∙ l.invariant.part) refilled.ensures c.in-Value.is
-
-pub shape_of-row : goal.shape_of-row
-shape_of-row c = c.loop-i.invariant.same
+    let refilled = c.refill-known in
+    let l = c.loop-i in
+    stepped _ _ _ _ _ _ _ _ _ c.requires _ _ _ _ _ l.invariant c.loop-i-test.true
+    (to_z-of_z {w = w32} (record { sfits = c.node-1.given }))
+    (to_z-of_z {w = w32} (record { sfits = c.middle-1.given }))
+    c.reached-after.ensures c.node_value-v.ensures (refilled.auto.es ∙ l.invariant.part) refilled.ensures c.in-Value.is
 
 pub returns : goal.returns
 returns c =
-    let s = c in
     let l = c.loop-i in
-    done _ _ _ _ _ _ _ _ _ s.requires _ _ _ _ _ l.invariant c.loop-i-test.false
+    done _ _ _ _ _ _ _ _ _ c.requires _ _ _ _ _ l.invariant c.loop-i-test.false
