@@ -1,5 +1,4 @@
 -- `walking::fill_row` meets its contract. The invariant: the places passed hold the value, the rest is as it was. Assumes nothing.
-use Prim.Native.Nat.{◌-◌}
 use Rattle.forwardinduction.proofs.Filling.{filling}
 use Rattle.rollback.proofs.walking.fill_row.Goals as goal
 
@@ -20,9 +19,6 @@ loop-i-smaller c = search filling
 
 pub loop-i-preserved : goal.loop-i-preserved
 loop-i-preserved c = search filling
-
-pub shape_of-row : goal.shape_of-row
-shape_of-row c = search filling
 
 pub returns : goal.returns
 returns c = search filling

@@ -11,7 +11,7 @@ pub fill_row-requires : goal.fill_row-requires
 fill_row-requires c = tt
 
 pub returns-then-step-eq0 : goal.returns-then-step-eq0
-returns-then-step-eq0 c = even-filled _ _ c.fill_row.new.0 _ _ _ c.if-step-eq0.true c.requires.0 c.fill_row.ensures
+returns-then-step-eq0 c = even-filled _ _ c.fill_row.new.row _ _ _ c.if-step-eq0.true c.requires.0 c.fill_row.ensures
 
 pub slice_bounds-fill_row-end-3 : goal.slice_bounds-fill_row-end-3
 slice_bounds-fill_row-end-3 c = sym (length-take-le _ _ c.requires.1)
@@ -20,4 +20,4 @@ pub fill_row-requires-2 : goal.fill_row-requires-2
 fill_row-requires-2 c = tt
 
 pub returns : goal.returns
-returns c = odd-filled _ _ c.fill_row-2.new.0 _ _ _ c.if-step-eq0.false c.requires.1 c.fill_row-2.ensures
+returns c = odd-filled _ _ c.fill_row-2.new.row _ _ _ c.if-step-eq0.false c.requires.1 c.fill_row-2.ensures

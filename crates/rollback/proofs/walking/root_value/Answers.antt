@@ -15,38 +15,20 @@ first_of [] = refl
 first_of (x ∷ row) = refl
 
 pub walk-behind-requires : goal.walk-behind-requires
-walk-behind-requires c = (c.requires.laid, ((c.requires.shifts_len.0, omega (arith, c.requires.shifts_len.1), c.requires.shifts_len.2), c.requires.marks_len))
-
-pub enum_known-behind : goal.enum_known-behind
-enum_known-behind c = c.in-Refused.keys1
-
-pub enum_told-1 : goal.enum_told-1
-enum_told-1 c = c.in_default.keys2
+walk-behind-requires c = record { laid = c.requires.laid; shifts_len = (c.requires.shifts_len.0, omega (arith, c.requires.shifts_len.1), c.requires.shifts_len.2); marks_len = c.requires.marks_len }
 
 pub current-row-requires : goal.current-row-requires
 current-row-requires c =
-    let front = fronted c.before.before.before.before.before.before.before.before.before.before.before.before.before.before.before.before.before.before.before.before.requires.0 in
-    (omega (arith, front.first_room, c.before.before.before.before.before.before.before.before.before.before.before.before.before.before.before.before.before.before.before.before.requires.1.0.0, c.walk.auto.1.1.1.1.1.1.1.1.1.1.1.1.0), omega (arith, front.second-room, c.before.before.before.before.before.before.before.before.before.before.before.before.before.before.before.before.before.before.before.before.requires.1.0.0, c.walk.auto.1.1.1.1.1.1.1.1.1.1.1.1.1.0))
+    let front = fronted c.requires.laid in
+    (omega (arith, front.first_room, c.requires.counts_value.0, c.walk-behind.auto.first), omega (arith, front.second-room, c.requires.counts_value.0, c.walk-behind.auto.second))
 
 pub bounds-row-0 : goal.bounds-row-0
 bounds-row-0 c =
-    let front = fronted c.before.before.before.before.before.before.before.before.before.before.before.before.before.before.before.before.before.before.before.before.before.before.requires.0 in
-    rw (c.current-row.ensures, current-length 0 1 c.walk.new.1.1.1.1.1.1.1.1.1.1.1.1.0 c.walk.new.1.1.1.1.1.1.1.1.1.1.1.1.1.0 (omega (arith, front.first_room, c.before.before.before.before.before.before.before.before.before.before.before.before.before.before.before.before.before.before.before.before.before.before.requires.1.0.0, c.walk.auto.1.1.1.1.1.1.1.1.1.1.1.1.0)) (omega (arith, front.second-room, c.before.before.before.before.before.before.before.before.before.before.before.before.before.before.before.before.before.before.before.before.before.before.requires.1.0.0, c.walk.auto.1.1.1.1.1.1.1.1.1.1.1.1.1.0))) (omega arith)
-
-pub shape_of-first-in_default : goal.shape_of-first-in_default
-shape_of-first-in_default c = c.walk.auto.1.1.1.1.1.1.1.1.1.1.1.1.0
-
-pub shape_of-second-in_default : goal.shape_of-second-in_default
-shape_of-second-in_default c = c.walk.auto.1.1.1.1.1.1.1.1.1.1.1.1.1.0
+    let front = fronted c.requires.laid in
+    rw (c.current-row.ensures, current-length 0 1 c.walk-behind.new.first c.walk-behind.new.second (omega (arith, front.first_room, c.requires.counts_value.0, c.walk-behind.auto.first)) (omega (arith, front.second-room, c.requires.counts_value.0, c.walk-behind.auto.second))) (omega arith)
 
 pub returns-in_default : goal.returns-in_default
-returns-in_default c = rw (c.current-row.ensures, first_of c.walk.new.1.1.1.1.1.1.1.1.1.1.1.1.0) (root-passed (get_or c.before.before.before.before.before.before.before.before.before.before.before.before.before.before.before.before.before.before.before.before.before.before.args.counts.now 0 0) c.before.before.before.before.before.before.before.before.before.before.before.before.before.before.before.before.before.before.before.before.before.before.args.nodes.now (record { first = c.walk.new.1.1.1.1.1.1.1.1.1.1.1.1.0; second = c.walk.new.1.1.1.1.1.1.1.1.1.1.1.1.1.0 }) c.walk.ensures c.enum_told.given.1 c.before.before.before.before.before.before.before.before.before.before.before.before.before.before.before.before.before.before.before.before.before.before.requires.1.0.0 c.before.before.before.before.before.before.before.before.before.before.before.before.before.before.before.before.before.before.before.before.before.before.requires.1.0.1 (omega (arith, (fronted c.before.before.before.before.before.before.before.before.before.before.before.before.before.before.before.before.before.before.before.before.before.before.requires.0).first_room, c.before.before.before.before.before.before.before.before.before.before.before.before.before.before.before.before.before.before.before.before.before.before.requires.1.0.0, c.walk.auto.1.1.1.1.1.1.1.1.1.1.1.1.0)))
-
-pub shape_of-first : goal.shape_of-first
-shape_of-first c = c.walk-behind.auto.1.1.1.1.1.1.1.1.1.1.1.1.0
-
-pub shape_of-second : goal.shape_of-second
-shape_of-second c = c.walk-behind.auto.1.1.1.1.1.1.1.1.1.1.1.1.1.0
+returns-in_default c = rw (c.current-row.ensures, first_of c.walk-behind.new.first) (root-passed (get_or c.args.counts.now 0 0) c.args.nodes.now (record { first = c.walk-behind.new.first; second = c.walk-behind.new.second }) c.walk-behind.ensures c.in_default.is c.requires.counts_value.0 c.requires.counts_value.1 (omega (arith, (fronted c.requires.laid).first_room, c.requires.counts_value.0, c.walk-behind.auto.first)))
 
 pub returns : goal.returns
-returns c = root-refused (get_or c.args.counts.now 0 0) c.args.nodes.now (record { first = c.walk-behind.new.1.1.1.1.1.1.1.1.1.1.1.1.0; second = c.walk-behind.new.1.1.1.1.1.1.1.1.1.1.1.1.1.0 }) c.walk-behind.ensures c.in-Refused.is
+returns c = root-refused (get_or c.args.counts.now 0 0) c.args.nodes.now (record { first = c.walk-behind.new.first; second = c.walk-behind.new.second }) c.walk-behind.ensures c.in-Refused.is

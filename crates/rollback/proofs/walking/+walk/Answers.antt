@@ -1,0 +1,54 @@
+-- `walking::walk` meets its contract. Assumes nothing.
+use Prim.Native.Nat.{◌+◌, ◌<◌}
+use mathlib.Core.Path.{◌≡◌, sym}
+use native.Mathlib.Nat.{le_refl}
+use native.Mathlib.Omega.{arith}
+use lib.ListN.{length}
+use lib.Seq.{length-take-le}
+use Rattle.lattice.specs.laws.Parts.{part_from, part_length}
+use Rattle.forwardinduction.specs.laws.LaidFront.{fronted, behind_of, laid-parts}
+use Rattle.forwardinduction.specs.laws.FitMore.{layered_of}
+use Rattle.backwardinduction.specs.laws.WalkMore.{calls_of}
+use Rattle.backwardinduction.specs.laws.WalkBack.{walk_last, walk-stopped, walk_step}
+use Rattle.rollback.proofs.walking.+walk.Goals as goal
+
+pub returns-then-spacings-eq0 : goal.returns-then-spacings-eq0
+returns-then-spacings-eq0 t c =
+    let a = c.args in
+    walk_last a.dt a.spread a.cashflows.now (calls_of a.marks.now a.prices.now) a.step (omega (arith, c.requires.shifts_len.1)) c.requires.laid a.shifts.now c.if-spacings-eq0.true (record { first = c.final_row.new.first; second = c.final_row.new.second }) c.final_row.ensures
+
+pub walk-behind-requires : goal.walk-behind-requires
+walk-behind-requires t c =
+    let some = c.if-spacings-eq0.false in
+    let lens = c.requires.shifts_len in
+    let some_spacing : 0 < length c.args.spacings.now = omega (arith, some) in
+    let e : length (part_from 1 c.args.spacings.now) + 1 ≡ length c.args.spacings.now = omega (arith, part_length 1 c.args.spacings.now, some_spacing) in
+    let f : length (part_from 1 c.args.shifts.now) + 1 ≡ length c.args.shifts.now = omega (arith, part_length 1 c.args.shifts.now, some_spacing, lens.0) in
+    (omega (arith, e), (laid-parts (behind_of c.requires.laid some), ((omega (arith, e, f, lens.0), omega (arith, e, lens.1), lens.2), c.requires.marks_len)))
+
+pub returns-in_default : goal.returns-in_default
+returns-in_default t c =
+    let a = c.args in
+    let rows = c.walk-behind.new in
+    walk-stopped a.dt a.spread a.cashflows.now (calls_of a.marks.now a.prices.now) a.step (omega (arith, c.requires.shifts_len.1)) c.requires.laid a.shifts.now c.if-spacings-eq0.false c.requires.shifts_len.0 (record { first = rows.first; second = rows.second }) (record { first = rows.first; second = rows.second }) c.in_default.is c.walk-behind.ensures
+
+pub slice_bounds-roll_step-end : goal.slice_bounds-roll_step-end
+slice_bounds-roll_step-end t c = sym (length-take-le _ _ (fronted c.requires.laid).pairs)
+
+pub slice_bounds-roll_step-end-2 : goal.slice_bounds-roll_step-end-2
+slice_bounds-roll_step-end-2 t c = sym (length-take-le _ _ (behind_of c.requires.laid c.if-spacings-eq0.false).stepped.threes)
+
+pub roll_step-requires-clause-count_in_bounds : goal.roll_step-requires-clause-count_in_bounds
+roll_step-requires-clause-count_in_bounds t c =
+    let s = (behind_of c.requires.laid c.if-spacings-eq0.false).stepped in
+    rw (c.walk-behind.auto.first, c.walk-behind.auto.second) (s.first_room, s.second-room, s.next_first, s.next_second)
+
+pub roll_step-requires-clause-layered : goal.roll_step-requires-clause-layered
+roll_step-requires-clause-layered t c = layered_of (behind_of c.requires.laid c.if-spacings-eq0.false).stepped _ (le_refl _)
+
+pub returns : goal.returns
+returns t c =
+    let a = c.args in
+    let rows = c.walk-behind in
+    let here = c.roll_step in
+    walk_step a.dt a.spread a.cashflows.now (calls_of a.marks.now a.prices.now) a.step (omega (arith, c.requires.shifts_len.1)) c.requires.laid a.shifts.now c.if-spacings-eq0.false c.requires.shifts_len.0 here.result (record { first = rows.new.first; second = rows.new.second }) (record { first = here.new.first; second = here.new.second }) rows.auto.first rows.auto.second c.in-Passed.is rows.ensures c.call_at-call.ensures here.ensures
