@@ -2,12 +2,6 @@
 
 use Rattle.latticevalue.proofs.value.counted_value.Goals as goal
 
-pub enum_known-answer : goal.enum_known-answer
-enum_known-answer c = c.in-Value.keys1
-
-pub enum_told-1 : goal.enum_told-1
-enum_told-1 c = c.in_default.keys2
-
 pub refusal_of-requires : goal.refusal_of-requires
 refusal_of-requires c = tt
 

@@ -1,6 +1,5 @@
 -- `lattice_value` meets its contract: the grid's calls as marks and prices, then the value (`Valued`). Assumes nothing.
-use mathlib.Core.Path.{sym, ◌∙◌}
-use lib.ListN.{length-map}
+use mathlib.Core.Path.{sym}
 use native.Mathlib.Omega.{arith}
 use lib.Seq.{length-take-le}
 use Rattle.treebasedbondpricer.specs.laws.Valued.{value_with-calls}
@@ -37,19 +36,7 @@ pub slice_bounds-value_over-end-6 : goal.slice_bounds-value_over-end-6
 slice_bounds-value_over-end-6 c = let p = c.requires in sym (length-take-le _ _ (omega arith))
 
 pub value_over-requires : goal.value_over-requires
-value_over-requires c = let p = c.requires in ((p.0, p.1, sym (length-map c.args.grid.cashflows _) ∙ c.well_formed.0.1.1.1.1.0.1.0.1, omega arith, omega arith), (length-take-le _ _ (omega arith), length-take-le _ _ (omega arith), length-take-le _ _ (omega arith)))
-
-pub shape_of-nodes : goal.shape_of-nodes
-shape_of-nodes c = c.value_over.auto.1.1.1.1.1.1.1.1.1.1.1.1.1.1.0
-
-pub shape_of-probabilities : goal.shape_of-probabilities
-shape_of-probabilities c = c.value_over.auto.1.1.1.1.1.1.1.1.1.1.1.1.1.1.1.0
-
-pub shape_of-first : goal.shape_of-first
-shape_of-first c = c.value_over.auto.1.1.1.1.1.1.1.1.1.1.1.1.1.1.1.1.0
-
-pub shape_of-second : goal.shape_of-second
-shape_of-second c = c.value_over.auto.1.1.1.1.1.1.1.1.1.1.1.1.1.1.1.1.1.0
+value_over-requires c = let p = c.requires in record { steps_nonzero = (p.0, p.1, c.well_formed.0.1.1.1.1.0.1.0.1, omega arith, omega arith); counts_len = (length-take-le _ _ (omega arith), length-take-le _ _ (omega arith), length-take-le _ _ (omega arith)) }
 
 pub returns : goal.returns
 returns c = value_with-calls _ _ _ _ c.value_over.ensures c.step_marks-marks.ensures c.step_prices-prices.ensures

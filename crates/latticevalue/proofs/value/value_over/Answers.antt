@@ -8,78 +8,30 @@ use Rattle.treebasedbondpricer.specs.laws.Valued.{standing, value-refused, value
 use Rattle.latticevalue.proofs.value.value_over.Goals as goal
 
 pub fitted_tree-f-requires : goal.fitted_tree-f-requires
-fitted_tree-f-requires c = let p = c.requires in ((p.0.0, p.0.1), p.1)
-
-pub enum_known-f : goal.enum_known-f
-enum_known-f c = c.in-Fitted.keys1
-
-pub enum_told-1 : goal.enum_told-1
-enum_told-1 c = c.in_default.keys2
+fitted_tree-f-requires c = let p = c.requires in record { steps_nonzero = (p.steps_nonzero.0, p.steps_nonzero.1); counts_len = p.counts_len }
 
 pub refusal-requires : goal.refusal-requires
 refusal-requires c = tt
-
-pub shape_of-counts-in_default : goal.shape_of-counts-in_default
-shape_of-counts-in_default c = c.fitted_tree-f.auto.1.1.1.1.1.1.1.0
-
-pub shape_of-spacings-in_default : goal.shape_of-spacings-in_default
-shape_of-spacings-in_default c = c.fitted_tree-f.auto.1.1.1.1.1.1.1.1.0
-
-pub shape_of-shifts-in_default : goal.shape_of-shifts-in_default
-shape_of-shifts-in_default c = c.fitted_tree-f.auto.1.1.1.1.1.1.1.1.1.0
-
-pub shape_of-nodes-in_default : goal.shape_of-nodes-in_default
-shape_of-nodes-in_default c = c.fitted_tree-f.auto.1.1.1.1.1.1.1.1.1.1.0
-
-pub shape_of-probabilities-in_default : goal.shape_of-probabilities-in_default
-shape_of-probabilities-in_default c = c.fitted_tree-f.auto.1.1.1.1.1.1.1.1.1.1.1.0
-
-pub shape_of-first-in_default : goal.shape_of-first-in_default
-shape_of-first-in_default c = c.fitted_tree-f.auto.1.1.1.1.1.1.1.1.1.1.1.1.0
-
-pub shape_of-second-in_default : goal.shape_of-second-in_default
-shape_of-second-in_default c = c.fitted_tree-f.auto.1.1.1.1.1.1.1.1.1.1.1.1.1.0
 
 pub returns-in_default : goal.returns-in_default
 returns-in_default c = value-refused _ c.fitted_tree-f.ensures c.in_default.is c.refusal.ensures
 
 pub root_value-answer-requires : goal.root_value-answer-requires
 root_value-answer-requires c =
-    let s = standing c.fitted-tree.ensures c.f.given.1 in
-    let kept = c.fitted-tree.auto in
-    let d = kept.1.1.1.1.1.1.1.1.1.0 in
-    let e = kept.1.1.1.1.1.1.1.1.0 in
-    let p = c.before.before.before.before.before.before.before.before.before.before.before.before.before.before.before.before.before.before.before.before.before.before.before.before.before.before.before.before.before.before.before.before.before.before.before.before.before.before.before.before.before.before.before.before.requires in
-    (laid-over kept.1.1.1.1.1.1.1.1.1.1.1.1.0 kept.1.1.1.1.1.1.1.1.1.1.1.1.1.0 s.fitted.stands.laid, ((root-count s.fitted.stands, s.fitted.stands.first_layer), ((omega arith, omega arith, omega arith), (omega arith, omega arith))))
+    let s = standing c.fitted_tree-f.ensures c.in-Fitted.is in
+    let kept = c.fitted_tree-f.auto in
+    let d = kept.shifts in
+    let e = kept.spacings in
+    let p = c.requires in
+    record { laid = laid-over kept.first kept.second s.fitted.stands.laid; counts_value = (root-count s.fitted.stands, s.fitted.stands.first_layer); shifts_len = (omega arith, omega arith, omega arith); marks_len = (omega arith, omega arith) }
 
 pub node_count-requires : goal.node_count-requires
 node_count-requires c =
-    let s = standing c.fitted-tree.ensures c.f.given.1 in
-    omega (arith, laid-total s.fitted.stands.laid, c.before.before.before.before.before.before.before.before.before.before.before.before.before.before.before.before.before.before.before.before.before.before.before.before.before.before.before.before.before.before.before.before.before.before.before.before.before.before.before.before.before.before.before.before.before.before.before.before.before.before.well-formed)
+    let s = standing c.fitted_tree-f.ensures c.in-Fitted.is in
+    omega (arith, laid-total s.fitted.stands.laid, c.well_formed)
 
 pub counted_value-requires : goal.counted_value-requires
 counted_value-requires c = tt
 
-pub shape_of-counts : goal.shape_of-counts
-shape_of-counts c = c.fitted-tree.auto.1.1.1.1.1.1.1.0
-
-pub shape_of-spacings : goal.shape_of-spacings
-shape_of-spacings c = c.fitted-tree.auto.1.1.1.1.1.1.1.1.0
-
-pub shape_of-shifts : goal.shape_of-shifts
-shape_of-shifts c = c.fitted-tree.auto.1.1.1.1.1.1.1.1.1.0
-
-pub shape_of-nodes : goal.shape_of-nodes
-shape_of-nodes c = c.fitted-tree.auto.1.1.1.1.1.1.1.1.1.1.0
-
-pub shape_of-probabilities : goal.shape_of-probabilities
-shape_of-probabilities c = c.fitted-tree.auto.1.1.1.1.1.1.1.1.1.1.1.0
-
-pub shape_of-first : goal.shape_of-first
-shape_of-first c = c.root_value_lem.auto.1.1.1.1.1.1.1.1.1.1.1.0 ∙ c.fitted-tree.auto.1.1.1.1.1.1.1.1.1.1.1.1.0
-
-pub shape_of-second : goal.shape_of-second
-shape_of-second c = c.root_value_lem.auto.1.1.1.1.1.1.1.1.1.1.1.1.0 ∙ c.fitted-tree.auto.1.1.1.1.1.1.1.1.1.1.1.1.1.0
-
 pub returns : goal.returns
-returns c = value_is (standing c.fitted-tree.ensures c.f.given.1) _ _ _ c.root_value_lem.ensures c.node_count.ensures c.counted_value.ensures
+returns c = value_is (standing c.fitted_tree-f.ensures c.in-Fitted.is) _ _ _ c.root_value-answer.ensures c.node_count.ensures c.counted_value.ensures

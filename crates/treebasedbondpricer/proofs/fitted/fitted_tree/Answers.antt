@@ -24,28 +24,7 @@ pub slice_bounds-fitted_over-end : goal.slice_bounds-fitted_over-end
 slice_bounds-fitted_over-end c = sym (length-take-le _ _ (omega arith))
 
 pub fitted_over-requires : goal.fitted_over-requires
-fitted_over-requires c = ((c.requires.steps_nonzero.0, c.requires.steps_nonzero.1, length-take-le _ _ (omega (arith, c.requires.steps_nonzero.1))), c.requires.counts_len)
-
-pub shape_of-counts : goal.shape_of-counts
-shape_of-counts c = c.fitted_over.auto.1.1.1.1.1.1.1.1.0
-
-pub shape_of-spacings : goal.shape_of-spacings
-shape_of-spacings c = c.fitted_over.auto.1.1.1.1.1.1.1.1.1.0
-
-pub shape_of-shifts : goal.shape_of-shifts
-shape_of-shifts c = c.fitted_over.auto.1.1.1.1.1.1.1.1.1.1.0
-
-pub shape_of-nodes : goal.shape_of-nodes
-shape_of-nodes c = c.fitted_over.auto.1.1.1.1.1.1.1.1.1.1.1.0
-
-pub shape_of-probabilities : goal.shape_of-probabilities
-shape_of-probabilities c = c.fitted_over.auto.1.1.1.1.1.1.1.1.1.1.1.1.0
-
-pub shape_of-first : goal.shape_of-first
-shape_of-first c = c.fitted_over.auto.1.1.1.1.1.1.1.1.1.1.1.1.1.0
-
-pub shape_of-second : goal.shape_of-second
-shape_of-second c = c.fitted_over.auto.1.1.1.1.1.1.1.1.1.1.1.1.1.1.0
+fitted_over-requires c = record { steps_nonzero = (c.requires.steps_nonzero.0, c.requires.steps_nonzero.1, length-take-le _ _ (omega (arith, c.requires.steps_nonzero.1))); counts_len = c.requires.counts_len }
 
 pub returns : goal.returns
 returns c = fits_as (rw (sym c.not_finite.ensures ∙ c.if-not_finite.false)) c.fitted_over.ensures

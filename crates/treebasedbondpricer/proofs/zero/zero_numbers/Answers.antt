@@ -21,8 +21,5 @@ loop-i-smaller c = search filling
 pub loop-i-preserved : goal.loop-i-preserved
 loop-i-preserved c = search filling
 
-pub shape_of-s : goal.shape_of-s
-shape_of-s c = search filling
-
 pub returns : goal.returns
 returns c = search filling

@@ -20,14 +20,8 @@ slice_bounds-tree_checks-end c = let few = c.timed_pillars-count.ensures in sym 
 pub tree_checks-check-requires : goal.tree_checks-check-requires
 tree_checks-check-requires c = fronted _ _ _ c.timed_pillars-count.ensures c.pillar_times-table.ensures
 
-pub enum_known-check : goal.enum_known-check
-enum_known-check c = c.in-Refused.keys1
-
 pub returns-in-Refused : goal.returns-in-Refused
 returns-in-Refused c = entered-refused _ _ c.tree_checks-check.ensures _ c.in-Refused.is
-
-pub enum_told-1 : goal.enum_told-1
-enum_told-1 c = c.in_default.keys2
 
 pub slice_bounds-checked_value-end : goal.slice_bounds-checked_value-end
 slice_bounds-checked_value-end c = let few = c.timed_pillars-count.ensures in sym (length-take-le _ _ (omega arith))
@@ -41,7 +35,7 @@ checked_value-value-requires c =
     let calls = (calls-sized _ _ _ _ passed refl).entries in
     let puts = (puts-sized _ _ _ _ passed refl).entries in
     let times = fronted _ _ _ c.timed_pillars-count.ensures c.pillar_times-table.ensures in
-    ((steps.some-steps, steps.few-steps), ((leg.few, leg.kinds_too, leg.amounts_too), ((calls.ends_too, calls.strikes_too), ((puts.ends_too, puts.strikes_too), times.timed (tree-few-pillars _ _ all)))))
+    record { le_maximum = (steps.some-steps, steps.few-steps); days_len_bound = (leg.few, leg.kinds_too, leg.amounts_too); ends_len = (calls.ends_too, calls.strikes_too); put_ends_len = (puts.ends_too, puts.strikes_too); curve_times_value = times.timed (tree-few-pillars _ _ all) }
 
 pub zero_numbers-requires : goal.zero_numbers-requires
 zero_numbers-requires c = tt
@@ -55,19 +49,7 @@ zero_floats-requires-2 c = tt
 pub zero_floats-requires-3 : goal.zero_floats-requires-3
 zero_floats-requires-3 c = tt
 
-pub shape_of-nodes : goal.shape_of-nodes
-shape_of-nodes c = c.zero_numbers.auto.0 ∙ c.checked_value-value.auto.1.1.1.1.1.1.1.1.1.1.1.1.1.1.1.1.1.1.1.1.0
-
-pub shape_of-probabilities : goal.shape_of-probabilities
-shape_of-probabilities c = c.zero_floats.auto.0 ∙ c.checked_value-value.auto.1.1.1.1.1.1.1.1.1.1.1.1.1.1.1.1.1.1.1.1.1.0
-
-pub shape_of-first_row : goal.shape_of-first_row
-shape_of-first_row c = c.zero_floats-2.auto.0 ∙ c.checked_value-value.auto.1.1.1.1.1.1.1.1.1.1.1.1.1.1.1.1.1.1.1.1.1.1.0
-
-pub shape_of-second_row : goal.shape_of-second_row
-shape_of-second_row c = c.zero_floats-3.auto.0 ∙ c.checked_value-value.auto.1.1.1.1.1.1.1.1.1.1.1.1.1.1.1.1.1.1.1.1.1.1.1.0
-
 pub returns : goal.returns
 returns c =
     let kept = c.checked_value-value.auto in
-    entered-zeroed _ _ c.tree_checks-check.ensures _ c.in_default.is c.checked_value-value.ensures c.zero_numbers.ensures c.zero_floats.ensures c.zero_floats-2.ensures c.zero_floats-3.ensures kept.1.1.1.1.1.1.1.1.1.1.1.1.1.1.1.1.1.1.1.1.0 kept.1.1.1.1.1.1.1.1.1.1.1.1.1.1.1.1.1.1.1.1.1.0 kept.1.1.1.1.1.1.1.1.1.1.1.1.1.1.1.1.1.1.1.1.1.1.0 kept.1.1.1.1.1.1.1.1.1.1.1.1.1.1.1.1.1.1.1.1.1.1.1.0
+    entered-zeroed _ _ c.tree_checks-check.ensures _ c.in_default.is c.checked_value-value.ensures c.zero_numbers.ensures c.zero_floats.ensures c.zero_floats-2.ensures c.zero_floats-3.ensures kept.nodes kept.probabilities kept.first kept.second

@@ -2,12 +2,6 @@
 
 use Rattle.treebasedbondpricer.proofs.fitted.FittedTree.refusal.Goals as goal
 
-pub enum_told-1 : goal.enum_told-1
-enum_told-1 c = c.in-Fitted.keys1
-
-pub enum_known-self : goal.enum_known-self
-enum_known-self c = c.in-Refused.keys2
-
 pub returns-in-Fitted : goal.returns-in-Fitted
 returns-in-Fitted c = rw c.in-Fitted.is
 
