@@ -11,7 +11,7 @@ use Rattle.bookchecks.specs.declared.Holding.{Holding}
 use Rattle.bookchecks.specs.declared.Lengths.{Lengths}
 use Rattle.bookchecks.specs.declared.BookCheck.{BookCheck}
 use Rattle.bookchecks.specs.declared.BookCheck.TheVariants.{Passed, Refused}
-use Rattle.bookchecks.specs.Book.{Shared, Fields, Lists, Book, size_of, before, amiss, holding_at, calls_of, market_of}
+use Rattle.bookchecks.specs.Book.{Shared, Fields, Lists, Book, size_of, amiss, holding_at, calls_of, market_of}
 
 -- ---- how bonds follow one another
 

@@ -1,15 +1,13 @@
 -- One bond's checks from their parts: the cut, then the checks of what was cut. Assumes nothing.
-use Rattle.std.specs.Prelude.{ℕ, zero, suc, ◌+◌, ◌-◌, ◌≤◌, ◌<◌, ◌≡◌, refl, Bool, true, false, ◌&&◌, ◌||◌, List, [], ◌∷◌, ltb, length, get_or, Float}
+use Rattle.std.specs.Prelude.{ℕ, zero, suc, ◌+◌, ◌-◌, ◌≤◌, ◌<◌, ◌≡◌, refl, Bool, true, ◌&&◌, ◌||◌, List, [], ◌∷◌, ltb, length, get_or, Float}
 use Rattle.std.proofs.Common.{arith, sym, ◌∙◌, inl, inr, lt-ltb, le-ltb}
 use Rattle.std.proofs.Math.Path.{ap}
 use Rattle.floats.specs.declared.Refusal.{Refusal}
 use Rattle.terms.specs.declared.Check.{Check}
 use Rattle.terms.specs.declared.Check.TheVariants.{Passed, Refused}
-use Rattle.terms.specs.Terms.{Leg, CallSchedule, Market}
 use Rattle.terms.specs.Checks.{on_check, first_of}
 use Rattle.terms.specs.Entries.{tree_checks}
 use Rattle.terms.specs.laws.Searching.{below_or_not}
-use Rattle.bookchecks.specs.declared.Part.{Part}
 use Rattle.bookchecks.specs.declared.Holding.{Holding}
 use Rattle.bookchecks.specs.Book.{Shared, Lists, cut, amiss, market_of, calls_of}
 use Rattle.bookchecks.specs.Checks.{leg_lengths, entry_lengths, cut_checks, bond_check}

@@ -1,5 +1,4 @@
 -- `all_checks` meets its contract: in the loop, no bond before i is refused. Assumes nothing.
-use Prim.Native.Nat.{◌-◌}
 use native.Mathlib.Omega.{arith}
 use Rattle.bookchecks.specs.laws.Naming.{begin, turn, found, done}
 use Rattle.bookchecks.proofs.checks.all_checks.Goals as goal

@@ -1,5 +1,4 @@
 -- `holdings` meets its contract: in the loop, the bonds before i stand in their places. Assumes nothing.
-use Prim.Native.Nat.{◌-◌}
 use native.Mathlib.Omega.{arith}
 use Rattle.bookchecks.specs.laws.Holdings.{fill-begin, fill_more, held}
 use Rattle.bookchecks.proofs.holdings.holdings.Goals as goal

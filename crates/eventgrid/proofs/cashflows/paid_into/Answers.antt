@@ -1,5 +1,5 @@
 -- `bondevents::cashflows::paid_into` meets its contract: the loop's invariant is `Paying`. Assumes nothing.
-use Prim.Native.Nat.{◌-◌, ◌≤◌}
+use Prim.Native.Nat.{◌≤◌}
 use native.Mathlib.Omega.{arith}
 use Rattle.bondevents.proofs.Paying.{paying}
 use Rattle.eventgrid.proofs.cashflows.paid_into.Goals as goal

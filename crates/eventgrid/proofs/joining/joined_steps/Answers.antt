@@ -1,5 +1,4 @@
 -- `eventgrid::joining::joined_steps` meets its contract: the loop's invariant is `Joining`. Assumes nothing.
-use Prim.Native.Nat.{◌-◌}
 use borrow.Author.Rules.{rules}
 use native.Mathlib.Omega.{arith}
 use Rattle.bondevents.proofs.Filling.{begin}

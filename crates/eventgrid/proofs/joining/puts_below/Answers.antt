@@ -1,5 +1,4 @@
 -- `eventgrid::joining::puts_below` meets its contract: in the loop, no put before the index is above its call. Assumes nothing.
-use Prim.Native.Nat.{◌-◌}
 use native.Mathlib.Omega.{arith}
 use mathlib.Core.Path.{refl, ap, ◌∙◌}
 use Rattle.bondevents.specs.Calls.{new_step, put_above}

@@ -1,5 +1,5 @@
 -- `bondevents::schedule::any_window` meets its contract: the loop's invariant: no entry before i is a window. Assumes nothing.
-use Prim.Native.Nat.{ℕ, ◌-◌}
+use Prim.Native.Nat.{ℕ}
 use mathlib.Core.Path.{◌≡◌}
 use native.Mathlib.Omega.{arith}
 use borrow.Author.Count.{below_more}

@@ -1,5 +1,4 @@
 -- `bondevents::schedule::over_entries` meets its contract: the loop's invariant is `Entering`. Assumes nothing.
-use Prim.Native.Nat.{◌-◌}
 use Rattle.bondevents.proofs.Entering.{entering}
 use Rattle.eventgrid.proofs.schedule.over_entries.Goals as goal
 
