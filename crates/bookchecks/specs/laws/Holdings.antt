@@ -1,13 +1,10 @@
--- A table of what the bonds hold: a loop that fills it from the front, and the same checks by it. Assumes nothing.
-use Rattle.std.specs.Prelude.{ℕ, ◌+◌, ◌<◌, ◌≤◌, ◌≡◌, false, List, length, get_or, set, replicate, ltb}
+-- A table of what the bonds hold: a loop that fills it from the front. Assumes nothing.
+use Rattle.std.specs.Prelude.{ℕ, ◌+◌, ◌<◌, ◌≤◌, ◌≡◌, false, List, length, get_or, set, replicate}
 use Rattle.std.proofs.Common.{arith, below_more, ap, ◌∙◌, length-set, get_or-set_same, get_or-set_other}
 use Rattle.std.proofs.lemmas.List.{length-replicate}
 use Rattle.std.specs.Float.{nan}
-use Rattle.terms.specs.Checks.{single}
 use Rattle.bookchecks.specs.declared.Holding.{Holding}
-use Rattle.bookchecks.specs.Book.{Shared, Fields, Lists, size_of, holding_at}
-use Rattle.bookchecks.specs.Checks.{first_refused, bond_check, desk_check}
-use Rattle.bookchecks.specs.laws.Naming.{same_first}
+use Rattle.bookchecks.specs.Book.{Fields, size_of, holding_at}
 
 -- The places before i hold what the rule f says.
 pub record Filling {A : Type 0} (f : ℕ → A) (d : A) (size i : ℕ) (table : List A) : Type 0 where
@@ -53,14 +50,7 @@ pub record Held (f : Fields) (table : List Holding) : Type 0 where
 pub held : (f : Fields) (i : ℕ) (table : List Holding) → size_of f ≤ i → Filling (holding_at f) past_end 32 i table → Held f table
 held f i table h s = record { at = λ k l. s.at k (omega arith) }
 
--- The checks by the table are those of the book.
-pub same_checks : (s : Shared) (l : Lists) (f : Fields) (table : List Holding) → Held f table → first_refused (λ i. bond_check s l (get_or table i past_end)) (size_of f) 0 ≡ first_refused (λ i. bond_check s l (holding_at f i)) (size_of f) 0
-same_checks s l f table h = same_first _ _ (size_of f) 0 (λ k m n. ap (bond_check s l) (h.at k (omega arith)))
-
--- So are the desks, and the check of them.
+-- So are the desks.
 pub desk_at : (f : Fields) (table : List Holding) → Held f table → (i : ℕ) → i < size_of f → (get_or table i past_end).desk ≡ get_or f.desks i 0
 unfolding holding_at
 desk_at f table h i l = ap (λ (z : Holding). z.desk) (h.at i l)
-
-pub same_desks : (f : Fields) (table : List Holding) → Held f table → first_refused (λ i. single 40 0 (ltb 7 (get_or table i past_end).desk)) (size_of f) 0 ≡ first_refused (desk_check f) (size_of f) 0
-same_desks f table h = same_first _ _ (size_of f) 0 (λ k m n. ap (λ (d : ℕ). single 40 0 (ltb 7 d)) (desk_at f table h k (omega arith)))

@@ -18,8 +18,9 @@ use Rattle.bookchecks.specs.declared.BookCheck.{BookCheck}
 use Rattle.bookchecks.specs.declared.BookCheck.TheVariants.{Passed, Refused}
 use Rattle.bookchecks.specs.Book.{Shared, Fields, Lists, Book, size_of, holding_at, market_of, calls_of}
 use Rattle.bookchecks.specs.Checks.{cut_checks, leg_lengths, entry_lengths, bond_check, first_refused, on_book, desk_check, book_checks}
-use Rattle.bookchecks.specs.laws.Naming.{same_first, all_pass}
-use Rattle.bookchecks.specs.laws.Holdings.{past_end, Held, same_checks, desk_at, same_desks}
+use Rattle.bookchecks.proofs.laws.Naming.{same_first, all_pass}
+use Rattle.bookchecks.specs.laws.Holdings.{past_end, Held, desk_at}
+use Rattle.bookchecks.proofs.laws.Holdings.{same_checks, same_desks}
 use Rattle.bookvalue.specs.declared.Valued.{Valued}
 use Rattle.bookvalue.specs.declared.BookAnswer.{BookAnswer}
 use Rattle.bookvalue.specs.Values.{bond_value, refused_tree, desk_of, refused_book, valued_book, book_by, book_value}

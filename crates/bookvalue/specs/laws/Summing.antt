@@ -15,7 +15,7 @@ use Rattle.terms.proofs.Laws.{same_at}
 use Rattle.bookchecks.specs.declared.BookCheck.{BookCheck}
 use Rattle.bookchecks.specs.declared.BookCheck.TheVariants as book
 use Rattle.bookchecks.specs.Checks.{first_refused, on_book}
-use Rattle.bookchecks.specs.laws.Naming.{Naming, begin, turn, found, done}
+use Rattle.bookchecks.proofs.laws.Naming.{Naming, begin, turn, found, done}
 use Rattle.bookvalue.specs.declared.BookSum.{BookSum}
 use Rattle.bookvalue.specs.declared.BookSum.TheVariants.{Sum, Refused}
 use Rattle.bookvalue.specs.Values.{each, sum_to, sum_check, desk_to}

@@ -15,7 +15,7 @@ use Rattle.bookchecks.specs.declared.BookCheck.{BookCheck}
 use Rattle.bookchecks.specs.declared.BookCheck.TheVariants.{Passed, Refused}
 use Rattle.bookchecks.specs.Book.{Shared, Lists, market_of, calls_of}
 use Rattle.bookchecks.specs.Checks.{first_refused, on_book}
-use Rattle.bookchecks.specs.laws.Naming.{Naming, begin, turn, found, done}
+use Rattle.bookchecks.proofs.laws.Naming.{Naming, begin, turn, found, done}
 use Rattle.bookvalue.specs.declared.Valued.{Valued}
 use Rattle.bookvalue.specs.Values.{refused_tree, placed}
 use Rattle.bookvalue.specs.laws.Placed.{placed-begin, placed_more}

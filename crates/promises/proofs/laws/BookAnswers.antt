@@ -22,7 +22,7 @@ use Rattle.bookchecks.specs.declared.BookCheck.{BookCheck}
 use Rattle.bookchecks.specs.declared.BookCheck.TheVariants as book
 use Rattle.bookchecks.specs.Book.{Shared, Fields, Lists, Book, size_of, holding_at, holding, market_of, calls_of, market_at, calls_at}
 use Rattle.bookchecks.specs.Checks.{leg_lengths, entry_lengths, cut_amiss, cut_checks, bond_check, first_refused, on_book, desk_check, book_checks}
-use Rattle.bookchecks.specs.laws.Naming.{FirstOf, first_refused_lem}
+use Rattle.bookchecks.proofs.laws.Naming.{FirstOf, first_refused_lem}
 use Rattle.bookvalue.specs.declared.BookAnswer.{BookAnswer}
 use Rattle.bookvalue.specs.Values.{refused_tree, placed, sum_check, desk_of, refused_book, accepted_book, summed_book, valued_book, book_by}
 use Rattle.bookvalue.specs.laws.Entered.{by_size, by_desks, by_bonds}

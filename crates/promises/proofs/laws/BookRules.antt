@@ -33,7 +33,7 @@ use Rattle.bookchecks.specs.declared.BookCheck.{BookCheck}
 use Rattle.bookchecks.specs.declared.BookCheck.TheVariants as book
 use Rattle.bookchecks.specs.Book.{Fields, Book, size_of, holding_at, holding, market_at, calls_at}
 use Rattle.bookchecks.specs.Checks.{leg_lengths, entry_lengths, cut_checks, bond_check, first_refused, on_book, desk_check, book_checks}
-use Rattle.bookchecks.specs.laws.Naming.{all_pass, pass_all, first_is, same_first, FirstOf, first_refused_lem}
+use Rattle.bookchecks.proofs.laws.Naming.{all_pass, pass_all, first_is, same_first, FirstOf, first_refused_lem}
 use Rattle.bookvalue.specs.declared.BookAnswer.{BookAnswer}
 use Rattle.bookvalue.specs.declared.Valued.{Valued}
 use Rattle.bookvalue.specs.Values.{refused_tree, placed, sum_to, sum_check, desk_of, refused_book, accepted_book, valued_book, book_by}

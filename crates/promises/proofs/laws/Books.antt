@@ -20,7 +20,7 @@ use Rattle.bookchecks.specs.declared.BookCheck.TheVariants as book
 use Rattle.treebasedbondpricer.specs.laws.PutLists.{put_list_rule}
 use Rattle.bookchecks.specs.Book.{Book, size_of, holding, market_at, calls_at}
 use Rattle.bookchecks.specs.Checks.{first_refused, book_checks}
-use Rattle.bookchecks.specs.laws.Naming.{all_pass, first_refused_lem}
+use Rattle.bookchecks.proofs.laws.Naming.{all_pass, first_refused_lem}
 use Rattle.bookvalue.specs.declared.BookAnswer.{BookAnswer}
 use Rattle.bookvalue.specs.Values.{bond_value, refused_tree, placed, sum_check, desk_of, refused_book, accepted_book, book_by, book_value}
 use Rattle.bookvalue.specs.Entry.{book_lent}

@@ -18,7 +18,7 @@ use Rattle.treebasedbondpricer.specs.Tree.{lattice_value_over, tree_value_over, 
 use Rattle.bookchecks.specs.declared.BookCheck.TheVariants as book
 use Rattle.bookchecks.specs.Book.{Book, market_at, calls_at}
 use Rattle.bookchecks.specs.Checks.{first_refused}
-use Rattle.bookchecks.specs.laws.Naming.{all_pass, pass_all}
+use Rattle.bookchecks.proofs.laws.Naming.{all_pass, pass_all}
 use Rattle.bookvalue.specs.declared.BookAnswer.{BookAnswer}
 use Rattle.bookvalue.specs.Values.{refused_tree, each, desk_of}
 use Rattle.bookvalue.specs.laws.Placed.{each-alike}

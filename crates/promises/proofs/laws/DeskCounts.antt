@@ -6,7 +6,7 @@ use Rattle.terms.specs.Checks.{single}
 use Rattle.bookchecks.specs.declared.BookCheck.TheVariants as book
 use Rattle.bookchecks.specs.Book.{Book}
 use Rattle.bookchecks.specs.Checks.{book_checks}
-use Rattle.bookchecks.specs.laws.Naming.{all_pass}
+use Rattle.bookchecks.proofs.laws.Naming.{all_pass}
 use Rattle.bookvalue.specs.Values.{each, desk_to, desk_counts, desk_of}
 use Rattle.promises.specs.OneCount.{total_to}
 use Rattle.promises.specs.Books.{size}

@@ -11,7 +11,7 @@ use Rattle.treebasedbondpricer.specs.Tree.{number_of, room_of}
 use Rattle.bookchecks.specs.declared.BookCheck.TheVariants as book
 use Rattle.bookchecks.specs.Book.{Book, market_at, calls_at}
 use Rattle.bookchecks.specs.Checks.{first_refused, on_book, book_checks}
-use Rattle.bookchecks.specs.laws.Naming.{all_pass, first_is, first_refused_lem}
+use Rattle.bookchecks.proofs.laws.Naming.{all_pass, first_is, first_refused_lem}
 use Rattle.bookvalue.specs.declared.BookAnswer.{BookAnswer}
 use Rattle.bookvalue.specs.Values.{bond_value, refused_tree, refused_book, valued_book, book_by, book_value}
 use Rattle.promises.specs.HostCallLists.{BookCall}

@@ -1,6 +1,6 @@
 -- `all_checks` meets its contract: in the loop, no bond before i is refused. Assumes nothing.
 use native.Mathlib.Omega.{arith}
-use Rattle.bookchecks.specs.laws.Naming.{begin, turn, found, done}
+use Rattle.bookchecks.proofs.laws.Naming.{begin, turn, found, done}
 use Rattle.bookchecks.proofs.checks.all_checks.Goals as goal
 
 pub loop-i-init : goal.loop-i-init

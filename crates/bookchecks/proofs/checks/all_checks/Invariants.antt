@@ -3,7 +3,7 @@ use Prim.Native.Nat.{◌-◌}
 use lib.ListN.{get_or}
 use Rattle.bookchecks.specs.Checks.{bond_check}
 use Rattle.bookchecks.specs.Slices.{shared_of, lists_of}
-use Rattle.bookchecks.specs.laws.Naming.{Naming}
+use Rattle.bookchecks.proofs.laws.Naming.{Naming}
 use Rattle.bookchecks.specs.laws.Holdings.{past_end}
 use Rattle.bookchecks.proofs.checks.all_checks.Given as goal
 

@@ -1,6 +1,6 @@
 -- `desk_checks` meets its contract: in the loop, no desk before i is refused. Assumes nothing.
 use native.Mathlib.Omega.{arith}
-use Rattle.bookchecks.specs.laws.Naming.{begin, turn, found, done}
+use Rattle.bookchecks.proofs.laws.Naming.{begin, turn, found, done}
 use Rattle.bookchecks.proofs.desks.desk_checks.Goals as goal
 
 pub loop-i-init : goal.loop-i-init

@@ -3,7 +3,7 @@ use Prim.Native.Nat.{◌-◌}
 use lib.ListN.{get_or}
 use lib.Dec.{ltb}
 use Rattle.terms.specs.Checks.{single}
-use Rattle.bookchecks.specs.laws.Naming.{Naming}
+use Rattle.bookchecks.proofs.laws.Naming.{Naming}
 use Rattle.bookchecks.specs.laws.Holdings.{past_end}
 use Rattle.bookchecks.proofs.desks.desk_checks.Given as goal
 

@@ -4,7 +4,7 @@ use borrow.Author.Rules.{rules}
 use native.Mathlib.Omega.{arith}
 use mathlib.Core.Path.{ap, ◌∙◌}
 use Rattle.lattice.specs.Layers.{Room}
-use Rattle.bookchecks.specs.laws.Naming.{all_pass}
+use Rattle.bookchecks.proofs.laws.Naming.{all_pass}
 use Rattle.bookvalue.specs.laws.Answers.{tree_refusal, no_values}
 use Rattle.bookvalue.specs.laws.Valuing.{value-begin, value_more, value-refused, values-done, same_room}
 use Rattle.bookvalue.proofs.values.all_values.Goals as goal
