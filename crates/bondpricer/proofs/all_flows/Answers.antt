@@ -1,5 +1,4 @@
 -- `all_flows` meets its contract. Assumes nothing.
-use Prim.Native.Nat.{◌-◌}
 use Rattle.bondpricer.proofs.Flowing.{start, paid, unpaid, stopped, done}
 use Rattle.floats.proofs.Laws.{answers}
 use Rattle.bondpricer.proofs.all_flows.Goals as goal

@@ -16,7 +16,7 @@ unfolding spread_at of_int of_bits
 returns-then-not_within c = search prices
 
 pub root_value-a-requires : goal.root_value-a-requires
-root_value-a-requires c = (c.requires.laid, (c.requires.root, (c.requires.steps, c.requires.calls)))
+root_value-a-requires c = record { laid = c.requires.laid; counts_value = c.requires.root; shifts_len = c.requires.steps; marks_len = c.requires.calls }
 
 pub enum_known-a : goal.enum_known-a
 enum_known-a c = search prices
