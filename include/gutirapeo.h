@@ -6,7 +6,7 @@
  * printed). No pointer may be null, that of an array of length 0 included. Lent slices and outputs must be
  * writable and overlap nothing else. No function keeps a pointer, allocates or traps.
  *
- * Link with the archive that `rt lib` in crates/host_c writes: crates/host_c/out/libhost_c.a
+ * Link with the archive that `tools/library` writes: target/staticlib/libhost.a
  */
 #ifndef GUTIRAPEO_H
 #define GUTIRAPEO_H
