@@ -1,5 +1,5 @@
 -- Definitions only. What the tree value entry promises: the value or refusal, and the end content of the four lent slices.
-use Rattle.std.specs.Prelude.{ℕ, ◌≡◌, List, Float}
+use Rattle.std.specs.Prelude.{ℕ, ◌≡◌, Float}
 use Rattle.terms.specs.Terms.{CallSchedule, Market}
 use Rattle.terms.specs.CallLists.{MadeFrom, Reordered}
 use Rattle.bondevents.specs.declared.GridAnswer.{GridAnswer}

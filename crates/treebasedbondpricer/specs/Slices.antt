@@ -1,5 +1,5 @@
 -- Definitions only. What the four lent slices hold, gathered: where a call begins, and where it ends.
-use Rattle.std.specs.Prelude.{ℕ, List, ℤ, Float}
+use Rattle.std.specs.Prelude.{List, ℤ, Float}
 use Rattle.std.specs.Borrow.{MutBor}
 use denote.Triple.Both.{Both}
 use Rattle.lattice.specs.Layers.{Room}

@@ -1,11 +1,9 @@
 -- Definitions only. lattice_value and the tree value entry, with what it leaves in the lent slices.
-use Rattle.std.specs.Prelude.{ℕ, ◌+◌, List, [], ◌∷◌, length, replicate, ℤ, pos, Float}
+use Rattle.std.specs.Prelude.{ℕ, List, length, replicate, ℤ, pos, Float}
 use Rattle.std.specs.Float.{binary64}
 use Rattle.std.specs.Float.Ieee.{div}
-use Rattle.floats.specs.declared.Refusal.{Refusal}
 use Rattle.floats.specs.declared.Answer.{Answer}
 use Rattle.floats.specs.Answers.{plus_zero}
-use Rattle.terms.specs.declared.Check.{Check}
 use Rattle.terms.specs.Numbers.{float}
 use Rattle.terms.specs.Terms.{CallSchedule, Market}
 use Rattle.terms.specs.Times.{time_from}
@@ -18,7 +16,7 @@ use Rattle.bondevents.specs.Grid.{event_grid}
 use Rattle.hullwhite.specs.Variance.{transition_variances, variances_from}
 use Rattle.treebasedbondpricer.specs.declared.TreeValue.{TreeValue}
 use Rattle.treebasedbondpricer.specs.declared.TreeValue.TheVariants.{Value, Refused}
-use Rattle.lattice.specs.Layers.{At, value_at, Room}
+use Rattle.lattice.specs.Layers.{value_at, Room}
 use Rattle.lattice.specs.Lattice.{Lattice, lattice, count_of, node_count}
 use Rattle.forwardinduction.specs.Fit.{fitted, shifts_from}
 use Rattle.backwardinduction.specs.Walk.{walk_from}

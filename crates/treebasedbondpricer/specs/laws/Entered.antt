@@ -24,7 +24,7 @@ use Rattle.bondevents.specs.Grid.{axis_of, event_grid}
 use Rattle.bondevents.proofs.Grids.{bounded}
 use Rattle.bondevents.specs.Parts.{grid_outcome}
 use Rattle.treebasedbondpricer.specs.declared.TreeValue.{TreeValue}
-use Rattle.treebasedbondpricer.specs.declared.TreeValue.TheVariants.{Value, Refused}
+use Rattle.treebasedbondpricer.specs.declared.TreeValue.TheVariants.{Refused}
 use Rattle.lattice.specs.Layers.{Room}
 use Rattle.treebasedbondpricer.specs.Tree.{Fitted, lattice_value_over, fitted_tree_over, lattice_value, fitted_tree, tree_value, curve_of, Lent, room_of, zeroed, lent_after}
 use Rattle.treebasedbondpricer.specs.Entry.{Entered}

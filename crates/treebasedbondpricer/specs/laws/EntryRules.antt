@@ -1,13 +1,9 @@
 -- The call-list rule and the reordering rule, of what the running entries answer. Assumes nothing.
-use Rattle.std.specs.Prelude.{◌≡◌, refl}
 use Rattle.std.proofs.Common.{sym, ap, subst, ◌∙◌}
-use Rattle.terms.specs.Terms.{CallSchedule, Market}
 use Rattle.bondevents.specs.declared.GridAnswer.{GridAnswer}
-use Rattle.treebasedbondpricer.specs.declared.TreeValue.{TreeValue}
-use Rattle.lattice.specs.Layers.{Room}
-use Rattle.treebasedbondpricer.specs.Tree.{tree_value, Lent, room_of, lent_after}
+use Rattle.treebasedbondpricer.specs.Tree.{tree_value, room_of, lent_after}
 use Rattle.treebasedbondpricer.specs.CallLists.{Thinned}
-use Rattle.treebasedbondpricer.specs.Entry.{Entered, EntryCallListRule, EntryReorderingRule}
+use Rattle.treebasedbondpricer.specs.Entry.{EntryCallListRule, EntryReorderingRule}
 use Rattle.treebasedbondpricer.specs.laws.CallLists.{call_list_rule, reordering_rule}
 
 pub entry_call_list_rule : EntryCallListRule

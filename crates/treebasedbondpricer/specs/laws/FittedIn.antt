@@ -1,5 +1,5 @@
 -- A fitted tree in the slices: its layers as fit and walk ask, its counts, spacings and shifts beside them. Assumes nothing.
-use Rattle.std.specs.Prelude.{ℕ, zero, suc, ◌+◌, ◌≡◌, refl, Bool, List, [], ◌∷◌, ◌++◌, length, get_or, drop, ℤ, Float}
+use Rattle.std.specs.Prelude.{ℕ, zero, suc, ◌≡◌, refl, Bool, List, ◌++◌, length, get_or, ℤ, Float}
 use Rattle.std.proofs.Common.{arith, sym, ap, subst, ◌∙◌, append-nil, drop_of_length-le}
 use Rattle.floats.specs.declared.Refusal.{Refusal}
 use Rattle.floats.specs.declared.Answer.{Answer}
@@ -7,7 +7,7 @@ use Rattle.terms.specs.declared.Check.{Check}
 use Rattle.terms.specs.declared.Check.TheVariants as check
 use Rattle.terms.specs.Terms.{HullWhite}
 use Rattle.terms.specs.Outcomes.{Outcome, given, refused, follow}
-use Rattle.terms.specs.laws.Outcomes.{Gives, gives, nothing, given_of, gives-follow, gives-valued, follow-given, follow-refused}
+use Rattle.terms.specs.laws.Outcomes.{Gives, gives, given_of, gives-follow, gives-valued, follow-given, follow-refused}
 use Rattle.hullwhite.specs.Variance.{transition_variances, variances_from, step_variance}
 use Rattle.hullwhite.specs.laws.Filled.{check_of, Filled}
 use Rattle.treebasedbondpricer.specs.declared.fitted.FittedTree.{FittedTree}

@@ -1,14 +1,13 @@
 -- The put-list rule and the reordering of puts, proved over any curve, and of the tree value: the walk's law with the lists' roles exchanged. Assumes nothing.
 use Rattle.std.specs.Prelude.{ℕ, ◌≡◌, T, Float}
 use Rattle.std.proofs.Math.Path.{refl, sym}
-use Rattle.std.proofs.Common.{ap, ◌∙◌}
+use Rattle.std.proofs.Common.{◌∙◌}
 use Rattle.std.specs.Float.Ieee.{le}
 use Rattle.floats.specs.declared.Answer.{Answer}
-use Rattle.terms.specs.declared.Check.TheVariants as check
 use Rattle.terms.specs.Terms.{CallSchedule, Market, bond_with_puts, with_puts}
 use Rattle.terms.specs.CallLists.{LoweredFrom, Reordered}
 use Rattle.terms.specs.Entries.{tree_checks}
-use Rattle.terms.specs.Outcomes.{Outcome, given}
+use Rattle.terms.specs.Outcomes.{given}
 use Rattle.terms.specs.laws.Outcomes.{given_or_refused, same_given}
 use Rattle.terms.specs.laws.Lockstep.{GivenOr27, is_given, is_27}
 use Rattle.terms.specs.laws.EntryChecks.{grid-terms, tree-grid, tree-puts-alike}
@@ -18,7 +17,6 @@ use Rattle.bondevents.specs.Grid.{grid_answer}
 use Rattle.bondevents.specs.laws.NoLower.{NoLowerGrid}
 use Rattle.bondevents.proofs.laws.GridAnswers.{Accepted, accepted, checked-puts, puts-reordered-accepted, answer-puts-reordered}
 use Rattle.lattice.specs.Layers.{Room}
-use Rattle.treebasedbondpricer.specs.declared.TreeValue.{TreeValue}
 use Rattle.treebasedbondpricer.specs.declared.TreeValue.TheVariants.{Value}
 use Rattle.treebasedbondpricer.specs.Tree.{lattice_value_over, tree_value_over, tree_value, curve_of, lent_after}
 use Rattle.treebasedbondpricer.specs.PutLists.{PutListRule, SamePutAnswers, PutReorderingRule, AnyCurvePutRule}

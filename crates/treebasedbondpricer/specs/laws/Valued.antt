@@ -1,11 +1,10 @@
 -- The walk's answer beside the node count, from a fitted tree in the slices. Assumes nothing.
-use Rattle.std.specs.Prelude.{ℕ, ◌+◌, ◌≡◌, Bool, List, map, length, ℤ, pos, Float}
+use Rattle.std.specs.Prelude.{ℕ, ◌≡◌, Bool, List, map, ℤ, pos, Float}
 use Rattle.std.proofs.Math.Path.{refl, sym, ap}
 use Rattle.std.proofs.Common.{subst, ◌∙◌}
 use Rattle.floats.specs.declared.Refusal.{Refusal}
 use Rattle.floats.specs.declared.Answer.{Answer}
 use Rattle.floats.specs.declared.Answer.TheVariants as answer
-use Rattle.floats.specs.Answers.{on_answer}
 use Rattle.terms.specs.Outcomes.{Outcome, given, refused, on_outcome, follow}
 use Rattle.terms.specs.laws.Outcomes.{follow-given, follow-refused}
 use Rattle.bondevents.specs.declared.CallStep.{CallStep}
@@ -15,11 +14,10 @@ use Rattle.treebasedbondpricer.specs.declared.TreeValue.TheVariants.{Value, Refu
 use Rattle.treebasedbondpricer.specs.declared.fitted.FittedTree.{FittedTree}
 use Rattle.treebasedbondpricer.specs.declared.fitted.FittedTree.TheVariants as tree
 use Rattle.lattice.specs.Layers.{At, value_at}
-use Rattle.lattice.specs.Lattice.{Layer, Lattice}
 use Rattle.backwardinduction.specs.laws.WalkRoot.{root_of}
 use Rattle.backwardinduction.specs.Walk.{walk_from}
 use Rattle.treebasedbondpricer.specs.Tree.{Fitted}
-use Rattle.lattice.specs.Lattice.{count_of, node_count}
+use Rattle.lattice.specs.Lattice.{node_count}
 use Rattle.lattice.specs.laws.Laid.{layers_in, final_in, Laid}
 use Rattle.lattice.specs.laws.Totals.{total_of, laid-nodes}
 use Rattle.backwardinduction.specs.laws.WalkMore.{calls_of}

@@ -1,5 +1,4 @@
 -- `zero::zero_numbers` meets its contract. The invariant: the places passed hold 0, the rest is as it was. Assumes nothing.
-use Prim.Native.Nat.{◌-◌}
 use Rattle.forwardinduction.proofs.Filling.{filling}
 use Rattle.treebasedbondpricer.proofs.zero.zero_numbers.Goals as goal
 
