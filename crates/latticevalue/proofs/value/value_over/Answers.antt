@@ -1,5 +1,4 @@
 -- `value_over` meets its contract: the fit, then the walk over what stands in the slices (`Valued`). Assumes nothing.
-use mathlib.Core.Path.{◌∙◌}
 use native.Mathlib.Omega.{arith}
 use Rattle.lattice.specs.laws.Totals.{laid-total}
 use Rattle.forwardinduction.specs.laws.LaidFront.{laid-over}
