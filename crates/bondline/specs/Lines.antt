@@ -1,5 +1,5 @@
 -- Definitions only. What a line says.
-use Rattle.std.specs.Prelude.{ℕ, ◌+◌, cond, List, length, get_or, take, ltb}
+use Rattle.std.specs.Prelude.{ℕ, ◌+◌, cond, List, length, get_or, ltb}
 use Rattle.bondline.specs.declared.Cause.TheVariants.{Byte}
 use Rattle.bondline.specs.declared.Entry.{Entry}
 use Rattle.bondline.specs.declared.Entry.TheVariants.{Refused}

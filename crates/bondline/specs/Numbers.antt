@@ -1,6 +1,5 @@
 -- Definitions only. Whole numbers and days, as the words of a line give them.
 use Rattle.std.specs.Prelude.{ℕ, suc, ◌+◌, ◌-◌, ◌*◌, Bool, cond, ◌&&◌, List, [], ◌∷◌, length, get_or, eqb, leb, ltb}
-use Rattle.calendar.specs.declared.Date.{Date}
 use Rattle.calendar.specs.declared.Dated.{Dated}
 use Rattle.calendar.specs.declared.Dated.TheVariants.{Day as On, NoSuchDate as Never, OutOfRange as Outside}
 use Rattle.calendar.specs.Calendar.{dated}

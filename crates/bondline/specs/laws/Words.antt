@@ -1,7 +1,6 @@
 -- A word stands within its line, and words of unequal length are not the same. Assumes nothing.
-use Rattle.std.specs.Prelude.{ℕ, zero, suc, ◌+◌, ◌-◌, ◌≤◌, min, ◌≡◌, refl, Bool, true, false, cond, ◌&&◌, List, [], ◌∷◌, length, take, drop, eqb}
-use Rattle.std.proofs.Common.{zero-le, arith, sym, ap, ◌∙◌, length-take, length-drop}
-use Rattle.bondline.specs.declared.Span.{Span}
+use Rattle.std.specs.Prelude.{ℕ, zero, suc, ◌≤◌, ◌≡◌, refl, Bool, true, false, cond, ◌&&◌, List, [], ◌∷◌, length, drop, eqb}
+use Rattle.std.proofs.Common.{zero-le, arith, ap, length-take, length-drop}
 use Rattle.bondline.specs.Bytes.{is_space, is_other, leading, run_end, same}
 use Rattle.bondline.specs.Words.{word_from, span_of, word_at}
 

@@ -1,5 +1,4 @@
 -- `commented_end` meets its contract: what was passed may stand in a comment. Assumes nothing.
-use Prim.Native.Nat.{◌-◌}
 use Rattle.bondline.proofs.Running.{running}
 use Rattle.bondline.proofs.bytes.commented_end.Goals as goal
 

@@ -1,5 +1,4 @@
 -- `past_spaces` meets its contract: what was passed are spaces. Assumes nothing.
-use Prim.Native.Nat.{◌-◌}
 use Rattle.bondline.proofs.Running.{running}
 use Rattle.bondline.proofs.bytes.past_spaces.Goals as goal
 

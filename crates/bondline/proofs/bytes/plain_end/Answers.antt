@@ -1,5 +1,4 @@
 -- `plain_end` meets its contract: what was passed may stand before a comment. Assumes nothing.
-use Prim.Native.Nat.{◌-◌}
 use Rattle.bondline.proofs.Running.{running}
 use Rattle.bondline.proofs.bytes.plain_end.Goals as goal
 

@@ -1,5 +1,4 @@
 -- `until` meets its contract: what was passed is not the byte that stops. Assumes nothing.
-use Prim.Native.Nat.{◌-◌}
 use Rattle.bondline.proofs.Running.{running}
 use Rattle.bondline.proofs.bytes.until.Goals as goal
 

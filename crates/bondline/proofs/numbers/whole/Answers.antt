@@ -1,6 +1,5 @@
 -- `whole` meets its contract: in the loop, what is left to read gives the whole number. Assumes nothing.
 use Rattle.bondline.specs.Numbers.{whole_of}
-use Prim.Native.Nat.{◌-◌}
 use Rattle.bondline.proofs.Reading.{reading}
 use Rattle.bondline.proofs.numbers.whole.Goals as goal
 

@@ -1,5 +1,4 @@
 -- `is_same` meets its contract: in the loop the bytes before i are the same. Assumes nothing.
-use Prim.Native.Nat.{◌-◌}
 use Rattle.bondline.proofs.Spans.{comparing}
 use Rattle.bondline.proofs.words.is_same.Goals as goal
 

@@ -1,5 +1,4 @@
 -- `place_in` meets its contract: in the loop no word before k is the word given. Assumes nothing.
-use Prim.Native.Nat.{◌-◌}
 use Rattle.bondline.proofs.Spans.{seeking}
 use Rattle.bondline.proofs.words.place_in.Goals as goal
 

@@ -1,5 +1,4 @@
 -- `span_of` meets its contract: in the loop the span is that of word i. Assumes nothing.
-use Prim.Native.Nat.{◌-◌}
 use Rattle.bondline.proofs.Spans.{spanning}
 use Rattle.bondline.proofs.words.span_of.Goals as goal
 

@@ -1,5 +1,4 @@
 -- `columns::put` meets its contract. Assumes nothing.
-use Prim.Native.Nat.{◌-◌}
 use Rattle.floats.proofs.Laws.{answers}
 use Rattle.bondreport.proofs.Putting.{put-begin, put-turn, put_full, put-done}
 use Rattle.bondreport.proofs.columns.put.Goals as goal

@@ -1,5 +1,4 @@
 -- `numbers::digits_left` meets its contract. Assumes nothing.
-use Prim.Native.Nat.{◌-◌}
 use Rattle.floats.proofs.Laws.{answers}
 use Rattle.bondreport.proofs.Digits.{digits-begin, digits-turn, digits-done}
 use Rattle.bondreport.proofs.numbers.digits_left.Goals as goal

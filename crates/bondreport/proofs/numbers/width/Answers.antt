@@ -1,5 +1,4 @@
 -- `numbers::width` meets its contract. Assumes nothing.
-use Prim.Native.Nat.{◌-◌}
 use Rattle.floats.proofs.Laws.{answers}
 use Rattle.bondreport.proofs.Digits.{count-begin, count_last, count_turn, count-done}
 use Rattle.bondreport.proofs.numbers.width.Goals as goal
