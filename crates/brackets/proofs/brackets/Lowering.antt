@@ -1,5 +1,5 @@
 -- One widening of a bracket whose lower end is to move, told from the end that is tried. Over any objective. Assumes nothing.
-use mathlib.Core.Path.{◌≡◌, sym, ap, ◌∙◌}
+use mathlib.Core.Path.{◌≡◌, ap, ◌∙◌}
 use mathlib.Core.Bool.{true, false, cond}
 use lib.Ieee.{Float, binary64, sub, neg, lt}
 use Rattle.floats.specs.declared.Answer.{Answer}

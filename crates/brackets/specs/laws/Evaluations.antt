@@ -1,6 +1,6 @@
 -- How many evaluations a round and the whole search can make: at most 386. Over any objective. Assumes nothing.
 use Prim.Native.Nat.{ℕ, zero, suc, ◌+◌, ◌*◌, ◌≤◌}
-use Rattle.std.specs.Prelude.{◌≡◌, not, Float}
+use Rattle.std.specs.Prelude.{Float}
 use Rattle.std.proofs.Math.Nat.{le_trans}
 use native.Mathlib.Omega.{arith}
 use Rattle.floats.specs.declared.Refusal.{Refusal}

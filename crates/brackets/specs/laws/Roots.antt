@@ -1,7 +1,7 @@
 -- What a root that bracketed_root answers with is: the objective there is within 1e-12 of 0, or it is the middle of a last bracket less than 1e-14 wide at whose ends the objective is neither both above 0 nor both below. Over any objective. Assumes nothing.
 use Prim.Native.Nat.{ℕ, zero, suc}
 use Rattle.std.specs.Prelude.{◌≡◌, refl, Bool, true, false, not, cond, ◌&&◌, ◌||◌, Float}
-use Rattle.std.proofs.Common.{sym, ap, subst, ◌∙◌}
+use Rattle.std.proofs.Common.{sym, ap, subst}
 use Rattle.std.specs.Float.{binary64}
 use Rattle.std.specs.Float.Ieee.{sub, lt, le, eq}
 use Rattle.floats.specs.declared.Refusal.{Refusal}
