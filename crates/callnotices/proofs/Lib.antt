@@ -1,3 +1,4 @@
 pub mod Looking
 pub mod Climbing
 pub mod Listing
+pub mod laws

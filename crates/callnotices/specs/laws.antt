@@ -4,7 +4,3 @@ pub mod Answers
 pub mod Appending
 pub mod Firsts
 pub mod Alike
-pub mod Pairs
-pub mod AnyOrder
-pub mod RisingSeries
-pub mod ListAccepted

@@ -21,7 +21,7 @@ use Rattle.callnotices.specs.Rules.{Highest, BySeries, RisingSeries}
 use Rattle.callnotices.specs.laws.Answers.{accepted, passed_counted, passed-each, passed_of}
 use Rattle.callnotices.specs.laws.Appending.{map_at}
 use Rattle.callnotices.specs.laws.Firsts.{both, both_of, first_holds, first_below, highest-over, HighestOf, no_version, version, highest_of}
-use Rattle.callnotices.specs.laws.AnyOrder.{Single, one_version}
+use Rattle.callnotices.proofs.laws.AnyOrder.{Single, one_version}
 
 module _ (n : Notices) (parallel : Parallel n) where
   -- A set notice of a series, of which no version is higher.

@@ -20,7 +20,7 @@ use Rattle.callnotices.specs.laws.Answers.{accepted, refused, passed-each}
 use Rattle.callnotices.specs.laws.Appending.{map_next}
 use Rattle.callnotices.specs.laws.Firsts.{both_of, first_holds, first_none, first_below, highest-over, HighestOf, no_version, version, highest_of}
 use Rattle.callnotices.specs.laws.Alike.{Alike, both_pass, both_refuse}
-use Rattle.callnotices.specs.laws.Pairs.{Same, Pairs, forward, backward, repeat_two, checks-alike}
+use Rattle.callnotices.proofs.laws.Pairs.{Same, Pairs, forward, backward, repeat_two, checks-alike}
 
 -- ---- the highest version of a series
 

@@ -21,7 +21,7 @@ use Rattle.callnotices.specs.Lists.{in_places, list_of, schedule_of}
 use Rattle.callnotices.specs.Rules.{ListAccepted}
 use Rattle.callnotices.specs.laws.Answers.{accepted, passed_counted, passed-each, passed_of}
 use Rattle.callnotices.specs.laws.Appending.{map_at}
-use Rattle.callnotices.specs.laws.RisingSeries.{entry_set}
+use Rattle.callnotices.proofs.laws.RisingSeries.{entry_set}
 
 few_more : (is : List ℕ) (i s : ℕ) (b : Bool) → length is ≤ s → length (cond b (is ++ (i ∷ [])) is) ≤ suc s
 few_more is i s true h = let n : length (is ++ (i ∷ [])) ≡ length is + 1 = length-append is (i ∷ []) in omega arith
