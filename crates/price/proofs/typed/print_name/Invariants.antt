@@ -6,4 +6,4 @@ abbrev pub invariant-loop-left : goal.invariant-loop-left
 invariant-loop-left l = Unit {0}
 
 abbrev pub decreases-loop-left : goal.decreases-loop-left
-decreases-loop-left l = left
+decreases-loop-left l = l.left
