@@ -1,12 +1,13 @@
 -- `year_of` meets its contract. Assumes nothing.
+use mathlib.Core.Path.{refl}
 use lib.Ieee.{of_int, of_bits}
-use Rattle.terms.proofs.Laws.{tests}
+use borrow.Author.Tests.{ne_eqb}
 use Rattle.terms.proofs.time.year_of.Goals as goal
 
 pub returns-then-code-eq0 : goal.returns-then-code-eq0
 unfolding of_int of_bits
-returns-then-code-eq0 c = search tests
+returns-then-code-eq0 c = rw c.if-code-eq0.true refl
 
 pub returns : goal.returns
 unfolding of_int of_bits
-returns c = search tests
+returns c = rw (ne_eqb _ _ c.if-code-eq0.false) refl
