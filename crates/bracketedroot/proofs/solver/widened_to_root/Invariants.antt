@@ -1,7 +1,6 @@
 -- `solver::widened_to_root` meets its contract. Assumes nothing.
 use Rattle.sought.specs.laws.Sought.{tree_parts, sought_at, Rows}
 use Rattle.bracketedroot.proofs.solver.Rounds.{Widening}
-use Rattle.interestrate.proofs.Laws.{prices}
 use Rattle.bracketedroot.proofs.solver.widened_to_root.Given as goal
 
 abbrev pub invariant-loop-left : goal.invariant-loop-left
