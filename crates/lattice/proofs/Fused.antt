@@ -11,6 +11,8 @@ use Rattle.floats.specs.laws.Propagation.{add_left, add_right, sub-left, sub_rig
 use Rattle.terms.specs.Outcomes.{Outcome, given, finite_then, refuse}
 use Rattle.lattice.specs.declared.Middle.{Middle}
 use Rattle.lattice.specs.declared.Transition.{Transition}
+use Rattle.floats.specs.Answers.{plus_zero}
+use Rattle.floats.specs.Extremes.{max_of}
 use Rattle.lattice.specs.Transitions.{Step, too_low, clamped, middle_of}
 use Rattle.lattice.specs.laws.Making.{six, three, shares, chances, centred, held, state_of, expectation_of, quotient_of, from_rounded}
 
@@ -34,6 +36,10 @@ test_before true false h e = absurd (h tt)
 test_before false d h e = refl
 
 -- ---- the parts of a transition
+
+pub clamped-shares : (middle : ℤ) (down mid up : Float) (place : ℕ) → shares middle (max_of down plus_zero) (max_of mid plus_zero) (max_of up plus_zero) place ≡ clamped middle down mid up place
+unfolding shares clamped
+clamped-shares middle down mid up place = refl
 
 pub shares-fused : (middle : ℤ) (d m u : Float) (place : ℕ)
     → shares middle d m u place

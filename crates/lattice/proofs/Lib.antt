@@ -2,3 +2,4 @@
 pub mod Laws
 pub mod Fused
 pub mod Signed
+pub mod theorems

@@ -1,23 +1,18 @@
 -- What a step that was grown brings: its transitions go along its layer, the next layer is known, its spacing is not below 0, and it fits. Assumes nothing.
-use Rattle.std.specs.Prelude.{ℕ, ◌+◌, ◌<◌, ◌≡◌, refl, Bool, true, false, cond, List, [], ◌∷◌, T, length, ℤ, Float}
-use Rattle.std.proofs.Common.{arith}
-use Rattle.std.specs.Float.Ieee.{le}
+use Rattle.std.specs.Prelude.{◌+◌, ◌≡◌, refl, Bool, true, false, cond, List, length, ℤ}
 use Rattle.floats.specs.declared.Refusal.{Refusal}
-use Rattle.floats.specs.Answers.{plus_zero}
 use Rattle.rounded.specs.laws.RootBounds.{NotBelow}
 use Rattle.terms.specs.Outcomes.{Outcome, refused}
-use Rattle.terms.specs.laws.Outcomes.{Gives, gives, nothing, gives-follow}
-use Rattle.lattice.specs.declared.Transition.{Transition}
-use Rattle.lattice.specs.Layers.{Room, fits}
+use Rattle.terms.specs.laws.Outcomes.{Gives, nothing}
+use Rattle.lattice.specs.Layers.{Room}
 use Rattle.lattice.specs.Transitions.{Step}
 use Rattle.lattice.specs.Lattice.{destinations}
-use Rattle.lattice.specs.laws.RoomTest.{Fitting, fitting}
-use Rattle.lattice.specs.laws.RisingMiddles.{Climbs, around-laid}
-use Rattle.lattice.specs.laws.Middles.{Along, transitions-along}
-use Rattle.lattice.specs.laws.NextLayer.{NextLayer, next_layer, step-sound, upright}
-use Rattle.lattice.specs.laws.Growing.{Grew, grown_next}
+use Rattle.lattice.specs.laws.RoomTest.{Fitting}
+use Rattle.lattice.specs.laws.Middles.{Along}
+use Rattle.lattice.specs.laws.NextLayer.{NextLayer}
+use Rattle.lattice.specs.laws.Growing.{Grew}
 
-gives-true : {A : Type 0} {P : A → Type 0} (b : Bool) (o : Outcome A) (r : Refusal) → (b ≡ true → Gives P o) → Gives P (cond b o (refused r))
+pub gives-true : {A : Type 0} {P : A → Type 0} (b : Bool) (o : Outcome A) (r : Refusal) → (b ≡ true → Gives P o) → Gives P (cond b o (refused r))
 gives-true true o r h = h refl
 gives-true false o r h = nothing
 
@@ -29,17 +24,3 @@ pub record Next (room : Room) (nodes : List ℤ) (g : Grew) : Type 0 where
   pub next : NextLayer g.transitions
   pub new : NotBelow g.spacing
   pub fit : Fitting room (length nodes + length (destinations g.transitions)) (length (destinations g.transitions))
-
-pub grown_next_lem : (room : Room) (decay spacing : Float) (low : ℤ) (nodes : List ℤ) (k : ℕ) (v : Float) → 0 < length nodes → Climbs low nodes → T (le plus_zero spacing) → T (le plus_zero decay) → Gives (Next room nodes) (grown_next room decay spacing nodes k v)
-unfolding grown_next
-grown_next_lem room decay spacing low [] k v h c a b = absurd (omega arith)
-grown_next_lem room decay spacing low (n ∷ ns) k v h c a b =
-    gives-follow _ _ (step-sound spacing decay v k) λ s sound.
-    gives-follow _ _ (transitions-along s (n ∷ ns)) λ ts along.
-    let d = length (destinations ts) in
-    gives-true (fits room (length (n ∷ ns) + d) d) _ _ λ e.
-    gives (record { step = s; along = along; next = next_layer (upright sound a b) c along; new = sound.new; fit = fitting room (length (n ∷ ns) + d) d e })
-
--- The next layer has nodes.
-pub next_some : {ts : List Transition} → NextLayer ts → 0 < length (destinations ts)
-next_some x = rw (x.around_them, around-laid 0 x.first x.others x.rising) (omega arith)

@@ -13,9 +13,8 @@ use Rattle.lattice.specs.declared.reach.Reach.{Reach}
 use Rattle.lattice.specs.Layers.{below}
 use Rattle.lattice.specs.laws.IntegerOrder.{up, up_pred, up_suc, below_up, at_base}
 use Rattle.lattice.specs.laws.Reaching.{reach_one, reach, reach_all, nothing_below, reach_one-count, reach-count}
-use Rattle.lattice.specs.laws.RisingMiddles.{Rising, around, laid_one, laid_three, laid, done_at, around-laid}
+use Rattle.lattice.specs.laws.RisingMiddles.{laid_one, laid_three, laid}
 use Rattle.lattice.specs.laws.Counting.{middles_from}
-use Rattle.lattice.specs.laws.Replaying.{first_reach}
 use Rattle.lattice.specs.laws.Stored.{last_pairs}
 use Rattle.lattice.specs.laws.StoredAt.{two_more}
 use Rattle.lattice.specs.laws.FilledLayer.{set-second}
@@ -144,11 +143,6 @@ first_based : (t : List ℤ) (b : ℤ) → First t (suc_ℤ (suc_ℤ b))
 unfolding First up
 first_based t b = rw (pred-suc (suc_ℤ b), pred-suc b) (three_b b t)
 
-first_laid : (m : ℤ) (t : List ℤ) → laid_three (nothing_below m) m t ≡ pred_ℤ m ∷ m ∷ suc_ℤ m ∷ t
+pub first_laid : (m : ℤ) (t : List ℤ) → laid_three (nothing_below m) m t ≡ pred_ℤ m ∷ m ∷ suc_ℤ m ∷ t
 unfolding First
 first_laid m t = at_base (First t) (at_base (λ (b : ℤ). First t (suc_ℤ b)) (first_based t)) m
-
--- What is laid from the first middle on is the sorted set of destinations.
-pub laid-around : (m : ℤ) (ms : List ℤ) → Rising m ms → laid (nothing_below m) (m ∷ ms) ≡ around (m ∷ ms)
-unfolding laid
-laid-around m ms r = rw (first_reach m) (first_laid m (laid (done_at m 3) ms) ∙ sym (around-laid 3 m ms r))

@@ -1,6 +1,6 @@
 -- A layer that was grown, in front of the tree laid behind it: the parts read back, and the tree with this layer in front. Assumes nothing.
 use Rattle.std.specs.Prelude.{ℕ, ◌+◌, ◌*◌, ◌≤◌, ◌≡◌, refl, false, List, ◌∷◌, ◌++◌, length, get_or, take, drop, ℤ, pos, Float}
-use Rattle.std.proofs.Common.{arith, sym, length-append, length-drop, length-take-le, take_at, drop_at}
+use Rattle.std.proofs.Common.{arith, sym, length-append, length-take-le, take_at, drop_at}
 use Rattle.std.proofs.Math.IntN.{pred_ℤ}
 use Rattle.lattice.specs.declared.Transition.{Transition}
 use Rattle.lattice.specs.Transitions.{Step}
@@ -16,7 +16,7 @@ use Rattle.lattice.specs.laws.LaidTree.{LaidTree}
 use Rattle.lattice.specs.laws.Growing.{Grew, Front, room_left}
 use Rattle.lattice.specs.laws.ReadBack.{numbers-counted, along-counted, along-within, numbers-back, middles-back, transitions-back, last_numbers, last_counted}
 use Rattle.lattice.specs.laws.GrownPart.{in_front}
-use Rattle.lattice.specs.laws.GrownFront.{Next, next_some}
+use Rattle.lattice.specs.laws.GrownFront.{Next}
 
 abbrev pub numbers_of : ℕ → List ℤ → List ℤ
 numbers_of c nodes = numbers_in (front_nodes c nodes)
@@ -42,7 +42,7 @@ first_middle no_node e = absurd (let z : ◌≡◌ {A = ℕ} 0 1 = cc in omega a
 first_middle (one_node f a) e = cc
 
 module _ {c one two : ℕ} {decay spacing : Float} {g : Grew} {before after : List ℤ} {beforeP afterP : List Float} (w : GrownBy c one two decay spacing g before after beforeP afterP) where
-  counted : length (numbers_of c before) ≡ c
+  pub counted : length (numbers_of c before) ≡ c
   counted = numbers-there w.front
 
   pairs-long : length (pairs_of (numbers_of c before) g.transitions) ≡ c * 2
@@ -68,22 +68,6 @@ module _ {c one two : ℕ} {decay spacing : Float} {g : Grew} {before after : Li
   next_numbers =
       rw (w.nodes, drop_at (pairs_of (numbers_of c before) g.transitions) (last_pairs (next_of g) ++ drop ((c + length (next_of g)) * 2) before) (c * 2) pairs-long, take_at (last_pairs (next_of g)) (drop ((c + length (next_of g)) * 2) before) (length (next_of g) * 2) (last_counted (next_of g)))
       (last_numbers (next_of g))
-
-  -- the next layer can grow in its turn
-  pub next_front : Front (length (next_of g)) g.spacing decay (drop (c * 2) after) (drop (c * 3) afterP)
-  next_front =
-      let k = counted in
-      let h = w.next.fit.pairs in
-      let i = w.next.fit.threes in
-      record {
-        pairs = rw (length-drop (c * 2) after, w.kept) (omega arith);
-        threes = rw (length-drop (c * 3) afterP, w.kept_too) (omega arith);
-        some-node = next_some w.next.next;
-        low = pred_ℤ (pred_ℤ w.next.next.first);
-        climbs = rw next_numbers w.next.next.climbs;
-        spacing-above = w.next.new.not_below_lem;
-        decay-above = w.front.decay-above;
-      }
 
   module _ (left : List ℤ) (left_p : List Float) where
     front_now : take (c * 2) (take (c * 2) after ++ left) ≡ pairs_of (numbers_of c before) g.transitions

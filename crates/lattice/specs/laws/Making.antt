@@ -9,8 +9,7 @@ use Rattle.std.specs.Float.{binary64}
 use Rattle.std.specs.Float.Ieee.{add, sub, mul, div, to_signed, of_bits, of_int, fits}
 use Rattle.std.specs.Float.Ieee.Scale.{finite}
 use Rattle.floats.specs.declared.Refusal.{Refusal}
-use Rattle.floats.specs.Answers.{plus_zero, one, two, not_finite, on_answer}
-use Rattle.floats.specs.Extremes.{max_of}
+use Rattle.floats.specs.Answers.{one, two, not_finite, on_answer}
 use Rattle.floats.specs.Whole.{rounded}
 use Rattle.floats.specs.laws.Whole.{round-answers}
 use Rattle.terms.specs.Numbers.{float}
@@ -60,10 +59,6 @@ shares middle d m u place =
       probability_middle = pm;
       probability_up = pu;
     })
-
-pub clamped-shares : (middle : ℤ) (down mid up : Float) (place : ℕ) → shares middle (max_of down plus_zero) (max_of mid plus_zero) (max_of up plus_zero) place ≡ clamped middle down mid up place
-unfolding shares clamped
-clamped-shares middle down mid up place = refl
 
 -- 6 and 3 as the code writes them.
 abbrev pub six : Float

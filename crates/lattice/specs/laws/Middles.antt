@@ -8,26 +8,25 @@ use Rattle.std.specs.Float.Ieee.Fits.{div-fits}
 use Rattle.std.specs.Float.Ieee.Scale.{finite}
 use Rattle.floats.specs.declared.Refusal.{Refusal}
 use Rattle.floats.specs.Answers.{plus_zero, one, two, on_answer}
-use Rattle.floats.specs.Extremes.{max_of}
 use Rattle.floats.specs.Whole.{rounded}
 use Rattle.floats.specs.laws.Arithmetic.{mul_mono_left, mul_mono_right, div_mono_left}
 use Rattle.floats.specs.laws.Cuts.{whole-finite}
 use Rattle.floats.specs.laws.Whole.{rounded-mono, rounded-whole, round-answers}
 use Rattle.terms.specs.Numbers.{million}
-use Rattle.terms.specs.Outcomes.{Outcome, refused, on_outcome, refuse}
+use Rattle.terms.specs.Outcomes.{Outcome, given, refused, on_outcome, refuse}
 use Rattle.lattice.specs.declared.Middle.{Middle}
 use Rattle.lattice.specs.declared.Transition.{Transition}
 use Rattle.lattice.specs.declared.node.MadeMiddle.{MadeMiddle}
 use Rattle.lattice.specs.declared.node.MadeMiddle.TheVariants as made
 use Rattle.lattice.specs.Layers.{below, node_float}
-use Rattle.lattice.specs.Transitions.{Step, too_low, too_far, middle_of, from_middle, transition_of}
+use Rattle.lattice.specs.Transitions.{Step, too_low, too_far, clamped, middle_of, from_middle, transition_of}
 use Rattle.lattice.specs.Lattice.{transitions_of, destinations}
 use Rattle.floats.specs.laws.Finite.{finite_of_mul, positive_of-div}
 use Rattle.terms.specs.laws.Outcomes.{Gives, gives, nothing, given_of, gives-follow, gives-finite, gives-cond}
 use Rattle.lattice.specs.laws.Bounds.{Within}
 use Rattle.lattice.specs.laws.CastOrder.{cast_mono, middle-within}
 use Rattle.lattice.specs.laws.Gaps.{Gap, gap_of, node-mono}
-use Rattle.lattice.specs.laws.Making.{middle_outcome, six, three, shares, clamped-shares, chances, centred, centred_from, held, state_of, expectation_of, quotient_of}
+use Rattle.lattice.specs.laws.Making.{middle_outcome, six, three, shares, chances, centred, centred_from, held, state_of, expectation_of, quotient_of}
 use Rattle.lattice.specs.laws.RisingMiddles.{Rising, ends, next, Climbs, none, above, around}
 
 -- ---- one transition
@@ -48,6 +47,19 @@ shares-spread m d p u place =
     gives-finite (div binary64 p w) _ _ λ _.
     gives-finite (div binary64 u w) _ _ λ _. gives (record { down = refl; middle = refl; up = refl })
 
+spread-given : (m : ℤ) (pd pm pu : Float) → Gives (Spread m) (given (record { down = pred_ℤ m; middle = m; up = suc_ℤ m; probability_down = pd; probability_middle = pm; probability_up = pu }))
+spread-given m pd pm pu = gives (record { down = refl; middle = refl; up = refl })
+
+spread-nothing : (m : ℤ) (r : Refusal) → Gives (Spread m) (refused r)
+spread-nothing m r = nothing
+
+spread-cond : (m : ℤ) (b : Bool) (o q : Outcome Transition) → Gives (Spread m) o → Gives (Spread m) q → Gives (Spread m) (cond b o q)
+spread-cond m b o q h k = gives-cond b o q h k
+
+clamped-spread : (m : ℤ) (down mid up : Float) (place : ℕ) → Gives (Spread m) (clamped m down mid up place)
+unfolding clamped
+clamped-spread m down mid up place = search (spread-cond, spread-nothing, spread-given) depth 20 fits 4000
+
 chances-spread : (m : ℤ) (error denominator scale : Float) (place : ℕ) → Gives (Spread m) (chances m error denominator scale place)
 unfolding chances
 chances-spread m error denominator scale place =
@@ -66,7 +78,7 @@ chances-spread m error denominator scale place =
     gives-finite mid _ _ λ _.
     gives-finite up _ _ λ _.
     gives-cond (too_low down || (too_low mid || too_low up)) _ _ nothing
-    (rw (← clamped-shares m down mid up place) (shares-spread m (max_of down plus_zero) (max_of mid plus_zero) (max_of up plus_zero) place))
+    (clamped-spread m down mid up place)
 
 module _ {B : Type 0} {Q : B → Type 0} where
   -- tests that were false

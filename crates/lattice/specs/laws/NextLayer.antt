@@ -17,9 +17,9 @@ use Rattle.lattice.specs.Transitions.{Step}
 use Rattle.lattice.specs.Lattice.{destinations, spacing_of, step_of}
 use Rattle.terms.specs.laws.Outcomes.{Gives, gives, nothing, gives-finite, gives-cond}
 use Rattle.lattice.specs.laws.Reaching.{nothing_below}
-use Rattle.lattice.specs.laws.RisingMiddles.{Rising, Climbs, above, around, around-climbs}
-use Rattle.lattice.specs.laws.Replaying.{Replays, replayed}
-use Rattle.lattice.specs.laws.Middles.{Along, one_node, Upright, middles_of, destinations-around, rising-along}
+use Rattle.lattice.specs.laws.RisingMiddles.{Rising, Climbs, around}
+use Rattle.lattice.specs.laws.Replaying.{Replays}
+use Rattle.lattice.specs.laws.Middles.{Upright, middles_of}
 
 -- What is known of the next layer.
 pub record NextLayer (ts : List Transition) : Type 0 where
@@ -30,21 +30,6 @@ pub record NextLayer (ts : List Transition) : Type 0 where
   pub around_them : destinations ts ≡ around (first ∷ others)
   pub climbs : Climbs (pred_ℤ (pred_ℤ first)) (destinations ts)
   pub replays : Replays (destinations ts) (nothing_below first) (first ∷ others)
-
-pub next_layer : {s : Step} {t : ℤ} {n : ℤ} {ns : List ℤ} {ts : List Transition} → Upright s → Climbs t (n ∷ ns) → Along s (n ∷ ns) ts → NextLayer ts
-unfolding middles_of
-next_layer u (above h c) (one_node {t = t} {ts = ts} f a) =
-    let r = rising-along u f c a in
-    let e = destinations-around (one_node f a) in
-    record {
-      first = t.middle;
-      others = middles_of ts;
-      middles = refl;
-      rising = r;
-      around_them = e;
-      climbs = rw e (around-climbs t.middle (middles_of ts) r);
-      replays = rw e (replayed t.middle (middles_of ts) r);
-    }
 
 -- ---- the steps of a tree
 

@@ -1,11 +1,11 @@
 -- Where a node's destinations stand in the next layer: replayed middle by middle, they are the last three reached. Assumes nothing.
-use Rattle.std.specs.Prelude.{ℕ, ◌+◌, ◌-◌, ◌≤◌, ◌<◌, ◌≡◌, refl, List, [], ◌∷◌, ◌++◌, length, get_or, ℤ, pos}
+use Rattle.std.specs.Prelude.{ℕ, ◌+◌, ◌-◌, ◌≤◌, ◌<◌, ◌≡◌, List, [], ◌∷◌, ◌++◌, length, get_or, ℤ, pos}
 use Rattle.std.proofs.Common.{arith, sym, ap, ◌∙◌, append_assoc, length-append, get_or-append-add}
 use Rattle.std.proofs.Math.IntN.{suc_ℤ, pred_ℤ, pred-suc}
 use Rattle.lattice.specs.declared.reach.Reach.{Reach}
 use Rattle.lattice.specs.laws.IntegerOrder.{up, up_pred, up_suc, below_up, at_base}
 use Rattle.lattice.specs.laws.Reaching.{reach, nothing_below}
-use Rattle.lattice.specs.laws.RisingMiddles.{Rising, ends, next, around, laid, laid_three, done_at, grew, reach-gap, moved, around-laid}
+use Rattle.lattice.specs.laws.RisingMiddles.{Rising, ends, next, laid, laid_three, done_at, grew, reach-gap, moved}
 
 -- The three destinations around m stand at p, p + 1 and p + 2.
 pub record Stands (nodes : List ℤ) (p : ℕ) (m : ℤ) : Type 0 where
@@ -19,7 +19,7 @@ pub data Replays (nodes : List ℤ) : Reach → List ℤ → Type 0 where
   done : {r : Reach} → r.count ≡ length nodes → Replays nodes r []
   node : {r : Reach} {m : ℤ} {ms : List ℤ} → 3 ≤ (reach r m).count → Stands nodes ((reach r m).count - 3) m → Replays nodes (reach r m) ms → Replays nodes r (m ∷ ms)
 
-stands_after : (front : List ℤ) (m : ℤ) (t : List ℤ) (c : ℕ) → length front + 3 ≡ c → Stands (front ++ (pred_ℤ m ∷ m ∷ suc_ℤ m ∷ t)) (c - 3) m
+pub stands_after : (front : List ℤ) (m : ℤ) (t : List ℤ) (c : ℕ) → length front + 3 ≡ c → Stands (front ++ (pred_ℤ m ∷ m ∷ suc_ℤ m ∷ t)) (c - 3) m
 stands_after front m t c e =
     let z : c - 3 ≡ length front + 0 = omega arith in
     let a : c - 3 + 1 ≡ length front + 1 = omega arith in
@@ -33,7 +33,7 @@ stands_after front m t c e =
     }
 
 -- after a first middle m, with `front` before its three nodes
-replays_on : (front : List ℤ) (m : ℤ) (ms : List ℤ) (c : ℕ) → length front + 3 ≡ c → Rising m ms → Replays (front ++ (pred_ℤ m ∷ m ∷ suc_ℤ m ∷ laid (done_at m c) ms)) (done_at m c) ms
+pub replays_on : (front : List ℤ) (m : ℤ) (ms : List ℤ) (c : ℕ) → length front + 3 ≡ c → Rising m ms → Replays (front ++ (pred_ℤ m ∷ m ∷ suc_ℤ m ∷ laid (done_at m c) ms)) (done_at m c) ms
 unfolding laid
 replays_on front m [] c e ends = done {r = done_at m c} (rw (length-append front (pred_ℤ m ∷ m ∷ suc_ℤ m ∷ [])) (omega arith))
 replays_on front m ms' c e (next {ms = ms} g r) =
@@ -60,8 +60,3 @@ first_based b = rw (pred-suc (suc_ℤ b), pred-suc b) (first_b b)
 pub first_reach : (m : ℤ) → reach (nothing_below m) m ≡ done_at m 3
 unfolding First
 first_reach m = at_base First (at_base (λ (b : ℤ). First (suc_ℤ b)) first_based) m
-
-pub replayed : (m : ℤ) (ms : List ℤ) → Rising m ms → Replays (around (m ∷ ms)) (nothing_below m) (m ∷ ms)
-replayed m ms r =
-    let d = first_reach m in
-    rw (around-laid 3 m ms r) (node {r = nothing_below m} {m = m} {ms = ms} (rw d (omega arith)) (rw d (stands_after [] m (laid (done_at m 3) ms) 3 refl)) (rw d (replays_on [] m ms 3 refl r)))

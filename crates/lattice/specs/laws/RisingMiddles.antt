@@ -2,10 +2,10 @@
 use Prim.Native.Nat.{ℕ, zero, suc, ◌+◌, ◌<◌}
 use Rattle.std.proofs.Common.{arith, sym, ◌∙◌, subst, lt-ltb}
 use Rattle.std.specs.Prelude.{◌≡◌, refl, Bool, true, cond, List, [], ◌∷◌, ◌++◌, length, T, ltb, ℤ}
-use Rattle.std.proofs.Math.IntN.{suc_ℤ, pred_ℤ, pred-suc, suc-pred}
+use Rattle.std.proofs.Math.IntN.{suc_ℤ, pred_ℤ, pred-suc}
 use Rattle.lattice.specs.declared.reach.Reach.{Reach}
 use Rattle.lattice.specs.Layers.{below, insert}
-use Rattle.lattice.specs.laws.IntegerOrder.{up, below_up, below_next, up_suc, up_pred, up_shift, at_base}
+use Rattle.lattice.specs.laws.IntegerOrder.{up, below_up, up_suc, up_pred, up_shift, at_base}
 use Rattle.lattice.specs.laws.Reaching.{reach_one, reach}
 
 -- Each middle is the one before it or above it.
@@ -51,17 +51,17 @@ grew c (suc zero) = c + 1
 grew c (suc (suc zero)) = c + 1 + 1
 grew c (suc (suc (suc h))) = c + 1 + 1 + 1
 
-T_of : {b : Bool} → b ≡ true → T b
+pub T_of : {b : Bool} → b ≡ true → T b
 T_of e = subst T (sym e) tt
 
-far : (n h : ℕ) → n < 3 → ltb n (suc (suc (suc h))) ≡ true
+pub far : (n h : ℕ) → n < 3 → ltb n (suc (suc (suc h))) ≡ true
 far n h p = lt-ltb n (suc (suc (suc h))) (omega arith)
 
 step : (n : ℕ) → ltb n (suc n) ≡ true
 step n = lt-ltb n (suc n) (omega arith)
 
 -- the new nodes of a middle that lies g above the one before, which is b + 1
-news : ℤ → ℕ → List ℤ → List ℤ
+unfoldable pub news : ℤ → ℕ → List ℤ → List ℤ
 news b zero t = t
 news b (suc zero) t = up b 3 ∷ t
 news b (suc (suc zero)) t = up b 3 ∷ up b 4 ∷ t
@@ -88,7 +88,7 @@ module _ (b : ℤ) (c : ℕ) where
         one_up (suc (suc (suc (suc h)))),
       )
 
-  laid_b : (g : ℕ) (t : List ℤ) → laid_three (record { top = up b 2; count = c }) (up b (suc g)) t ≡ news b g t
+  pub laid_b : (g : ℕ) (t : List ℤ) → laid_three (record { top = up b 2; count = c }) (up b (suc g)) t ≡ news b g t
   unfolding laid_three news
   laid_b zero t = rw (up_pred b 0, up_suc b 1, below_up b 2 0, below_up b 2 1, below_up b 2 2)
   laid_b (suc zero) t = rw (up_pred b 1, up_suc b 2, below_up b 2 1, below_up b 2 2, below_up b 2 3)
@@ -101,13 +101,6 @@ module _ (b : ℤ) (c : ℕ) where
         one_up (suc (suc (suc h))),
         one_up (suc (suc (suc (suc h)))),
       )
-
-  into_b : (g : ℕ) (t : List ℤ) → insert (up b 0) (insert (up b 1) (insert (up b 2) (up b g ∷ up b (suc g) ∷ up b (suc (suc g)) ∷ t))) ≡ up b 0 ∷ up b 1 ∷ up b 2 ∷ news b g t
-  unfolding insert news
-  into_b zero t = simp (below_up)
-  into_b (suc zero) t = simp (below_up)
-  into_b (suc (suc zero)) t = simp (below_up)
-  into_b (suc (suc (suc h))) t = simp (below_up, far 2 h (omega arith))
 
 -- What stands before the three nodes around the next middle, of the three around b + 1.
 firsts_b : ℤ → ℕ → List ℤ
@@ -148,19 +141,6 @@ module _ (c g : ℕ) where
   pub reach-gap : (m : ℤ) → reach (done_at m c) (up m g) ≡ done_at (up m g) (grew c g)
   reach-gap m = at_base (λ (m : ℤ). reach (done_at m c) (up m g) ≡ done_at (up m g) (grew c g)) based_reach m
 
-  module _ (t : List ℤ) where
-    Into : ℤ → Type 0
-    Into m =
-        insert (pred_ℤ m) (insert m (insert (suc_ℤ m) (pred_ℤ (up m g) ∷ up m g ∷ suc_ℤ (up m g) ∷ t)))
-        ≡ pred_ℤ m ∷ m ∷ suc_ℤ m ∷ laid_three (done_at m c) (up m g) t
-
-    based_into : (b : ℤ) → Into (suc_ℤ b)
-    unfolding Into up
-    based_into b = rw (pred-suc b, up_shift b g, pred-suc (up b g)) (rw (laid_b b c g t) (into_b b c g t))
-
-    into_gap : (m : ℤ) → Into m
-    into_gap m = at_base Into based_into m
-
   -- The three nodes around the middle before and what is laid, as the three around this one with something in front.
   pub record Moved (m : ℤ) (t : List ℤ) : Type 0 where
     pub front : List ℤ
@@ -191,35 +171,8 @@ module _ (c g : ℕ) where
 
 -- ---- all middles
 
-alone_b : (b : ℤ) → insert (up b 0) (insert (up b 1) (insert (up b 2) [])) ≡ up b 0 ∷ up b 1 ∷ up b 2 ∷ []
-unfolding insert
-alone_b b = simp (below_up)
-
-Alone : ℤ → Type 0
-Alone m = insert (pred_ℤ m) (insert m (insert (suc_ℤ m) [])) ≡ pred_ℤ m ∷ m ∷ suc_ℤ m ∷ []
-
-based_alone : (b : ℤ) → Alone (suc_ℤ b)
-unfolding Alone up
-based_alone b = rw (pred-suc b) (alone_b b)
-
-alone : (m : ℤ) → Alone m
-alone m = at_base Alone based_alone m
-
--- The sorted set of destinations is what is laid by appending.
-pub around-laid : (c : ℕ) (m : ℤ) (ms : List ℤ) → Rising m ms → around (m ∷ ms) ≡ pred_ℤ m ∷ m ∷ suc_ℤ m ∷ laid (done_at m c) ms
-unfolding around laid Alone Into
-around-laid c m [] ends = alone m
-around-laid c m ms' (next {ms = ms} g r) = rw (around-laid (grew c g) (up m g) ms r, reach-gap c g m) (into_gap c g (laid (done_at (up m g) (grew c g)) ms) m)
-
-laid-climbs : (c : ℕ) (m : ℤ) (ms : List ℤ) → Rising m ms → Climbs (suc_ℤ m) (laid (done_at m c) ms)
+pub laid-climbs : (c : ℕ) (m : ℤ) (ms : List ℤ) → Rising m ms → Climbs (suc_ℤ m) (laid (done_at m c) ms)
 unfolding laid Climbing
 laid-climbs c m [] ends = none
 laid-climbs c m ms' (next {ms = ms} g r) =
     rw (reach-gap c g m) (climb_gap c g (laid (done_at (up m g) (grew c g)) ms) m (laid-climbs (grew c g) (up m g) ms r))
-
--- It rises.
-pub around-climbs : (m : ℤ) (ms : List ℤ) → Rising m ms → Climbs (pred_ℤ (pred_ℤ m)) (around (m ∷ ms))
-around-climbs m ms r = rw (around-laid 3 m ms r) (above (T_of (before (pred_ℤ m))) (above (T_of (before m)) (above (T_of (below_next m)) (laid-climbs 3 m ms r))))
-  where
-    before : (m : ℤ) → below (pred_ℤ m) m ≡ true
-    before m = subst (λ (n : ℤ). below (pred_ℤ m) n ≡ true) (suc-pred m) (below_next (pred_ℤ m))

@@ -17,7 +17,7 @@ use Rattle.lattice.specs.laws.Parts.{part_from, part_from_lem, with_part, with_r
 use Rattle.lattice.specs.laws.LaidTree.{LaysTree}
 use Rattle.lattice.specs.laws.Growing.{Front, GrownLayer, grown_next, room_left}
 use Rattle.lattice.specs.laws.LayersMore.{numbers_of}
-use Rattle.lattice.specs.laws.Layering.{grows, by, front-behind, layers_more, layers-refused}
+use Rattle.lattice.proofs.theorems.Layering.{grows, by, front-behind, layers_more, layers-refused}
 use Rattle.layers.specs.laws.Known.{Before, before-grown}
 use Rattle.layers.specs.laws.Behind.{GrownBehind, LaysBehind, front-room, part-back, part-front, part-kept}
 

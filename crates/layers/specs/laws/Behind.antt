@@ -24,7 +24,8 @@ use Rattle.lattice.specs.laws.Parts.{part_from, part_from_lem, with_part, with_p
 use Rattle.lattice.specs.laws.Growing.{Grew, Front, GrownLayer, room_left}
 use Rattle.lattice.specs.laws.FilledFront.{FilledFront}
 use Rattle.lattice.specs.laws.NextLaid.{room_of, LaidNext}
-use Rattle.lattice.specs.laws.Grown.{grown_from, grown_layer}
+use Rattle.lattice.specs.laws.Grown.{grown_from}
+use Rattle.lattice.proofs.theorems.Grown.{grown_layer}
 use Rattle.layers.specs.laws.Known.{Known, known_kept}
 
 -- The first b nodes and their transitions are as they were.

@@ -19,7 +19,7 @@ use Rattle.lattice.specs.laws.Middles.{Spread, FromNode, transition_from}
 use Rattle.lattice.specs.laws.Stored.{pairs_of, threes_of}
 use Rattle.lattice.specs.laws.Growing.{Grew, Front, GrownLayer, grown_next, room_left}
 use Rattle.lattice.specs.laws.LayersMore.{numbers_of, numbers-there}
-use Rattle.lattice.specs.laws.Layering.{grows, by}
+use Rattle.lattice.proofs.theorems.Layering.{grows, by}
 use Rattle.layers.specs.laws.Places.{at_place, step-place, transition-place}
 
 -- Node j's transition, beside its number.

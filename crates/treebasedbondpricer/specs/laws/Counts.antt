@@ -16,7 +16,8 @@ use Rattle.lattice.specs.Layers.{At, Room}
 use Rattle.lattice.specs.Lattice.{Layer, lattice}
 use Rattle.forwardinduction.specs.Fit.{weighted, shift_of, onward, shifts_from}
 use Rattle.treebasedbondpricer.specs.Tree.{Fitted, fitted_tree_over}
-use Rattle.lattice.specs.laws.Proper.{Proper, proper_of_lattice, layers_of_lattice}
+use Rattle.lattice.specs.laws.Proper.{Proper}
+use Rattle.lattice.proofs.theorems.Proper.{proper_of_lattice, layers_of_lattice}
 
 variance-count : (model : HullWhite) (dt : Float) (count k : ℕ) → Gives (λ (vs : List Float). length vs ≡ count) (variances_from model dt count k)
 unfolding variances_from

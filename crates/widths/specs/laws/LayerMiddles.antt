@@ -17,10 +17,11 @@ use Rattle.lattice.specs.laws.Bounds.{Within, AllWithin, no_middle, one_middle, 
 use Rattle.lattice.specs.laws.Making.{step_from}
 use Rattle.lattice.specs.laws.Middles.{MiddleFrom, FromNode, middle_from, Along, no_node, one_node, Upright}
 use Rattle.lattice.specs.laws.Middles as middles
-use Rattle.lattice.specs.laws.NextLayer.{next_layer}
+use Rattle.lattice.proofs.theorems.NextLayer.{next_layer}
 use Rattle.lattice.specs.laws.Reaching.{reach_one, reach, reach_all, nothing_below}
 use Rattle.lattice.specs.laws.RisingMiddles.{Rising, Climbs, around, laid}
-use Rattle.lattice.specs.laws.LaidBehind.{laid-count, laid-around}
+use Rattle.lattice.specs.laws.LaidBehind.{laid-count}
+use Rattle.lattice.proofs.theorems.LaidBehind.{laid-around}
 use Rattle.widths.specs.Widths.{middle_nodes}
 
 -- ---- what is known of a node's middle is known of every transition with this middle

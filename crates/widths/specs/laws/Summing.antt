@@ -14,7 +14,8 @@ use Rattle.terms.specs.laws.Outcomes.{valued-value, valued-refused, same_given, 
 use Rattle.lattice.specs.declared.NextLayer.TheVariants as next
 use Rattle.lattice.specs.Lattice.{root_layer, spacing_of, decay_of}
 use Rattle.lattice.specs.laws.Growing.{Size, next_outcome}
-use Rattle.lattice.specs.laws.RisingMiddles.{Climbs, none, above, around, around-laid}
+use Rattle.lattice.specs.laws.RisingMiddles.{Climbs, none, above, around}
+use Rattle.lattice.proofs.theorems.RisingMiddles.{around-laid}
 use Rattle.widths.specs.declared.tree.Widths.{Widths}
 use Rattle.widths.specs.declared.tree.Widths.TheVariants.{Found, Refused}
 use Rattle.widths.specs.Widths.{middle_nodes, new_spacing, widths_from, flat_widths, curved_widths, total, widest}

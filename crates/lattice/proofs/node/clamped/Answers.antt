@@ -1,5 +1,5 @@
 -- `clamped` meets its contract: the three numbers are clamped, then divided by their total. Assumes nothing.
-use Rattle.lattice.specs.laws.Making.{clamped-shares}
+use Rattle.lattice.proofs.Fused.{clamped-shares}
 use Rattle.lattice.specs.laws.Bounds.{within-numbered}
 use Rattle.lattice.proofs.Signed.{back-numbered}
 use Rattle.lattice.proofs.Laws.{transitions}

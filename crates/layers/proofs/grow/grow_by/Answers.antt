@@ -5,7 +5,7 @@ use mathlib.Core.Path.{refl}
 use lib.ListN.{drop}
 use Rattle.lattice.specs.laws.Parts.{part_from_lem}
 use Rattle.lattice.specs.laws.Growing.{room_left}
-use Rattle.lattice.specs.laws.FilledFront.{filled-front}
+use Rattle.lattice.proofs.theorems.FilledFront.{filled-front}
 use Rattle.lattice.specs.laws.Grown.{grown-stopped}
 use Rattle.layers.specs.laws.Behind.{front-room, grown-behind}
 use borrow.Author.Rules.{rules}
