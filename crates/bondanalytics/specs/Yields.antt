@@ -1,6 +1,5 @@
 -- Definitions only. Price from yield and yield from price.
 use Rattle.std.specs.Prelude.{ℕ, Float}
-use Rattle.floats.specs.declared.Refusal.{Refusal}
 use Rattle.floats.specs.Answers.{plus_zero}
 use Rattle.terms.specs.declared.Settlement.{Settlement}
 use Rattle.terms.specs.declared.Epoch.{Epoch}
@@ -14,7 +13,7 @@ use Rattle.interestrate.specs.declared.YieldPrice.{YieldPrice}
 use Rattle.interestrate.specs.declared.YieldPrice.TheVariants as price
 use Rattle.brackets.specs.declared.Root.{Root}
 use Rattle.brackets.specs.declared.Root.TheVariants as root
-use Rattle.interestrate.specs.Rates.{rate_of, rate_check, lowest_yield, with_code}
+use Rattle.interestrate.specs.Rates.{rate_of, rate_check, lowest_yield}
 use Rattle.interestrate.specs.Prices.{flows, price_and_derivative}
 use Rattle.brackets.specs.Brackets.{bracketed_root}
 use Rattle.sought.specs.Objectives.{objective, first_lower, first_upper}
