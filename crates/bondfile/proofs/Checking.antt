@@ -1,9 +1,9 @@
 -- The loop over the lines of a file: what it knows at each line, one turn, and its ends. Assumes nothing.
-use Prim.Native.Nat.{ℕ, suc, ◌+◌, ◌-◌, ◌*◌, ◌^◌, ◌≤◌, ◌<◌}
+use Prim.Native.Nat.{ℕ, ◌+◌, ◌-◌, ◌*◌, ◌^◌, ◌≤◌, ◌<◌}
 use native.Mathlib.Omega.{arith}
 use native.Mathlib.Nat.{le_of_lt}
 use mathlib.Core.Path.{◌≡◌, refl, sym, ap, ◌∙◌}
-use mathlib.Core.List.{List, [], ◌∷◌}
+use mathlib.Core.List.{List}
 use lib.ListN.{length, get_or, set, replicate, length-set}
 use mir.Syntax.{w64}
 use mir.Val.{Fits}
@@ -15,7 +15,7 @@ use Rattle.bondfile.specs.declared.Verdict.{Verdict}
 use Rattle.bondfile.specs.declared.Verdict.TheVariants.{Counted, Stopped}
 use Rattle.bondline.specs.Lines.{line_entry, line_at, next_line}
 use Rattle.bondfile.specs.Entries.{kind_of}
-use Rattle.bondfile.specs.File.{Numbered, entries_of, entries_from}
+use Rattle.bondfile.specs.File.{entries_of, entries_from}
 use Rattle.bondfile.specs.Checks.{verdict_of, on_verdict, missing, check_from}
 use Rattle.bondfile.specs.laws.Accepted.{kinds}
 use Rattle.bondfile.specs.laws.Files.{entries-step, entries-end, next_after, next_within}

@@ -1,22 +1,22 @@
 -- The loop that looks for the next entry of a kind: what it knows at each line, one turn, and its ends. Assumes nothing.
-use Prim.Native.Nat.{ℕ, suc, ◌+◌, ◌-◌, ◌*◌, ◌^◌, ◌≤◌, ◌<◌}
+use Prim.Native.Nat.{ℕ, ◌+◌, ◌-◌, ◌*◌, ◌^◌, ◌≤◌, ◌<◌}
 use native.Mathlib.Omega.{arith}
 use native.Mathlib.Nat.{le_of_lt}
 use mathlib.Core.Path.{◌≡◌, refl, sym, ap, ◌∙◌}
 use mathlib.Core.Bool.{Bool, true, false, cond}
-use mathlib.Core.List.{List, [], ◌∷◌}
+use mathlib.Core.List.{List, ◌∷◌}
 use lib.ListN.{length}
-use lib.Dec.{eqb, ltb}
+use lib.Dec.{eqb}
 use mir.Syntax.{w64}
 use mir.Val.{Fits}
 use borrow.Author.Rules.{rules}
-use borrow.Author.Tests.{eq-eqb, ne_eqb, lt-ltb, le-ltb}
+use borrow.Author.Tests.{eq-eqb, ne_eqb}
 use Rattle.bondline.specs.declared.Entry.{Entry}
 use Rattle.bondfile.specs.declared.NextEntry.TheVariants.{Found, Nothing}
 use Rattle.bondline.specs.Lines.{line_entry, line_at, next_line}
 use Rattle.bondfile.specs.Entries.{kind_of}
-use Rattle.bondfile.specs.File.{Numbered, entries_from, of_kind}
-use Rattle.bondfile.specs.Storing.{First, NextOf}
+use Rattle.bondfile.specs.File.{entries_from, of_kind}
+use Rattle.bondfile.specs.Storing.{NextOf}
 use Rattle.bondfile.specs.laws.Files.{entries-step, entries-end, next_after, next_within}
 
 -- ---- from line to line

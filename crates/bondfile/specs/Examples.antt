@@ -8,7 +8,7 @@ use Rattle.calendar.specs.Calendar.{dated}
 use Rattle.decimal.specs.Decimal.{read_decimal}
 use Rattle.bondline.specs.declared.Cause.TheVariants.{Byte, UnknownWord, TooFewWords, TooManyWords, NotACount, NotADay, NoDate, DateOutside, NotANumber, LongNumber, NotAKind, NotAFrequency}
 use Rattle.bondline.specs.declared.Entry.{Entry}
-use Rattle.bondline.specs.declared.Entry.TheVariants.{Blank, Settlement, Units, Steps, Alpha, Spread, Cashflow, Call, Sigma, Pillar, Yield, Quote, Refused}
+use Rattle.bondline.specs.declared.Entry.TheVariants.{Blank, Settlement, Cashflow, Call, Pillar, Yield}
 use Rattle.bondfile.specs.declared.FileCheck.{FileCheck}
 use Rattle.bondfile.specs.declared.FileCheck.TheVariants.{Good, Wrong, Twice, Missing}
 use Rattle.bondline.specs.Bytes.{bytes, leading, same}

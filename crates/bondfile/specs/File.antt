@@ -1,8 +1,7 @@
 -- Definitions only. A bond file: its lines, and their entries in order.
-use Rattle.std.specs.Prelude.{ℕ, suc, ◌+◌, cond, List, [], ◌∷◌, length, drop, eqb, ltb}
+use Rattle.std.specs.Prelude.{ℕ, suc, cond, List, [], ◌∷◌, drop, eqb}
 use Rattle.bondline.specs.declared.Entry.{Entry}
 use Rattle.bondline.specs.declared.Entry.TheVariants.{Blank}
-use Rattle.bondline.specs.Bytes.{is_other, run_end}
 use Rattle.bondline.specs.Lines.{line_entry}
 use Rattle.bondfile.specs.Entries.{kind_of}
 

@@ -3,6 +3,3 @@ pub mod Placed
 pub mod Nodes
 pub mod Answers
 pub mod Valuing
-pub mod Summing
-pub mod Entered
-pub mod Cutting

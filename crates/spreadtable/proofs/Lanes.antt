@@ -10,7 +10,7 @@ use Rattle.treebasedbondpricer.specs.Tree.{Lent, room_of}
 use Rattle.spreadtable.specs.declared.Written.{Written}
 use Rattle.spreadtable.specs.Page.{row_text}
 use Rattle.spreadtable.specs.laws.Writing.{appended}
-use Rattle.spreadtable.specs.laws.Stacking.{Stacking, stack_turn}
+use Rattle.spreadtable.proofs.laws.Stacking.{Stacking, stack_turn}
 
 pub record SameRows (first₀ second₀ first second : List Float) : Type 0 where
   pub same_first : length first ≡ length first₀

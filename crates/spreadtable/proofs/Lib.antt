@@ -3,3 +3,4 @@ pub mod Texts
 pub mod Shifted
 pub mod Appending
 pub mod Lanes
+pub mod laws

@@ -56,29 +56,3 @@ pub record Starred : Type 0 where
   -- A newline after each row: 16 rows of 257 bytes.
   pub two_rows : page_text named (plus_zero ∷ plus_zero ∷ []) (plus_zero ∷ plus_zero ∷ []) ≡ bytes "              #4              #4" ++ 10 ∷ bytes "              #4              #4" ++ 10 ∷ []
   pub full : length (page_text named (replicate 16 plus_zero) (replicate 16 plus_zero)) ≡ 4112
-
-pub starred : Starred
-unfolding hash_cell cell_text row_text page_text any_outside printed_of byte_left digits_left width_of whole_left on_decimals point_left minus_left ieee.of_bits ieee.of_int ieee.add ieee.neg ieee.lt ieee.le
-starred =
-    record {
-      hash_4 = refl;
-      hash_46 = refl;
-      ninety_nine_lem = refl;
-      half = refl;
-      minus-zero = refl;
-      widest = refl;
-      too_wide = refl;
-      many-nodes = refl;
-      refused = refl;
-      inside = refl;
-      below = refl;
-      above = refl;
-      not_a_number = refl;
-      infinite = refl;
-      no_sigmas = refl;
-      no_spreads = refl;
-      seventeen_shifts = refl;
-      sixteen = refl;
-      two_rows = refl;
-      full = refl;
-    }

@@ -3,8 +3,4 @@ pub mod Writing
 pub mod Filling
 pub mod FittedOnce
 pub mod Refusing
-pub mod Widths
-pub mod Stacking
-pub mod OnPage
-pub mod Alike
 pub mod NoHash

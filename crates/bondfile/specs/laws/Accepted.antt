@@ -13,7 +13,6 @@ use Rattle.bondline.specs.declared.Entry.{Entry}
 use Rattle.bondline.specs.declared.Entry.TheVariants.{Blank, Settlement, Units, Steps, Alpha, Spread, Cashflow, Call, Sigma, Pillar, Yield, Quote, Refused}
 use Rattle.bondfile.specs.declared.FileCheck.{FileCheck}
 use Rattle.bondfile.specs.declared.FileCheck.TheVariants.{Good, TooLarge, Wrong, Twice, TooMany, Missing}
-use Rattle.bondfile.specs.declared.Verdict.{Verdict}
 use Rattle.bondfile.specs.declared.Verdict.TheVariants.{Counted, Stopped}
 use Rattle.bondfile.specs.Entries.{kind_of}
 use Rattle.bondfile.specs.File.{Numbered, entries_of, of_kind}

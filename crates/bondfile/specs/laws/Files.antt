@@ -1,12 +1,11 @@
 -- A file from an index on: the line that begins there, and the lines from the next on. Assumes nothing.
-use Rattle.std.specs.Prelude.{ℕ, zero, suc, ◌+◌, ◌-◌, ◌≤◌, ◌<◌, ◌≡◌, Bool, true, false, cond, not, List, [], ◌∷◌, length, take, drop, eqb, ltb}
-use Rattle.std.proofs.Common.{arith, add-one, sym, ap, ◌∙◌, length-drop, drop_of_length-le, drop-drop, lt-ltb, le-ltb, ltb-true, ltb-false}
+use Rattle.std.specs.Prelude.{ℕ, suc, ◌+◌, ◌≤◌, ◌<◌, ◌≡◌, Bool, true, false, cond, not, List, [], ◌∷◌, length, take, drop, eqb, ltb}
+use Rattle.std.proofs.Common.{arith, add-one, sym, ap, ◌∙◌, length-drop, drop_of_length-le, drop-drop, ltb-true, ltb-false}
 use Rattle.std.proofs.Math.Nat.{add-sub_cancel_left}
 use Rattle.std.proofs.Math.Path.{refl}
 use Rattle.bondline.specs.Bytes.{is_other, leading, run_end}
-use Rattle.bondline.specs.Words.{between}
 use Rattle.bondline.specs.Lines.{line_entry, line_at, next_line}
-use Rattle.bondfile.specs.File.{begun, lines_of, Numbered, numbered, entries_from}
+use Rattle.bondfile.specs.File.{begun, lines_of, numbered, entries_from}
 use Rattle.bondline.specs.laws.Words.{run_within}
 
 -- The bytes before the first line end, and the lines behind it.

@@ -4,7 +4,7 @@ use Rattle.std.proofs.Common.{arith, sym, ap, ◌∙◌, inl, inr, length-append
 use Rattle.bondline.specs.declared.Entry.{Entry}
 use Rattle.bondline.specs.Lines.{line_entry}
 use Rattle.bondfile.specs.Entries.{kind_of}
-use Rattle.bondfile.specs.File.{begun, lines_of, Numbered, numbered, entries_of, of_kind}
+use Rattle.bondfile.specs.File.{begun, lines_of, Numbered, numbered, of_kind}
 use Rattle.bondfile.specs.Storing.{Stored}
 
 -- ---- bytes and lines

@@ -1,6 +1,6 @@
 -- An entry of a list's kind is made of the parts that the list's slices hold: nothing of it is lost there, and no other entry is among them. Assumes nothing.
 use Rattle.std.specs.Prelude.{ℕ, ◌≡◌, refl, Bool, true, false, cond, List, [], ◌∷◌, map, eqb}
-use Rattle.std.proofs.Common.{arith, sym, ap, ◌∙◌, eqb-true}
+use Rattle.std.proofs.Common.{arith, ap, ◌∙◌, eqb-true}
 use Rattle.bondline.specs.declared.Entry.{Entry}
 use Rattle.bondline.specs.declared.Entry.TheVariants.{Blank, Settlement, Units, Steps, Alpha, Spread, Cashflow, Call, Sigma, Pillar, Yield, Quote, Refused}
 use Rattle.bondfile.specs.Entries.{kind_of, first_whole, second_whole, flow_kind, first_number, second_number}

@@ -1,5 +1,4 @@
 -- `of_bytes` meets its contract. Assumes nothing.
-use Prim.Native.Nat.{◌-◌}
 use Rattle.digest.proofs.Mixing.{mixing_begin, mixing_more, mixing_done}
 use Rattle.digest.proofs.of_bytes.Goals as goal
 

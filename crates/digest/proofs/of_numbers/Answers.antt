@@ -1,5 +1,4 @@
 -- `of_numbers` meets its contract. Assumes nothing.
-use Prim.Native.Nat.{◌-◌}
 use mathlib.Core.Path.{ap, ◌∙◌}
 use lib.Ieee.{nan}
 use Rattle.floats.specs.Answers.{plus_zero}

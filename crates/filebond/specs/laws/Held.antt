@@ -1,5 +1,5 @@
 -- What a slice holds once a file's entries are stored in it: up to their count, what they say. Assumes nothing.
-use Rattle.std.specs.Prelude.{ℕ, zero, suc, ◌≤◌, min, ◌≡◌, refl, List, [], ◌∷◌, ◌++◌, map, length, take, drop}
+use Rattle.std.specs.Prelude.{ℕ, zero, suc, ◌≤◌, min, ◌≡◌, List, [], ◌∷◌, map, length, take, drop}
 use Rattle.std.proofs.Common.{sym, ap, ◌∙◌, arith, take_at, take_all, length-take-le}
 use Rattle.std.proofs.Math.Nat.{zero-min, min-zero, suc-min-suc}
 use Rattle.std.proofs.lemmas.List.{length-map}

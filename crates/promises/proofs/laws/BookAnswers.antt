@@ -25,7 +25,7 @@ use Rattle.bookchecks.specs.Checks.{leg_lengths, entry_lengths, cut_amiss, cut_c
 use Rattle.bookchecks.proofs.laws.Naming.{FirstOf, first_refused_lem}
 use Rattle.bookvalue.specs.declared.BookAnswer.{BookAnswer}
 use Rattle.bookvalue.specs.Values.{refused_tree, placed, sum_check, desk_of, refused_book, accepted_book, summed_book, valued_book, book_by}
-use Rattle.bookvalue.specs.laws.Entered.{by_size, by_desks, by_bonds}
+use Rattle.bookvalue.proofs.laws.Entered.{by_size, by_desks, by_bonds}
 use Rattle.promises.specs.Books.{AddsUp, CheckedAlone, size}
 use Rattle.promises.specs.RefusalNumbers.{Among, tree_refusals}
 use Rattle.promises.proofs.laws.TreeNumbers.{tree_numbers_lem}

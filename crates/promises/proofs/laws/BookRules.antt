@@ -39,8 +39,9 @@ use Rattle.bookvalue.specs.declared.Valued.{Valued}
 use Rattle.bookvalue.specs.Values.{refused_tree, placed, sum_to, sum_check, desk_of, refused_book, accepted_book, valued_book, book_by}
 use Rattle.bookvalue.specs.Entry.{book_lent}
 use Rattle.bookvalue.specs.laws.Placed.{placed_at}
-use Rattle.bookvalue.specs.laws.Answers.{answer_of, answer_is}
-use Rattle.bookvalue.specs.laws.Entered.{tree-passed, by_size, by_desks, by_bonds, valued-alike}
+use Rattle.bookvalue.specs.laws.Answers.{answer_of}
+use Rattle.bookvalue.proofs.laws.Answers.{answer_is}
+use Rattle.bookvalue.proofs.laws.Entered.{tree-passed, by_size, by_desks, by_bonds, valued-alike}
 use Rattle.promises.specs.Books as page
 use Rattle.promises.specs.Books.{size, AddsUp, over_curves, book_over, Accepted, CallsMade, LowestAbove, NoLowerBook, ThinnedBook, puts_at, PutsMade, Moved, kept, calls_moved, puts_moved, BondsMoved}
 use Rattle.promises.proofs.laws.BookAnswers.{Cause, by_checks, by_value, by_sum, all_passed, cause, answer_of-checks, checked-alone}

@@ -36,7 +36,7 @@ use Rattle.closingsheet.specs.Sheet.{sheet_of}
 use Rattle.spreadtable.specs.declared.SpreadTable.{SpreadTable}
 use Rattle.spreadtable.specs.Table.{with_shift, table_of}
 use Rattle.spreadtable.specs.Table as table
-use Rattle.spreadtable.specs.laws.Alike.{same_table}
+use Rattle.spreadtable.proofs.laws.Alike.{same_table}
 use Rattle.promises.specs.RefusalNumbers.{Among, tree_refusals}
 use Rattle.promises.specs.HostCallLists.{GridCall, TreeCall, SpreadCall, SheetCall, SizesCall, TableCall, HostCallListRule, SameGrids, SameValues, SameSpreads, SameLines, SameSizes, SameTables, Unchanged, HostReorderingRule, HostSizesRule}
 use Rattle.promises.proofs.laws.TreeNumbers.{tree_numbers_lem}

@@ -27,9 +27,9 @@ use Rattle.spreadtable.specs.declared.SpreadTable.{SpreadTable}
 use Rattle.spreadtable.specs.Cells.{hash_cell, value_text, cell_text}
 use Rattle.spreadtable.specs.Page.{row_text, page_text, printed, no_table}
 use Rattle.spreadtable.specs.Table.{shifted, with_shift, any_outside, cell_at, wrong_count, table_of}
-use Rattle.spreadtable.specs.laws.Widths.{cell-wide}
-use Rattle.spreadtable.specs.laws.Stacking.{page-long}
-use Rattle.spreadtable.specs.laws.OnPage.{row-there, cell-there, newline-there}
+use Rattle.spreadtable.proofs.laws.Widths.{cell-wide}
+use Rattle.spreadtable.proofs.laws.Stacking.{page-long}
+use Rattle.spreadtable.proofs.laws.OnPage.{row-there, cell-there, newline-there}
 use Rattle.spreadtable.specs.laws.NoHash.{Unhashed, none, more, cell_unhashed}
 use Rattle.promises.specs.RefusalNumbers.{member, Among, tree_refusals}
 use Rattle.promises.specs.HostCallLists.{TreeCall, TableCall}

@@ -1,5 +1,4 @@
 -- `next_entry` meets its contract: in the loop no entry of the kind was passed. Assumes nothing.
-use Prim.Native.Nat.{◌-◌}
 use Rattle.bondfile.proofs.Hunting.{hunting}
 use Rattle.bondfile.proofs.file.next_entry.Goals as goal
 

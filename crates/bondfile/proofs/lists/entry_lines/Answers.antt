@@ -1,5 +1,4 @@
 -- `entry_lines` meets its contract: in the loop the first n entries are stored. Assumes nothing.
-use Prim.Native.Nat.{◌-◌}
 use Rattle.bondfile.proofs.Filling.{filling}
 use Rattle.bondfile.proofs.lists.entry_lines.Goals as goal
 

@@ -1,5 +1,4 @@
 -- `first_wholes` meets its contract: in the loop the first n entries are stored. Assumes nothing.
-use Prim.Native.Nat.{◌-◌}
 use Rattle.bondfile.proofs.Filling.{filling}
 use Rattle.bondfile.proofs.lists.first_wholes.Goals as goal
 

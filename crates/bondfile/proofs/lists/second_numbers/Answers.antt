@@ -1,5 +1,4 @@
 -- `second_numbers` meets its contract: in the loop the first n entries are stored. Assumes nothing.
-use Prim.Native.Nat.{◌-◌}
 use Rattle.bondfile.proofs.Filling.{filling}
 use Rattle.bondfile.proofs.lists.second_numbers.Goals as goal
 

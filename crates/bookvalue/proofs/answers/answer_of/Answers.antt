@@ -1,6 +1,6 @@
 -- `answer_of` meets its contract: by the case of the check. Assumes nothing.
 use mathlib.Core.Path.{◌∙◌}
-use Rattle.bookvalue.specs.laws.Answers.{answer-refused, answer-summed}
+use Rattle.bookvalue.proofs.laws.Answers.{answer-refused, answer-summed}
 use Rattle.bookvalue.proofs.answers.answer_of.Goals as goal
 
 pub returns-in-Refused : goal.returns-in-Refused

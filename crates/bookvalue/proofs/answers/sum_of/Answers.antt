@@ -2,7 +2,7 @@
 use Prim.Native.Nat.{◌-◌}
 use borrow.Author.Rules.{rules}
 use native.Mathlib.Omega.{arith}
-use Rattle.bookvalue.specs.laws.Summing.{sum-begin, sum_more, sum-refused, sum_done}
+use Rattle.bookvalue.proofs.laws.Summing.{sum-begin, sum_more, sum-refused, sum_done}
 use Rattle.bookvalue.proofs.answers.sum_of.Goals as goal
 
 pub loop-i-init : goal.loop-i-init

@@ -1,6 +1,6 @@
 -- `summed` meets its contract: by the case of the sum. Assumes nothing.
 use mathlib.Core.Path.{◌∙◌}
-use Rattle.bookvalue.specs.laws.Answers.{summed-sum, summed-refused}
+use Rattle.bookvalue.proofs.laws.Answers.{summed-sum, summed-refused}
 use Rattle.bookvalue.proofs.answers.summed.Goals as goal
 
 pub returns-in-Sum : goal.returns-in-Sum

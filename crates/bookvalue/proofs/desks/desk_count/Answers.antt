@@ -1,7 +1,7 @@
 -- `desk_count` meets its contract: in the loop, the sum of the counts of the desk's bonds before i, which fits 64 bits. Assumes nothing.
 use Prim.Native.Nat.{◌-◌}
 use native.Mathlib.Omega.{arith}
-use Rattle.bookvalue.specs.laws.Summing.{total-begin, total_more, total-done}
+use Rattle.bookvalue.proofs.laws.Summing.{total-begin, total_more, total-done}
 use Rattle.bookvalue.proofs.desks.desk_count.Goals as goal
 
 pub loop-i-init : goal.loop-i-init

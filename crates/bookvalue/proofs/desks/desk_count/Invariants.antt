@@ -2,7 +2,7 @@
 use Prim.Native.Nat.{◌-◌}
 use lib.ListN.{get_or}
 use Rattle.bookchecks.specs.laws.Holdings.{past_end}
-use Rattle.bookvalue.specs.laws.Summing.{Totalling}
+use Rattle.bookvalue.proofs.laws.Summing.{Totalling}
 use Rattle.bookvalue.proofs.desks.desk_count.Given as goal
 
 abbrev pub invariant-loop-i : goal.invariant-loop-i

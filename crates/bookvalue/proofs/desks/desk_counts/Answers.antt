@@ -2,7 +2,7 @@
 use Prim.Native.Nat.{◌-◌}
 use native.Mathlib.Omega.{arith}
 use Rattle.bookchecks.specs.laws.Holdings.{fill-begin, fill_more}
-use Rattle.bookvalue.specs.laws.Summing.{eight}
+use Rattle.bookvalue.proofs.laws.Summing.{eight}
 use Rattle.bookvalue.proofs.desks.desk_counts.Goals as goal
 
 pub loop-d-init : goal.loop-d-init

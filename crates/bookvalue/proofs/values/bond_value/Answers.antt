@@ -3,7 +3,7 @@ use native.Mathlib.Omega.{arith}
 use mathlib.Core.Path.{sym}
 use lib.Seq.{length-take-le}
 use Rattle.terms.proofs.Timing.{fronted}
-use Rattle.bookvalue.specs.laws.Cutting.{parts-ready, parts-worth}
+use Rattle.bookvalue.proofs.laws.Cutting.{parts-ready, parts-worth}
 use Rattle.bookvalue.proofs.values.bond_value.Goals as goal
 
 pub slice_bounds-table-end : goal.slice_bounds-table-end

@@ -1,5 +1,4 @@
 -- `checked` meets its contract: in the loop the lines that are left give the check of the whole file. Assumes nothing.
-use Prim.Native.Nat.{◌-◌}
 use native.Mathlib.Omega.{arith}
 use Rattle.bondfile.proofs.Checking.{checking, kind-below}
 use Rattle.filecheck.proofs.check.checked.Goals as goal

@@ -1,5 +1,4 @@
 -- `typed::line_start` meets its contract. Assumes nothing.
-use Prim.Native.Nat.{◌-◌}
 use Rattle.reportlines.proofs.typed.Beginning.{beginning}
 use Rattle.reportlines.proofs.typed.line_start.Goals as goal
 

@@ -2,7 +2,8 @@
 use mathlib.Core.Path.{refl, sym, ◌∙◌}
 use Rattle.terms.specs.laws.EntryChecks.{tree-grid, tree-few-pillars}
 use Rattle.bondevents.proofs.Grids.{settled, leg-sized, calls-sized, puts-sized}
-use Rattle.spreadtable.specs.laws.Refusing.{terms_of, calls_of_lem, row_unchecked, row-checked}
+use Rattle.spreadtable.specs.laws.Refusing.{terms_of, calls_of_lem}
+use Rattle.spreadtable.proofs.laws.Refusing.{row_unchecked, row-checked}
 use Rattle.treebasedbondpricer.specs.Tree.{room_of}
 use Rattle.spreadtable.proofs.Lanes.{lent_of}
 use Rattle.spreadtable.proofs.checks.single_row.Goals as goal

@@ -5,8 +5,8 @@ use lib.Seq.{length-take-le}
 use Rattle.terms.proofs.Timing.{fronted}
 use Rattle.treebasedbondpricer.specs.Tree.{room_of}
 use Rattle.spreadtable.specs.laws.Refusing.{terms_of, calls_of_lem}
-use Rattle.spreadtable.specs.laws.Widths.{cell-wide}
-use Rattle.spreadtable.specs.laws.Stacking.{few_of, rows_fit, table-refused, table-printed}
+use Rattle.spreadtable.proofs.laws.Widths.{cell-wide}
+use Rattle.spreadtable.proofs.laws.Stacking.{few_of, rows_fit, table-refused, table-printed}
 use Rattle.spreadtable.proofs.Lanes.{lent_of}
 use Rattle.spreadtable.proofs.entry.spread_table.Goals as goal
 
@@ -53,20 +53,20 @@ as_table-requires c =
     rows_fit _ (cell-wide (terms_of a.settlement a.cashflow_days.now a.cashflow_kinds.now a.cashflow_amounts.now a.units (calls_of_lem a.put_starts.now a.put_ends.now a.put_strikes.now) a.steps_per_year a.max_steps a.alpha a.sigma_times.now a.sigmas.now a.pillar_days.now a.pillar_factors.now) (calls_of_lem a.call_starts.now a.call_ends.now a.call_strikes.now) (room_of (lent_of a.nodes.now a.probabilities.now a.first_row.now a.second_row.now))) _ _ (omega arith) (omega arith) c.all_rows-rows.ensures
 
 pub shape_of-nodes : goal.shape_of-nodes
-shape_of-nodes c = c.zero_numbers.auto.nodes ∙ c.all_rows-rows.auto.nodes
+shape_of-nodes c = c.zero_numbers.auto.s ∙ c.all_rows-rows.auto.nodes
 
 pub shape_of-probabilities : goal.shape_of-probabilities
-shape_of-probabilities c = c.zero_floats.auto.probabilities ∙ c.all_rows-rows.auto.probabilities
+shape_of-probabilities c = c.zero_floats.auto.s ∙ c.all_rows-rows.auto.probabilities
 
 pub shape_of-first_row : goal.shape_of-first_row
-shape_of-first_row c = c.zero_floats-2.auto.first_row ∙ c.all_rows-rows.auto.first_row
+shape_of-first_row c = c.zero_floats-2.auto.s ∙ c.all_rows-rows.auto.first
 
 pub shape_of-second_row : goal.shape_of-second_row
-shape_of-second_row c = c.zero_floats-3.auto.second_row ∙ c.all_rows-rows.auto.second_row
+shape_of-second_row c = c.zero_floats-3.auto.s ∙ c.all_rows-rows.auto.second
 
 pub returns : goal.returns
 returns c =
     let a = c.args in
     let few = few_of a.spreads.now a.shifts.now c.wrong_count.ensures c.if-wrong_count.false in
     let kept = c.all_rows-rows.auto in
-    table-printed _ _ _ _ _ c.wrong_count.ensures c.if-wrong_count.false c.all_rows-rows.ensures c.zero_numbers.ensures c.zero_floats.ensures c.zero_floats-2.ensures c.zero_floats-3.ensures kept.nodes kept.probabilities kept.first_row kept.second_row few.0 few.1 c.as_table.ensures
+    table-printed _ _ _ _ _ c.wrong_count.ensures c.if-wrong_count.false c.all_rows-rows.ensures c.zero_numbers.ensures c.zero_floats.ensures c.zero_floats-2.ensures c.zero_floats-3.ensures kept.nodes kept.probabilities kept.first kept.second few.0 few.1 c.as_table.ensures

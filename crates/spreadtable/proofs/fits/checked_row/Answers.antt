@@ -1,6 +1,6 @@
 -- `checked_row` meets its contract. Assumes nothing.
 use Rattle.treebasedbondpricer.specs.laws.Entered.{steps_of-grid}
-use Rattle.spreadtable.specs.laws.FittedOnce.{grid-stopped, grid-walked}
+use Rattle.spreadtable.proofs.laws.FittedOnce.{grid-stopped, grid-walked}
 use Rattle.spreadtable.proofs.fits.checked_row.Goals as goal
 
 pub event_grid-answer-requires : goal.event_grid-answer-requires

@@ -3,7 +3,7 @@ use mathlib.Core.Path.{sym, ◌∙◌}
 use lib.ListN.{length-map}
 use native.Mathlib.Omega.{arith}
 use lib.Seq.{length-take-le}
-use Rattle.spreadtable.specs.laws.FittedOnce.{row-with_calls}
+use Rattle.spreadtable.proofs.laws.FittedOnce.{row-with_calls}
 use Rattle.spreadtable.proofs.fits.row_on.Goals as goal
 
 pub slice_bounds-row_over-end-4 : goal.slice_bounds-row_over-end-4

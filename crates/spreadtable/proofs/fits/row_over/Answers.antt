@@ -3,7 +3,7 @@ use native.Mathlib.Omega.{arith}
 use Rattle.forwardinduction.specs.laws.LaidFront.{laid-over}
 use Rattle.treebasedbondpricer.specs.laws.FittedIn.{root-count}
 use Rattle.treebasedbondpricer.specs.laws.Valued.{standing}
-use Rattle.spreadtable.specs.laws.FittedOnce.{row-stopped, row_walked}
+use Rattle.spreadtable.proofs.laws.FittedOnce.{row-stopped, row_walked}
 use Rattle.spreadtable.proofs.fits.row_over.Goals as goal
 
 pub stopped_row-requires : goal.stopped_row-requires

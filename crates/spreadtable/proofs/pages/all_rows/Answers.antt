@@ -1,11 +1,11 @@
 -- `all_rows` meets its contract. Assumes nothing.
 use Rattle.floats.proofs.Laws.{answers}
-use Rattle.spreadtable.specs.laws.Widths.{cell-wide}
+use Rattle.spreadtable.proofs.laws.Widths.{cell-wide}
 use Prim.Native.Nat.{◌-◌}
 use native.Mathlib.Omega.{arith}
 use Rattle.spreadtable.specs.Table.{cell_at}
 use Rattle.spreadtable.specs.laws.Refusing.{terms_of, calls_of_lem}
-use Rattle.spreadtable.specs.laws.Stacking.{stack_begin, stack_room, stack_done}
+use Rattle.spreadtable.proofs.laws.Stacking.{stack_begin, stack_room, stack_done}
 use Rattle.spreadtable.proofs.Lanes.{lent-begin, lent-turn, page-turn}
 use Rattle.spreadtable.proofs.pages.all_rows.Goals as goal
 

@@ -4,7 +4,7 @@ use lib.ListN.{length}
 use Rattle.treebasedbondpricer.specs.Tree.{room_of}
 use Rattle.spreadtable.specs.Table.{cell_at}
 use Rattle.spreadtable.specs.laws.Refusing.{terms_of, calls_of_lem}
-use Rattle.spreadtable.specs.laws.Stacking.{Stacking}
+use Rattle.spreadtable.proofs.laws.Stacking.{Stacking}
 use Rattle.spreadtable.proofs.Lanes.{lent_of, SameLent}
 use Rattle.spreadtable.proofs.pages.all_rows.Given as goal
 

@@ -2,7 +2,8 @@
 use mathlib.Core.Path.{sym}
 use native.Mathlib.Omega.{arith}
 use lib.Seq.{length-take-le}
-use Rattle.spreadtable.specs.laws.Refusing.{terms_of, calls_of_lem, row-outside, row-unread, row-shifted}
+use Rattle.spreadtable.specs.laws.Refusing.{terms_of, calls_of_lem}
+use Rattle.spreadtable.proofs.laws.Refusing.{row-outside, row-unread, row-shifted}
 use Rattle.treebasedbondpricer.specs.Tree.{room_of}
 use Rattle.spreadtable.proofs.Lanes.{lent_of}
 use Rattle.spreadtable.proofs.shifts.shifted_row.Goals as goal

@@ -18,7 +18,7 @@ use Rattle.spreadtable.specs.declared.Written.{Written}
 use Rattle.spreadtable.specs.Page.{row_text, page_text, printed, no_table}
 use Rattle.spreadtable.specs.Table.{cell_at, wrong_count, table_of, lent_after, Tabled}
 use Rattle.spreadtable.specs.laws.Writing.{appended, empty, as_table, twice, page_is}
-use Rattle.spreadtable.specs.laws.Widths.{row-wide, cell-wide}
+use Rattle.spreadtable.proofs.laws.Widths.{row-wide, cell-wide}
 
 pub record Stacking (cell : Float → Float → List ℕ) (spreads shifts : List Float) (rows : Written) (i : ℕ) : Type 0 where
   pub within : i ≤ length shifts

@@ -26,7 +26,8 @@ use Rattle.bookvalue.specs.declared.BookAnswer.{BookAnswer}
 use Rattle.bookvalue.specs.Values.{bond_value, refused_tree, desk_of, refused_book, valued_book, book_by, book_value}
 use Rattle.bookvalue.specs.Entry.{book_lent, BookEntered}
 use Rattle.bookvalue.specs.laws.Placed.{each-alike}
-use Rattle.bookvalue.specs.laws.Answers.{tree_of, valued_by, values_of, answer_of, answer_is, answers-alike}
+use Rattle.bookvalue.specs.laws.Answers.{tree_of, valued_by, values_of, answer_of}
+use Rattle.bookvalue.proofs.laws.Answers.{answer_is, answers-alike}
 
 -- A bond that passed its checks passed those of the tree value.
 pub tree-passed : (s : Shared) (l : Lists) (h : Holding) → bond_check s l h ≡ check.Passed → tree_checks (market_of s l h) (calls_of l h) ≡ check.Passed

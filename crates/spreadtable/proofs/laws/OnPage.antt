@@ -10,7 +10,7 @@ use Rattle.std.proofs.Math.ListN.{length, get_or, take, drop}
 use Rattle.std.proofs.Math.Seq.{take_at, drop-append-add}
 use Rattle.floats.specs.Answers.{plus_zero}
 use Rattle.spreadtable.specs.Page.{row_text, page_text}
-use Rattle.spreadtable.specs.laws.Widths.{row-wide}
+use Rattle.spreadtable.proofs.laws.Widths.{row-wide}
 
 -- Bytes from a row on: a row's width each.
 abbrev pub row_width : List Float → ℕ

@@ -15,7 +15,7 @@ use Rattle.treebasedbondpricer.specs.laws.Entered.{value_on, value_of-checked}
 use Rattle.bookchecks.specs.declared.Holding.{Holding}
 use Rattle.bookchecks.specs.Book.{Shared, Lists, cut, market_of, calls_of}
 use Rattle.bookchecks.specs.Checks.{bond_check}
-use Rattle.bookvalue.specs.laws.Entered.{tree-passed}
+use Rattle.bookvalue.proofs.laws.Entered.{tree-passed}
 
 -- What the tree value asks of checked terms.
 abbrev Sizes : Market → CallSchedule → Type 0
