@@ -8,4 +8,3 @@ pub mod ErrorSize
 pub mod ChanceMargin
 pub mod ChanceFloor
 pub mod NeverTooLow
-pub mod Chances

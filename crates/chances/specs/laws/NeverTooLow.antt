@@ -3,36 +3,28 @@ use Rattle.std.specs.Prelude.{ℕ, ◌≡◌, Bool, true, false, not, cond, ◌|
 use Rattle.std.proofs.Math.Path.{refl}
 use Rattle.std.proofs.Common.{sym, subst}
 use Rattle.std.proofs.Math.Dec.{T, not_T}
-use Rattle.std.specs.Float.Ieee.{binary64, add, sub, mul, div, neg, le, lt, of_bits, to_signed}
+use Rattle.std.specs.Float.Ieee.{binary64, add, mul, div, neg, le, lt, of_bits}
 use Rattle.std.specs.Float.Ieee.Bits.{is_false}
-use Rattle.std.specs.Float.Ieee.Fits.{mul-fits, div-fits}
 use Rattle.std.specs.Float.Ieee.Scale.{finite}
 use Rattle.floats.specs.declared.Refusal.{Refusal}
 use Rattle.floats.specs.declared.Answer.{Answer}
 use Rattle.floats.specs.declared.Answer.TheVariants.{Value, Refused}
 use Rattle.floats.specs.Answers.{plus_zero, two, on_answer, not_finite}
 use Rattle.floats.specs.Extremes.{max_of}
-use Rattle.floats.specs.Whole.{rounded}
 use Rattle.floats.specs.laws.Order as order
 use Rattle.floats.specs.laws.Order.{number_of-finite, not_le_of_lt, lt_of_not_le, T-of_not}
 use Rattle.floats.specs.laws.Finite.{finite_of_mul}
-use Rattle.floats.specs.laws.Whole.{round-answers}
 use Rattle.elementary.specs.laws.Values.{passed}
 use Rattle.rounded.specs.Root.{root_of}
 use Rattle.rounded.specs.laws.RootBounds.{sqrt_at-root}
 use Rattle.terms.specs.Numbers.{float, epsilon, tolerance}
 use Rattle.terms.specs.Outcomes.{Outcome, given, refused, on_outcome, follow, refuse, valued}
 use Rattle.terms.specs.laws.Outcomes.{Gives, gives, nothing, given_of, gives-finite}
-use Rattle.lattice.specs.declared.Middle.{Middle}
-use Rattle.lattice.specs.Transitions.{Step, sixth, two_thirds, too_low, too_far, clamped, probabilities, middle_of, from_middle, transition_of}
+use Rattle.lattice.specs.Transitions.{Step, too_low, clamped}
 use Rattle.lattice.specs.Lattice.{spacing_of, step_of}
-use Rattle.lattice.specs.laws.Making.{state_of, expectation_of, quotient_of}
-use Rattle.lattice.specs.laws.Middles.{MiddleFrom, middle_from}
 use Rattle.chances.specs.Unclamped.{least_probability}
-use Rattle.chances.specs.laws.Near.{counted}
 use Rattle.chances.specs.laws.Spaced.{Spaced, spaced}
-use Rattle.chances.specs.laws.ErrorSize.{SmallError, small-error}
-use Rattle.chances.specs.laws.ChanceFloor.{Floored, floored}
+use Rattle.chances.specs.laws.ChanceFloor.{Floored}
 
 -- ---- what a transition can be: given, or refused with 23 or with 27
 
@@ -42,18 +34,18 @@ pub data Only23Or27 {A : Type 0} : Outcome A → Type 0 where
   not_finite_lem : {place : ℕ} → Only23Or27 (refuse 27 place)
 
 module _ {A : Type 0} where
-  only-finite : (x : Float) (place : ℕ) (o : Outcome A) → (T (finite x) → Only23Or27 o) → Only23Or27 (cond (not_finite x) (refuse 27 place) o)
+  pub only-finite : (x : Float) (place : ℕ) (o : Outcome A) → (T (finite x) → Only23Or27 o) → Only23Or27 (cond (not_finite x) (refuse 27 place) o)
   only-finite x place o h = go (finite x) h
     where
       go : (b : Bool) → (T b → Only23Or27 o) → Only23Or27 (cond (not b) (refuse 27 place) o)
       go true h = h tt
       go false h = not_finite_lem
 
-  only-near : (b : Bool) (place : ℕ) (o : Outcome A) → (b ≡ false → Only23Or27 o) → Only23Or27 (cond b (refuse 23 place) o)
+  pub only-near : (b : Bool) (place : ℕ) (o : Outcome A) → (b ≡ false → Only23Or27 o) → Only23Or27 (cond b (refuse 23 place) o)
   only-near true place o h = too_far_lem
   only-near false place o h = h refl
 
-only-follow : {A B : Type 0} (o : Outcome A) (k : A → Outcome B) → Only23Or27 o → ((x : A) → o ≡ given x → Only23Or27 (k x)) → Only23Or27 (follow o k)
+pub only-follow : {A B : Type 0} (o : Outcome A) (k : A → Outcome B) → Only23Or27 o → ((x : A) → o ≡ given x → Only23Or27 (k x)) → Only23Or27 (follow o k)
 unfolding on_outcome
 only-follow o k (was_given {x = x}) h = h x refl
 only-follow o k too_far_lem h = too_far_lem
@@ -70,7 +62,7 @@ none-low down mid up f = rw (not_low down f.down_least, not_low mid f.middle-lea
 
 -- ---- one transition
 
-clamped-only : (n : ℤ) (down mid up : Float) (place : ℕ) → Only23Or27 (clamped n down mid up place)
+pub clamped-only : (n : ℤ) (down mid up : Float) (place : ℕ) → Only23Or27 (clamped n down mid up place)
 unfolding clamped
 clamped-only n down mid up place =
     let d = max_of down plus_zero in
@@ -82,53 +74,6 @@ clamped-only n down mid up place =
     only-finite (div binary64 d w) place _ λ _.
     only-finite (div binary64 m w) place _ λ _.
     only-finite (div binary64 u w) place _ λ _. was_given
-
-module _ (s : Step) (sp : Spaced s.new_spacing s.denominator s.scale) where
-  probabilities-only : (n : ℤ) (error : Float) → SmallError error sp.H → Only23Or27 (probabilities s n error)
-  unfolding probabilities
-  probabilities-only n error er =
-      let term = div binary64 (mul binary64 error error) s.denominator in
-      let a = add binary64 sixth term in
-      let skew = div binary64 error s.scale in
-      let down = sub binary64 a skew in
-      let mid = sub binary64 two_thirds (mul binary64 term two) in
-      let up = add binary64 a skew in
-      only-finite (mul binary64 error error) s.place _ λ fq.
-      only-finite term s.place _ λ ft.
-      only-finite a s.place _ λ fa.
-      only-finite skew s.place _ λ fk.
-      only-finite down s.place _ λ _.
-      only-finite (mul binary64 term two) s.place _ λ fw.
-      only-finite mid s.place _ λ _.
-      only-finite up s.place _ λ _.
-      rw (none-low down mid up (floored s.new_spacing s.denominator s.scale error sp er fq ft fa fk fw))
-      (clamped-only n down mid up s.place)
-
-  middle-only : (n : ℤ) → Only23Or27 (middle_of s.spacing s.decay s.new_spacing s.place n)
-  unfolding middle_of on_answer
-  middle-only n =
-      only-finite (state_of s n) s.place _ λ _.
-      only-finite (expectation_of s n) s.place _ λ _.
-      only-finite (quotient_of s n) s.place _ λ fq.
-      rw (round-answers (quotient_of s n) s.place (div-fits binary64 (expectation_of s n) s.new_spacing) fq)
-      (only-near (too_far (rounded (quotient_of s n))) s.place _ λ _. was_given)
-
-  from_middle-only : (n : ℤ) (m : Middle) → MiddleFrom s n m → Only23Or27 (from_middle s m)
-  unfolding from_middle
-  from_middle-only n m f =
-      let expectation = expectation_of s n in
-      let centre = mul binary64 s.new_spacing (rounded (quotient_of s n)) in
-      let error = sub binary64 expectation centre in
-      let c = counted expectation (mul-fits binary64 (state_of s n) s.decay) f.expectation-finite in
-      rw f.is
-      (only-finite centre s.place _ λ fc.
-      only-finite error s.place _ λ fr.
-      probabilities-only (to_signed 31 (rounded (quotient_of s n))) error
-      (small-error s.new_spacing expectation sp.H c.0 sp.spacing sp.wide sp.spacing-above c.1 f.quotient-finite f.not_far fc fr))
-
-  pub transition-only : (n : ℤ) → Only23Or27 (transition_of s n)
-  unfolding transition_of
-  transition-only n = only-follow (middle_of s.spacing s.decay s.new_spacing s.place n) _ (middle-only n) λ m e. from_middle-only n m (given_of (middle_from s n) e)
 
 -- ---- every step that is made: 22 is tried first, so its variance is above 2^−52
 

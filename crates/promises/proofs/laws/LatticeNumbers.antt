@@ -8,7 +8,8 @@ use Rattle.lattice.specs.Layers.{Room}
 use Rattle.lattice.specs.Transitions.{Step, transition_of}
 use Rattle.lattice.specs.Lattice.{transitions_of, step_of, grown, flat, curved, lattice}
 use Rattle.terms.specs.Outcomes.{Outcome}
-use Rattle.chances.specs.laws.NeverTooLow.{Only23Or27, was_given, too_far_lem, not_finite_lem, SpacedStep, transition-only, made-spaced}
+use Rattle.chances.specs.laws.NeverTooLow.{Only23Or27, was_given, too_far_lem, not_finite_lem, SpacedStep, made-spaced}
+use Rattle.chances.proofs.laws.NeverTooLow.{transition-only}
 use Rattle.floats.specs.laws.Cases.{Holds}
 use Rattle.promises.proofs.laws.Numbers.{arithmetic_refusals, built_refusals, AnswerAmong, OutcomeAmong, wider-answer, then_known, numbers}
 use Rattle.promises.proofs.laws.ElementaryNumbers.{exp-number, exp_m1_number, sqrt-number}

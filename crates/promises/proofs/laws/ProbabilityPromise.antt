@@ -5,7 +5,7 @@ use Rattle.std.specs.Float.Ieee.{of_bits}
 use Rattle.lattice.specs.declared.Transition.{Transition}
 use Rattle.lattice.specs.laws.Proper.{Weighted, Each, none, more}
 use Rattle.lattice.proofs.theorems.Proper.{proper_of_lattice}
-use Rattle.chances.specs.laws.Chances.{step-made, transition_clamps, at_least_four_hundredths}
+use Rattle.chances.proofs.laws.Chances.{step-made, transition_clamps, at_least_four_hundredths}
 use Rattle.promises.specs.Probabilities.{FourHundredths, AtLeastFourHundredths, HandedOn, BetweenZeroAndOne, NeverGiven24}
 use Rattle.promises.proofs.laws.TreeNumbers.{tree_never_24}
 use Rattle.promises.proofs.laws.SpreadNumbers.{spread_never_24}

@@ -21,7 +21,7 @@ use Rattle.widths.specs.declared.tree.Widths.{Widths}
 use Rattle.widths.specs.declared.tree.Widths.TheVariants as made
 use Rattle.widths.specs.Widths.{widths, total, widest}
 use Rattle.widths.specs.laws.Summing.{Sums, sums_of, sums_made}
-use Rattle.widths.specs.laws.FewNodes.{few-nodes}
+use Rattle.widths.proofs.laws.FewNodes.{few-nodes}
 use Rattle.sizing.specs.declared.Sizes.{Sizes}
 use Rattle.sizing.specs.declared.Sizes.TheVariants.{Sized, Refused}
 use Rattle.sizing.specs.Sizing.{tree_widths, sizes_from, sizes_of, nodes_after, SizesEntered}

@@ -1,7 +1,7 @@
 -- The widths of all layers summed, and the widest, layer by layer. Assumes nothing.
 use Rattle.std.specs.Prelude.{ℕ, zero, suc, ◌+◌, ◌*◌, ◌≤◌, ◌<◌, max, ◌≡◌, Bool, true, false, cond, List, [], ◌∷◌, T, leb, length, get_or, take, drop, set, ℤ, pos, negsuc, Float}
-use Rattle.std.proofs.Common.{add-one, zero-add, le_antisymm, le_trans, arith, ◌∙◌, drop_of_length-le, drop-cons, length-take-le, le-leb, leb-true}
-use Rattle.std.proofs.Math.Nat.{add-zero, le-max_left, le-max_right, max-le}
+use Rattle.std.proofs.Common.{zero-add, le_antisymm, le_trans, arith, ◌∙◌, length-take-le, le-leb, leb-true}
+use Rattle.std.proofs.Math.Nat.{le-max_left, le-max_right, max-le}
 use Rattle.std.proofs.Math.Path.{refl, sym, ap, subst}
 use Rattle.std.specs.Float.Ieee.{le}
 use Rattle.std.specs.Float.{nan}
@@ -10,17 +10,15 @@ use Rattle.floats.specs.declared.Refusal.{Refusal}
 use Rattle.floats.specs.declared.Answer.TheVariants as answer
 use Rattle.floats.specs.Answers.{plus_zero}
 use Rattle.terms.specs.Outcomes.{Outcome, given, refused, on_outcome, follow, valued, refuse}
-use Rattle.terms.specs.laws.Outcomes.{valued-value, valued-refused, same_given, given_or_refused, follow-given, follow-refused, of_given}
-use Rattle.lattice.specs.declared.NextLayer.TheVariants as next
+use Rattle.terms.specs.laws.Outcomes.{valued-value, valued-refused, same_given, given_or_refused, of_given}
 use Rattle.lattice.specs.Lattice.{root_layer, spacing_of, decay_of}
-use Rattle.lattice.specs.laws.Growing.{Size, next_outcome}
 use Rattle.lattice.specs.laws.RisingMiddles.{Climbs, none, above, around}
 use Rattle.lattice.proofs.theorems.RisingMiddles.{around-laid}
 use Rattle.widths.specs.declared.tree.Widths.{Widths}
 use Rattle.widths.specs.declared.tree.Widths.TheVariants.{Found, Refused}
 use Rattle.widths.specs.Widths.{middle_nodes, new_spacing, widths_from, flat_widths, curved_widths, total, widest}
 use Rattle.widths.specs.laws.LayerMiddles.{Reached, reached, few-around}
-use Rattle.widths.specs.laws.Widening.{Wide, wide, size_wide, next_wide, wide_from, widths_next, Fore, Widened, new-not_below}
+use Rattle.widths.specs.laws.Widening.{Wide, wide, next_wide, wide_from, Fore, new-not_below}
 
 -- The nodes of all layers, and those of the widest.
 pub record Sums : Type 0 where
@@ -83,13 +81,13 @@ next_known room decay spacing count nodes k v f e =
 
 -- ---- so far
 
-abbrev sums_after : ℕ → ℕ → Outcome (List ℕ) → Outcome Sums
+abbrev pub sums_after : ℕ → ℕ → Outcome (List ℕ) → Outcome Sums
 sums_after t w o = follow o λ ws. given (record { total = t + total ws; widest = max w (widest ws) })
 
 max-zero : (a : ℕ) → max 0 a ≡ a
 max-zero a = le_antisymm (max-le (omega arith) (omega arith)) (le-max_right 0 a)
 
-max_none : (a : ℕ) → max a 0 ≡ a
+pub max_none : (a : ℕ) → max a 0 ≡ a
 max_none a = le_antisymm (max-le (omega arith) (omega arith)) (le-max_left a 0)
 
 max_assoc : (a b c : ℕ) → max a (max b c) ≡ max (max a b) c
@@ -109,7 +107,7 @@ unfolding sums_of on_outcome
 sums_none (given ws) = rw (zero-add (total ws), max-zero (widest ws))
 sums_none (refused r) = refl
 
-sums_more : (t w c : ℕ) (o : Outcome (List ℕ)) → sums_after t w (follow o λ ws. given (c ∷ ws)) ≡ sums_after (t + c) (max w c) o
+pub sums_more : (t w c : ℕ) (o : Outcome (List ℕ)) → sums_after t w (follow o λ ws. given (c ∷ ws)) ≡ sums_after (t + c) (max w c) o
 unfolding on_outcome total widest
 sums_more t w c (given ws) = let e : t + (c + total ws) ≡ t + c + total ws = omega arith in rw (e, max_assoc w c (widest ws))
 sums_more t w c (refused r) = refl
@@ -133,61 +131,6 @@ module _ (decay first : Float) (vs : List Float) (before : List ℤ) where
         kept = refl;
         same = rw e (sums_none (widths_from (length before) decay first root_layer 0 vs));
       }
-
-  module _ (nodes : List ℤ) (spacing : Float) (count t w i : ℕ) (s : Summing nodes spacing count t w i) where
-    abbrev step : Outcome Wide
-    step = next_wide (length before) decay spacing (take count nodes) i (get_or vs i nan)
-
-    at_count : length (take count nodes) ≡ count
-    at_count = length-take-le count nodes s.fore.room
-
-    left_is : i < length vs → widths_from (length before) decay spacing (take count nodes) i (drop i vs) ≡ follow step λ x. follow (widths_from (length before) decay x.spacing x.nodes (suc i) (drop (suc i) vs)) λ ws. given (count ∷ ws)
-    left_is h =
-        rw (drop-cons vs i nan h)
-        (widths_next (length before) decay spacing (take count nodes) i (get_or vs i nan) (drop (suc i) vs) ∙ (rw at_count))
-
-    abbrev tried : Outcome Wide
-    tried = next_wide (length nodes) decay spacing (take count nodes) i (get_or vs i nan)
-
-    is_tried : tried ≡ step
-    is_tried = ap (λ (n : ℕ). next_wide n decay spacing (take count nodes) i (get_or vs i nan)) s.kept
-
-    one_wide : {after : List ℤ} (z : Wide) → i < length vs → tried ≡ given z → take (length z.nodes) after ≡ z.nodes → length after ≡ length nodes → Summing after z.spacing (length z.nodes) (t + count) (max w count) (i + 1)
-    one_wide {after} z h o g q =
-        let k = next_known (length nodes) decay spacing count nodes i (get_or vs i nan) s.fore o in
-        let b = s.bound in
-        let f = s.few in
-        let r = k.fits in
-        record {
-          within = omega arith;
-          fore = record { room = omega arith; some-node = k.some-node; low = k.low; climbs = rw g k.climbs; spacing-above = k.spacing-above; decay-above = s.fore.decay-above };
-          few = k.few;
-          bound = omega arith;
-          kept = q ∙ s.kept;
-          same =
-              rw (g, add-one i)
-              (sym (sums_more t w count (widths_from (length before) decay z.spacing z.nodes (suc i) (drop (suc i) vs)))
-              ∙ ap (sums_after t w) (sym (left_is h ∙ follow-given _ _ (sym is_tried ∙ o)))
-              ∙ s.same);
-        }
-
-    pub summing_one : {after : List ℤ} {x : Float} {n : ℕ} → i < length vs → Widened (next_wide (length nodes) decay spacing (take count nodes) i (get_or vs i nan)) (next.Laid x n) nodes after → Summing after x n (t + count) (max w count) (i + 1)
-    unfolding next_outcome
-    summing_one {after} {x} {n} h d =
-        let (z, o, e) = of_given tried (λ w. given (size_wide w)) (sym d.outcome) in
-        subst (λ (y : Size). Summing after y.spacing y.count (t + count) (max w count) (i + 1)) (same_given e) (one_wide z h o (d.front z o) d.kept)
-
-    pub summing_stopped : {after : List ℤ} {q : Refusal} → i < length vs → Widened (next_wide (length nodes) decay spacing (take count nodes) i (get_or vs i nan)) (next.Refused q) nodes after → sums_made (Refused q) ≡ sums_of (widths_from (length before) decay first root_layer 0 vs)
-    unfolding next_outcome sums_made on_outcome
-    summing_stopped {after} {q} h d = sym (ap (sums_after t w) (left_is h ∙ follow-refused _ _ (sym is_tried ∙ refused_of tried d.outcome))) ∙ s.same
-      where
-        refused_of : (o : Outcome Wide) → refused q ≡ follow o (λ w. given (size_wide w)) → o ≡ refused q
-        refused_of (given z) e = absurd (given_or_refused refl (sym e))
-        refused_of (refused r) e = let p : r ≡ q = cc in ap refused p
-
-    pub summing_all : length vs ≤ i → sums_made (Found (t + count) (max w count)) ≡ sums_of (widths_from (length before) decay first root_layer 0 vs)
-    unfolding sums_made widths_from total widest on_outcome
-    summing_all h = rw (drop_of_length-le vs h, at_count, max_none count, add-zero count) at s.same
 
 -- ---- from the root on
 

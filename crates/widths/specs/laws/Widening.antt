@@ -28,7 +28,7 @@ use Rattle.lattice.specs.laws.Growing.{Size, next_outcome}
 use Rattle.lattice.specs.laws.NextLayer.{spacing_bounds}
 use Rattle.lattice.specs.laws.Reaching.{reach_all, nothing_below}
 use Rattle.lattice.specs.laws.RisingMiddles.{Climbs, around, laid}
-use Rattle.widths.specs.Widths.{middle_nodes, new_spacing, widths_from}
+use Rattle.widths.specs.Widths.{middle_nodes, new_spacing}
 use Rattle.widths.specs.laws.LayerMiddles.{Reached, middles-length, reached, reached-around, reached-many, few-around}
 use Rattle.widths.specs.laws.InPlace.{FilledInPlace}
 use Rattle.widths.specs.laws.Placing.{placed_all, laid-behind, all_length}
@@ -55,31 +55,6 @@ wide_from room decay spacing new nodes k =
 unfoldable pub next_wide : ℕ → Float → Float → List ℤ → ℕ → Float → Outcome Wide
 unfolding new_spacing wide_from
 next_wide room decay spacing nodes k v = follow (new_spacing v k) λ new. wide_from room decay spacing new nodes k
-
--- The widths go on from the next layer.
-pub widths_next : (room : ℕ) (decay spacing : Float) (nodes : List ℤ) (k : ℕ) (v : Float) (vs : List Float)
-    → widths_from room decay spacing nodes k (v ∷ vs) ≡ follow (next_wide room decay spacing nodes k v) λ w. follow (widths_from room decay w.spacing w.nodes (suc k) vs) λ ws. given (length nodes ∷ ws)
-unfolding widths_from next_wide wide_from on_outcome
-widths_next room decay spacing nodes k v vs = go (new_spacing v k)
-  where
-    rest : Float → List ℤ → Outcome (List ℕ)
-    rest new ns = follow (widths_from room decay new ns (suc k) vs) λ ws. given (length nodes ∷ ws)
-
-    fitting : (new : Float) (ms : List ℤ) (b : Bool) → cond b (rest new (around ms)) (refuse 21 (suc k)) ≡ follow (cond b (given (wide new (around ms))) (refuse 21 (suc k))) λ w. rest w.spacing w.nodes
-    fitting new ms true = refl
-    fitting new ms false = refl
-
-    middling : (new : Float) (o : Outcome (List ℤ))
-        → follow o (λ ms. cond (leb (length nodes + length (around ms)) room) (rest new (around ms)) (refuse 21 (suc k)))
-        ≡ follow (follow o λ ms. cond (leb (length nodes + length (around ms)) room) (given (wide new (around ms))) (refuse 21 (suc k))) λ w. rest w.spacing w.nodes
-    middling new (given ms) = fitting new ms (leb (length nodes + length (around ms)) room)
-    middling new (refused r) = refl
-
-    go : (o : Outcome Float)
-        → follow o (λ new. follow (middle_nodes spacing decay new k nodes) λ ms. cond (leb (length nodes + length (around ms)) room) (rest new (around ms)) (refuse 21 (suc k)))
-        ≡ follow (follow o λ new. follow (middle_nodes spacing decay new k nodes) λ ms. cond (leb (length nodes + length (around ms)) room) (given (wide new (around ms))) (refuse 21 (suc k))) λ w. rest w.spacing w.nodes
-    go (given new) = middling new (middle_nodes spacing decay new k nodes)
-    go (refused r) = refl
 
 -- ---- what the code promises
 

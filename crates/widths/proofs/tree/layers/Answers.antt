@@ -1,7 +1,8 @@
 -- `layers` meets its contract: the invariant is that the layers from the i-th on, with the sums so far, give the whole. Assumes nothing.
 use native.Mathlib.Omega.{arith}
 use mathlib.Core.Path.{◌∙◌}
-use Rattle.widths.specs.laws.Summing.{summing_begun, summing_one, summing_stopped, summing_all}
+use Rattle.widths.specs.laws.Summing.{summing_begun}
+use Rattle.widths.proofs.laws.Summing.{summing_one, summing_stopped, summing_all}
 use Rattle.widths.proofs.tree.layers.Goals as goal
 
 pub loop-i-init : goal.loop-i-init

@@ -18,7 +18,8 @@ use Rattle.chances.specs.Unclamped.{step_over, middle_of, centre_of, error_of, s
 use Rattle.chances.specs.laws.Near.{counted}
 use Rattle.chances.specs.laws.Spaced.{x_above, spaced}
 use Rattle.chances.specs.laws.ErrorSize.{small-error}
-use Rattle.chances.specs.laws.ChanceFloor.{Floored, floored}
+use Rattle.chances.specs.laws.ChanceFloor.{Floored}
+use Rattle.chances.proofs.laws.ChanceFloor.{floored}
 use Rattle.chances.specs.laws.NeverTooLow.{none-low}
 
 not_lt : (x y : Float) → T (le y x) → lt x y ≡ false
