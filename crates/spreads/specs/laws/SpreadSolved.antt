@@ -3,7 +3,7 @@ use Rattle.std.specs.Prelude.{ℕ, ◌≡◌, Bool, length, replicate, ℤ, pos}
 use Rattle.std.proofs.Math.Path.{refl, sym, ap}
 use Rattle.std.proofs.Common.{◌∙◌}
 use Rattle.std.proofs.Math.Bool.{cond}
-use mathlib.Core.List.{List, [], map}
+use mathlib.Core.List.{List, map}
 use Rattle.std.specs.Float.Ieee.{Float, binary64, of_bits, sub, div, neg, lt}
 use Rattle.floats.specs.declared.Refusal.{Refusal}
 use Rattle.floats.specs.declared.Answer.{Answer}
@@ -14,7 +14,7 @@ use Rattle.terms.specs.Numbers.{float}
 use Rattle.terms.specs.Terms.{CallSchedule, Market}
 use Rattle.terms.specs.Checks.{on_check, beyond}
 use Rattle.terms.specs.Curve.{curve_over, pillar_times}
-use Rattle.terms.specs.Outcomes.{Outcome, given, refused, on_outcome, finite_then}
+use Rattle.terms.specs.Outcomes.{Outcome, on_outcome, finite_then}
 use Rattle.bondevents.specs.declared.CallStep.{CallStep}
 use Rattle.bondevents.specs.declared.EventGrid.{EventGrid}
 use Rattle.bondevents.specs.Grid.{event_grid}
@@ -25,7 +25,7 @@ use Rattle.treebasedbondpricer.specs.declared.fitted.FittedTree.{FittedTree}
 use Rattle.treebasedbondpricer.specs.declared.fitted.FittedTree.TheVariants as tree
 use Rattle.treebasedbondpricer.specs.Tree.{Fitted, Lent, room_of, zeroed}
 use Rattle.treebasedbondpricer.specs.laws.FittedIn.{FitsTree, fitted_over, tree_refusal}
-use Rattle.treebasedbondpricer.specs.laws.Valued.{Standing, not_standing, same_row, same_calls, row_over}
+use Rattle.treebasedbondpricer.specs.laws.Valued.{Standing, not_standing, same_row, same_calls}
 use Rattle.backwardinduction.specs.laws.WalkRoot.{root_of}
 use Rattle.treebasedbondpricer.specs.laws.Entered.{grid-given, grid-refused, tree_is}
 use Rattle.interestrate.specs.declared.RateDefinition.{RateDefinition}

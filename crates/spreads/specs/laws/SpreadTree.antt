@@ -1,7 +1,7 @@
 -- The tree is fitted once for all spreads that are tried: what doesn't read the spread refuses at the first try, and each try walks back over the same tree. Assumes nothing.
 use Rattle.std.specs.Prelude.{ℕ, ◌≡◌, Bool, List, pos, Float}
 use Rattle.std.proofs.Math.Path.{refl, ap}
-use Rattle.std.proofs.Common.{sym, ◌∙◌}
+use Rattle.std.proofs.Common.{◌∙◌}
 use Rattle.std.proofs.Math.Bool.{true, false, cond}
 use Rattle.std.specs.Float.Ieee.{binary64, of_bits, of_int, sub, neg, lt}
 use Rattle.std.specs.Borrow.{Bor}

@@ -3,14 +3,8 @@ use Rattle.treebasedbondpricer.specs.laws.Entered.{steps_of-grid}
 use Rattle.spreads.specs.laws.SpreadSolved.{root_unchecked, root-checked}
 use Rattle.spreads.proofs.spreads.checked_spread.Goals as goal
 
-pub enum_known-check : goal.enum_known-check
-enum_known-check c = c.in-Refused.keys1
-
 pub returns-in-Refused : goal.returns-in-Refused
 returns-in-Refused c = root_unchecked _ _ _ c.event_grid-answer.ensures c.in-Refused.is
-
-pub enum_told-1 : goal.enum_told-1
-enum_told-1 c = c.in_default.keys2
 
 pub solve_grid-requires : goal.solve_grid-requires
 solve_grid-requires c =

@@ -1,6 +1,5 @@
 -- `solve_grid` meets its contract: the grid's calls as marks and prices, then the root (`SpreadSolved`). Assumes nothing.
-use mathlib.Core.Path.{sym, ◌∙◌}
-use lib.ListN.{length-map}
+use mathlib.Core.Path.{sym}
 use native.Mathlib.Omega.{arith}
 use lib.Seq.{length-take-le}
 use Rattle.spreads.specs.laws.SpreadSolved.{root-with_calls}
@@ -37,7 +36,7 @@ pub slice_bounds-solve_over-end-6 : goal.slice_bounds-solve_over-end-6
 slice_bounds-solve_over-end-6 c = let p = c.requires in sym (length-take-le _ _ (omega arith))
 
 pub solve_over-requires : goal.solve_over-requires
-solve_over-requires c = let p = c.requires in record { steps_nonzero = (p.0, p.1, sym (length-map c.args.grid.cashflows _) ∙ c.well_formed.0.1.1.1.1.0.1.0.1, omega arith, omega arith); counts_len = (length-take-le _ _ (omega arith), length-take-le _ _ (omega arith), length-take-le _ _ (omega arith)) }
+solve_over-requires c = let p = c.requires in record { steps_nonzero = (p.0, p.1, c.well_formed.0.1.1.1.1.0.1.0.1, omega arith, omega arith); counts_len = (length-take-le _ _ (omega arith), length-take-le _ _ (omega arith), length-take-le _ _ (omega arith)) }
 
 pub shape_of-nodes : goal.shape_of-nodes
 shape_of-nodes c = c.solve_over.auto.nodes

@@ -9,13 +9,7 @@ use Rattle.spreads.specs.laws.SpreadSolved.{root-refused, root_is}
 use Rattle.spreads.proofs.spreads.solve_over.Goals as goal
 
 pub fitted_tree-f-requires : goal.fitted_tree-f-requires
-fitted_tree-f-requires c = let p = c.requires in record { steps_nonzero = (p.steps_nonzero.0, p.steps_nonzero.1.0); counts_len = p.counts_len }
-
-pub enum_known-f : goal.enum_known-f
-enum_known-f c = c.in-Fitted.keys1
-
-pub enum_told-1 : goal.enum_told-1
-enum_told-1 c = c.in_default.keys2
+fitted_tree-f-requires c = let p = c.requires in record { steps_nonzero = (p.steps_nonzero.0, p.steps_nonzero.1); counts_len = p.counts_len }
 
 pub refusal-requires : goal.refusal-requires
 refusal-requires c = tt

@@ -20,14 +20,8 @@ slice_bounds-spread_checks-end c = let few = c.timed_pillars-count.ensures in sy
 pub spread_checks-check-requires : goal.spread_checks-check-requires
 spread_checks-check-requires c = fronted _ _ _ c.timed_pillars-count.ensures c.pillar_times-table.ensures
 
-pub enum_known-check : goal.enum_known-check
-enum_known-check c = c.in-Refused.keys1
-
 pub returns-in-Refused : goal.returns-in-Refused
 returns-in-Refused c = solved-refused _ _ c.spread_checks-check.ensures _ c.in-Refused.is
-
-pub enum_told-1 : goal.enum_told-1
-enum_told-1 c = c.in_default.keys2
 
 pub slice_bounds-checked_spread-end : goal.slice_bounds-checked_spread-end
 slice_bounds-checked_spread-end c = let few = c.timed_pillars-count.ensures in sym (length-take-le _ _ (omega arith))
@@ -56,17 +50,17 @@ pub zero_floats-requires-3 : goal.zero_floats-requires-3
 zero_floats-requires-3 c = tt
 
 pub shape_of-nodes : goal.shape_of-nodes
-shape_of-nodes c = c.zero_numbers.auto.nodes ∙ c.checked_spread-root.auto.nodes
+shape_of-nodes c = c.zero_numbers.auto.s ∙ c.checked_spread-root.auto.nodes
 
 pub shape_of-probabilities : goal.shape_of-probabilities
-shape_of-probabilities c = c.zero_floats.auto.probabilities ∙ c.checked_spread-root.auto.probabilities
+shape_of-probabilities c = c.zero_floats.auto.s ∙ c.checked_spread-root.auto.probabilities
 
 pub shape_of-first_row : goal.shape_of-first_row
-shape_of-first_row c = c.zero_floats-2.auto.first_row ∙ c.checked_spread-root.auto.first_row
+shape_of-first_row c = c.zero_floats-2.auto.s ∙ c.checked_spread-root.auto.first
 
 pub shape_of-second_row : goal.shape_of-second_row
-shape_of-second_row c = c.zero_floats-3.auto.second_row ∙ c.checked_spread-root.auto.second_row
+shape_of-second_row c = c.zero_floats-3.auto.s ∙ c.checked_spread-root.auto.second
 
 pub returns : goal.returns
 returns c =
-    solved-zeroed _ _ c.spread_checks-check.ensures _ c.in_default.is c.checked_spread-root.ensures c.zero_numbers.ensures c.zero_floats.ensures c.zero_floats-2.ensures c.zero_floats-3.ensures c.checked_spread-root.auto.nodes c.checked_spread-root.auto.probabilities c.checked_spread-root.auto.first_row c.checked_spread-root.auto.second_row
+    solved-zeroed _ _ c.spread_checks-check.ensures _ c.in_default.is c.checked_spread-root.ensures c.zero_numbers.ensures c.zero_floats.ensures c.zero_floats-2.ensures c.zero_floats-3.ensures c.checked_spread-root.auto.nodes c.checked_spread-root.auto.probabilities c.checked_spread-root.auto.first c.checked_spread-root.auto.second
