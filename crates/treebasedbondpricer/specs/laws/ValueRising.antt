@@ -20,7 +20,7 @@ use Rattle.treebasedbondpricer.specs.Tree.{fitted_tree_over, lattice_value_over}
 use Rattle.lattice.specs.laws.Proper.{Proper}
 use Rattle.treebasedbondpricer.specs.laws.Counts.{ready_of_fitted}
 use Rattle.backwardinduction.specs.laws.Rising.{Higher, higher-refl, Rows, at_node}
-use Rattle.backwardinduction.specs.laws.WalkRising.{walk-higher}
+use Rattle.backwardinduction.proofs.laws.WalkRising.{walk-higher}
 
 -- Two values with the same node count, the second no lower than the first.
 pub data Values : TreeValue → TreeValue → Type 0 where

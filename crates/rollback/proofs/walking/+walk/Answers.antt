@@ -9,7 +9,7 @@ use Rattle.lattice.specs.laws.Parts.{part_from, part_length}
 use Rattle.forwardinduction.specs.laws.LaidFront.{fronted, behind_of, laid-parts}
 use Rattle.forwardinduction.specs.laws.FitMore.{layered_of}
 use Rattle.backwardinduction.specs.laws.WalkMore.{calls_of}
-use Rattle.backwardinduction.specs.laws.WalkBack.{walk_last, walk-stopped, walk_step}
+use Rattle.backwardinduction.proofs.laws.WalkBack.{walk_last, walk-stopped, walk_step}
 use Rattle.rollback.proofs.walking.+walk.Goals as goal
 
 pub returns-then-spacings-eq0 : goal.returns-then-spacings-eq0

@@ -21,7 +21,7 @@ use Rattle.lattice.specs.laws.StoredAt.{drop_one, get_d_inside}
 use Rattle.lattice.specs.laws.Positions.{start_of}
 use Rattle.lattice.specs.laws.Rows.{current_part, outcome_of, Both}
 use Rattle.backwardinduction.specs.laws.WalkSteps.{rolled_at}
-use Rattle.backwardinduction.specs.laws.WalkPlaces.{reads_of, rolled_at_lem}
+use Rattle.backwardinduction.proofs.laws.WalkPlaces.{reads_of, rolled_at_lem}
 use Rattle.lattice.specs.laws.Laid.{front_nodes, layers_in, final_in, Laid}
 use Rattle.lattice.specs.laws.Parts.{part_from, part_from_lem}
 use Rattle.forwardinduction.specs.laws.LaidFront.{front_count, fronted, last_of, Behind, behind_of}

@@ -21,7 +21,8 @@ use Rattle.lattice.specs.Layers.{At, value_at, node_float}
 use Rattle.lattice.specs.Lattice.{Layer}
 use Rattle.backwardinduction.specs.Walk.{Reads, expected, discount_of, exercised, node_value, rolled, final_row, walk_from}
 use Rattle.lattice.specs.laws.Proper.{Weighted, Each, more, Proper}
-use Rattle.backwardinduction.specs.laws.Rising.{Higher, Rises, rises-refl, rises_of_higher, times, plus, exercised-no_lower, Rows, ends, beside, at_node, rises_of_rows}
+use Rattle.backwardinduction.specs.laws.Rising.{Higher, Rises, rises-refl, rises_of_higher, times, plus, Rows, ends, beside, at_node, rises_of_rows}
+use Rattle.backwardinduction.proofs.laws.Rising.{exercised-no_lower}
 
 -- The same readings with another call step.
 abbrev pub with_call : Reads → CallStep → Reads
