@@ -6,5 +6,4 @@ pub mod PutLists
 pub mod FittedIn
 pub mod Valued
 pub mod Entered
-pub mod EntryRules
 pub mod Marks

@@ -16,7 +16,7 @@ use Rattle.treebasedbondpricer.specs.declared.TreeValue.TheVariants as tree
 use Rattle.treebasedbondpricer.specs.Tree.{tree_value, room_of}
 use Rattle.treebasedbondpricer.specs.CallLists.{NoLowerOr27, accepted}
 use Rattle.treebasedbondpricer.specs.CallLists as lists
-use Rattle.treebasedbondpricer.specs.laws.CallLists.{call_list_rule}
+use Rattle.treebasedbondpricer.proofs.laws.CallLists.{call_list_rule}
 use Rattle.filevalue.specs.declared.Ask.TheVariants as ask
 use Rattle.filevalue.specs.declared.Reply.{Reply}
 use Rattle.filevalue.specs.declared.Reply.TheVariants.{Found, Refused}

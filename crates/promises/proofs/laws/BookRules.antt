@@ -25,7 +25,7 @@ use Rattle.treebasedbondpricer.specs.declared.TreeValue.TheVariants.{Value, Refu
 use Rattle.treebasedbondpricer.specs.Tree.{tree_value_over, curve_of, value_of, counted_by, Lent, zeroed}
 use Rattle.treebasedbondpricer.specs.CallLists.{NoLowerOr27}
 use Rattle.treebasedbondpricer.specs.CallLists as rule
-use Rattle.treebasedbondpricer.specs.laws.CallLists.{any_curve_rule}
+use Rattle.treebasedbondpricer.proofs.laws.CallLists.{any_curve_rule}
 use Rattle.treebasedbondpricer.specs.laws.PutLists.{any_curve_put_rule}
 use Rattle.bookchecks.specs.declared.Holding.{Holding}
 use Rattle.bookchecks.specs.declared.Lengths.{Lengths}

@@ -25,7 +25,7 @@ use Rattle.treebasedbondpricer.specs.declared.TreeValue.{TreeValue}
 use Rattle.treebasedbondpricer.specs.declared.TreeValue.TheVariants.{Value, Refused}
 use Rattle.treebasedbondpricer.specs.Tree.{tree_value, room_of, lent_after, number_of}
 use Rattle.treebasedbondpricer.specs.CallLists.{NoLowerOr27, accepted, refused_27}
-use Rattle.treebasedbondpricer.specs.laws.CallLists.{call_list_rule}
+use Rattle.treebasedbondpricer.proofs.laws.CallLists.{call_list_rule}
 use Rattle.closingsheet.specs.declared.ClosingLine.{ClosingLine}
 use Rattle.closingsheet.specs.Cells.{printed_of, value_cell}
 use Rattle.closingsheet.specs.Sheet.{at, refused_sheet, shown_sheet, value_sheet, answer_sheet, no_sheet, sheet_by, sheet_of}

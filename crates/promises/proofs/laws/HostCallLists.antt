@@ -24,7 +24,7 @@ use Rattle.treebasedbondpricer.specs.declared.TreeValue.{TreeValue}
 use Rattle.treebasedbondpricer.specs.declared.TreeValue.TheVariants.{Value, Refused}
 use Rattle.treebasedbondpricer.specs.Tree.{tree_value_over, tree_value, Lent, lent_after, number_of, place_of, value_of, counted_by, room_of}
 use Rattle.treebasedbondpricer.specs.CallLists.{NoLowerOr27, accepted, refused_27}
-use Rattle.treebasedbondpricer.specs.laws.CallLists.{call_list_rule}
+use Rattle.treebasedbondpricer.proofs.laws.CallLists.{call_list_rule}
 use Rattle.sizing.specs.declared.Sizes.{Sizes}
 use Rattle.sizing.specs.declared.Sizes.TheVariants as sizes
 use Rattle.sizing.specs.Sizing.{tree_widths, sizes_from, sizes_of, nodes_after, sizes_number, sizes_place, needed}

@@ -8,7 +8,7 @@ use Rattle.terms.specs.Checks.{lowest}
 use Rattle.terms.specs.laws.Groups.{CallsPassed}
 use Rattle.terms.specs.laws.EntryChecks.{market-alike}
 use Rattle.terms.specs.laws.MadeLists.{accepted-strike}
-use Rattle.treebasedbondpricer.specs.laws.CallLists.{call_list_rule}
+use Rattle.treebasedbondpricer.proofs.laws.CallLists.{call_list_rule}
 use Rattle.callnotices.specs.Notices.{Notices}
 use Rattle.callnotices.proofs.laws.ListAccepted.{list_accepted}
 use Rattle.promises.specs.NoticeLists.{calls_of, Accepted, no_calls, NeverForCalls, NoticeRule}

@@ -19,7 +19,7 @@ use Rattle.floats.specs.laws.Cases.{Holds}
 use Rattle.lattice.specs.Layers.{Room}
 use Rattle.treebasedbondpricer.specs.declared.TreeValue.TheVariants.{Value}
 use Rattle.treebasedbondpricer.specs.Tree.{tree_value, room_of, number_of, value_of, counted_by}
-use Rattle.treebasedbondpricer.specs.laws.CallLists.{any_curve_rule}
+use Rattle.treebasedbondpricer.proofs.laws.CallLists.{any_curve_rule}
 use Rattle.treebasedbondpricer.specs.laws.PutLists.{put_list_rule, put_reordering_rule, any_curve_put_rule}
 use Rattle.promises.specs.Puts.{HostPutListRule, HostPutReorderingRule, CallsWithPuts, Never38, GridNever38, ListsOverCurves}
 use Rattle.promises.specs.RefusalNumbers.{Among}

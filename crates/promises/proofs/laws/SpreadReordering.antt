@@ -21,7 +21,7 @@ use Rattle.bondevents.proofs.laws.GridAnswers.{accepted}
 use Rattle.lattice.specs.Layers.{Room}
 use Rattle.treebasedbondpricer.specs.declared.TreeValue.{TreeValue}
 use Rattle.treebasedbondpricer.specs.Tree.{tree_value, Lent, room_of, zeroed}
-use Rattle.treebasedbondpricer.specs.laws.CallLists.{reordering_rule}
+use Rattle.treebasedbondpricer.proofs.laws.CallLists.{reordering_rule}
 use Rattle.brackets.specs.declared.Root.TheVariants as root
 use Rattle.brackets.specs.Brackets.{bracketed_root}
 use Rattle.sought.specs.Objectives.{first_lower, first_upper}

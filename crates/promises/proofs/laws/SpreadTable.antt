@@ -18,7 +18,7 @@ use Rattle.treebasedbondpricer.specs.declared.TreeValue.{TreeValue}
 use Rattle.treebasedbondpricer.specs.declared.TreeValue.TheVariants.{Value, Refused}
 use Rattle.treebasedbondpricer.specs.Tree.{tree_value, room_of, zeroed, number_of, value_of}
 use Rattle.treebasedbondpricer.specs.CallLists.{Thinned, NoLowerOr27, accepted}
-use Rattle.treebasedbondpricer.specs.laws.CallLists.{call_list_rule}
+use Rattle.treebasedbondpricer.proofs.laws.CallLists.{call_list_rule}
 use Rattle.treebasedbondpricer.specs.laws.PutLists.{put_list_rule}
 use Rattle.closingsheet.specs.Cells.{printed_of, value_cell}
 use Rattle.closingsheet.specs.Shown.{Decimal, one_more, read_on, read_back, NoLower}

@@ -1,11 +1,10 @@
--- The tree value from its parts: the checks, the grid, the tree, and the slices left all zero. Assumes nothing.
-use Rattle.std.specs.Prelude.{ℕ, ◌≤◌, ◌<◌, ◌≡◌, refl, length, replicate, ℤ, pos, Float}
+-- The tree value from its parts: the checks, the grid and the tree. Assumes nothing.
+use Rattle.std.specs.Prelude.{ℕ, ◌≤◌, ◌<◌, ◌≡◌, refl, Float}
 use Rattle.std.proofs.Common.{arith, ◌∙◌}
 use Rattle.std.proofs.Math.Path.{sym, ap}
 use mathlib.Core.List.{List}
 use Rattle.std.specs.Float.Ieee.{binary64, div}
 use Rattle.floats.specs.declared.Refusal.{Refusal}
-use Rattle.floats.specs.Answers.{plus_zero}
 use Rattle.terms.specs.declared.Settlement.{Settlement}
 use Rattle.terms.specs.declared.Check.{Check}
 use Rattle.terms.specs.declared.Check.TheVariants as check
@@ -26,8 +25,7 @@ use Rattle.bondevents.specs.Parts.{grid_outcome}
 use Rattle.treebasedbondpricer.specs.declared.TreeValue.{TreeValue}
 use Rattle.treebasedbondpricer.specs.declared.TreeValue.TheVariants.{Refused}
 use Rattle.lattice.specs.Layers.{Room}
-use Rattle.treebasedbondpricer.specs.Tree.{Fitted, lattice_value_over, fitted_tree_over, lattice_value, fitted_tree, tree_value, curve_of, Lent, room_of, zeroed, lent_after}
-use Rattle.treebasedbondpricer.specs.Entry.{Entered}
+use Rattle.treebasedbondpricer.specs.Tree.{Fitted, lattice_value_over, fitted_tree_over, lattice_value, fitted_tree, tree_value, curve_of}
 use Rattle.treebasedbondpricer.specs.laws.FittedIn.{fitted_with, fitted_over}
 use Rattle.treebasedbondpricer.specs.laws.Valued.{tree_of, walked}
 
@@ -90,26 +88,3 @@ as_tree (refused q) = refl
 pub value_of-checked : (m : Market) (calls : CallSchedule) (room : Room) → tree_checks m calls ≡ check.Passed → value_on m calls room ≡ tree_value m calls room
 unfolding tree_value value_on on_check
 value_of-checked m calls room p = as_tree _ ∙ ap (λ (c : Check). on_check c Refused (on_outcome (follow (event_grid m.settlement m.bond calls m.controls) λ grid. lattice_value m room grid) Refused λ v. v)) (sym p)
-
-module _ (m : Market) (calls : CallSchedule) {k : Check} (e : k ≡ tree_checks m calls) (before : Lent) where
-  abbrev checked : TreeValue
-  checked = on_outcome (follow (event_grid m.settlement m.bond calls m.controls) λ grid. lattice_value m (room_of before) grid) Refused λ v. v
-
-  pub entered-refused : {q : Refusal} → k ≡ check.Refused q → Entered m calls (Refused q) before before
-  unfolding tree_value lent_after on_check
-  entered-refused p =
-      record {
-        value = ap (λ (c : Check). on_check c Refused checked) (sym p ∙ e);
-        slices = ap (λ (c : Check). on_check c (λ r. before) (zeroed before)) (sym p ∙ e);
-      }
-
-  pub entered-zeroed : {v : TreeValue} {nodes : List ℤ} {probabilities first second : List Float} {a b c d : ℕ} → k ≡ check.Passed → v ≡ value_on m calls (room_of before)
-      → nodes ≡ replicate a (pos 0) → probabilities ≡ replicate b plus_zero → first ≡ replicate c plus_zero → second ≡ replicate d plus_zero
-      → a ≡ length before.nodes → b ≡ length before.probabilities → c ≡ length before.first → d ≡ length before.second
-      → Entered m calls v before (record { nodes = nodes; probabilities = probabilities; first = first; second = second })
-  unfolding lent_after on_check
-  entered-zeroed {v} p f n o q s g h i j =
-      record {
-        value = f ∙ value_of-checked m calls (room_of before) (sym e ∙ p);
-        slices = rw (n, o, q, s, g, h, i, j) (ap (λ (c : Check). on_check c (λ r. before) (zeroed before)) (sym p ∙ e));
-      }

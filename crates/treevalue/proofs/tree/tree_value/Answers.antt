@@ -5,7 +5,7 @@ use lib.Seq.{length-take-le}
 use Rattle.terms.specs.laws.EntryChecks.{tree-grid, tree-few-pillars}
 use Rattle.terms.proofs.Timing.{fronted}
 use Rattle.bondevents.proofs.Grids.{settled, leg-sized, calls-sized, puts-sized}
-use Rattle.treebasedbondpricer.specs.laws.Entered.{entered-refused, entered-zeroed}
+use Rattle.treebasedbondpricer.proofs.laws.Entered.{entered-refused, entered-zeroed}
 use Rattle.treevalue.proofs.tree.tree_value.Goals as goal
 
 pub pillar_times-table-requires : goal.pillar_times-table-requires

@@ -4,7 +4,7 @@ use Rattle.bondevents.specs.declared.GridAnswer.{GridAnswer}
 use Rattle.treebasedbondpricer.specs.Tree.{tree_value, room_of, lent_after}
 use Rattle.treebasedbondpricer.specs.CallLists.{Thinned}
 use Rattle.treebasedbondpricer.specs.Entry.{EntryCallListRule, EntryReorderingRule}
-use Rattle.treebasedbondpricer.specs.laws.CallLists.{call_list_rule, reordering_rule}
+use Rattle.treebasedbondpricer.proofs.laws.CallLists.{call_list_rule, reordering_rule}
 
 pub entry_call_list_rule : EntryCallListRule
 entry_call_list_rule m first second made x n a b lent-first lent-second left_first left_second p q as_long h =
