@@ -10,10 +10,10 @@ pub shape_of-probabilities : goal.shape_of-probabilities
 shape_of-probabilities c = c.tree_value-uncalled.auto.probabilities ∙ c.tree_value-called.auto.probabilities
 
 pub shape_of-first : goal.shape_of-first
-shape_of-first c = c.tree_value-uncalled.auto.first ∙ c.tree_value-called.auto.first
+shape_of-first c = c.tree_value-uncalled.auto.first_row ∙ c.tree_value-called.auto.first_row
 
 pub shape_of-second : goal.shape_of-second
-shape_of-second c = c.tree_value-uncalled.auto.second ∙ c.tree_value-called.auto.second
+shape_of-second c = c.tree_value-uncalled.auto.second_row ∙ c.tree_value-called.auto.second_row
 
 pub returns : goal.returns
 returns c =
