@@ -15,8 +15,8 @@ slice_bounds-checked_value-end c = let few = c.timed_pillars-count in let made =
 pub checked_value-requires : goal.checked_value-requires
 checked_value-requires c =
     let r =
-      parts-ready _ _ _ c.requires (record { days_are = c.cut_days.ensures; kinds_are = c.cut_kinds.ensures; amounts_are = c.cut_numbers.ensures; starts_are = c.cut_days-2.ensures; ends_are = c.cut_days-3.ensures; strikes_are = c.cut_numbers-2.ensures; put_starts_are = c.cut_days-4.ensures; put_ends_are = c.cut_days-5.ensures; put_strikes_are = c.cut_numbers-3.ensures })
-      (fronted _ _ _ c.timed_pillars-count.ensures c.pillar_times-table.ensures) in
+    parts-ready _ _ _ c.requires (record { days_are = c.cut_days.ensures; kinds_are = c.cut_kinds.ensures; amounts_are = c.cut_numbers.ensures; starts_are = c.cut_days-2.ensures; ends_are = c.cut_days-3.ensures; strikes_are = c.cut_numbers-2.ensures; put_starts_are = c.cut_days-4.ensures; put_ends_are = c.cut_days-5.ensures; put_strikes_are = c.cut_numbers-3.ensures })
+    (fronted _ _ _ c.timed_pillars-count.ensures c.pillar_times-table.ensures) in
     record { le_maximum = r.0; days_len_bound = r.1.0; ends_len = r.1.1.0; put_ends_len = r.1.1.1.0; curve_times_value = r.1.1.1.1 }
 
 pub shape_of-nodes : goal.shape_of-nodes
