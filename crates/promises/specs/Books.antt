@@ -1,10 +1,9 @@
 -- Definitions only. A book in one go, as a C caller meets it: all or none, each bond as alone, and what call lists and put lists may change, whatever the curve.
-use Rattle.std.specs.Prelude.{ℕ, suc, ◌<◌, ◌≤◌, ◌≡◌, false, ◌⊎◌, List, T, get_or, replicate, Float}
+use Rattle.std.specs.Prelude.{ℕ, ◌<◌, ◌≡◌, false, ◌⊎◌, List, T, get_or, replicate, Float}
 use Rattle.std.specs.Float.Ieee.{le}
 use Rattle.floats.specs.declared.Answer.{Answer}
 use Rattle.floats.specs.declared.Refusal.{Refusal}
 use Rattle.floats.specs.Answers.{plus_zero}
-use Rattle.terms.specs.declared.Check.TheVariants as check
 use Rattle.terms.specs.Terms.{CallSchedule, Market, bond_with_puts, with_puts}
 use Rattle.terms.specs.CallLists.{MadeFrom, LoweredFrom, Reordered, StrikeAbove}
 use Rattle.terms.specs.Entries.{tree_checks}
@@ -12,13 +11,12 @@ use Rattle.bondevents.specs.Grid.{grid_answer}
 use Rattle.lattice.specs.Layers.{Room}
 use Rattle.treebasedbondpricer.specs.declared.TreeValue.{TreeValue}
 use Rattle.treebasedbondpricer.specs.declared.TreeValue.TheVariants.{Value}
-use Rattle.treebasedbondpricer.specs.Tree.{tree_value_over, number_of, value_of, counted_by, Lent, room_of}
+use Rattle.treebasedbondpricer.specs.Tree.{tree_value_over, number_of, value_of, room_of}
 use Rattle.bookchecks.specs.declared.BookCheck.TheVariants as book
 use Rattle.bookchecks.specs.Book.{Book, size_of, holding, market_at, calls_at}
 use Rattle.bookchecks.specs.Checks.{leg_lengths, entry_lengths, cut_amiss, bond_check, first_refused, book_checks}
 use Rattle.bookvalue.specs.declared.BookAnswer.{BookAnswer}
 use Rattle.bookvalue.specs.Values.{placed, sum_check, desk_of, refused_book, accepted_book, book_by}
-use Rattle.bookvalue.specs.Entry.{book_lent}
 use Rattle.promises.specs.HostCallLists.{TreeCall, BookCall}
 use Rattle.promises.specs.OneCount.{total_to}
 

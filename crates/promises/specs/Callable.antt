@@ -11,7 +11,7 @@ use Rattle.elementary.specs.Exponential.{exp_at}
 use Rattle.terms.specs.declared.Settlement.{Settlement}
 use Rattle.terms.specs.declared.Check.{Check}
 use Rattle.terms.specs.Numbers.{float, target_limit}
-use Rattle.terms.specs.Terms.{Leg, CallSchedule, SigmaSchedule, Pillars, Bond, TimeGrid, Market}
+use Rattle.terms.specs.Terms.{CallSchedule, Bond, TimeGrid, Market}
 use Rattle.terms.specs.Checks.{on_check, first_of, leg_count, call_count, settlement_day, leg_days, call_days, pillar_days, units_range, amount_range, strike_range, call_order, sigma_order, any_paid, maturity_apart}
 use Rattle.terms.specs.Entries.{setting_checks, model_counts, tree_fields, model_numbers, late_checks}
 use Rattle.terms.specs.Outcomes.{Outcome, given, follow, on_outcome, valued}
@@ -25,7 +25,7 @@ use Rattle.lattice.specs.Lattice.{Layer, node_count}
 use Rattle.backwardinduction.specs.Walk.{expected, final_row}
 use Rattle.treebasedbondpricer.specs.declared.TreeValue.{TreeValue}
 use Rattle.treebasedbondpricer.specs.declared.TreeValue.TheVariants.{Value, Refused}
-use Rattle.treebasedbondpricer.specs.Tree.{Fitted, fitted_tree, Lent, zeroed}
+use Rattle.treebasedbondpricer.specs.Tree.{fitted_tree, Lent, zeroed}
 use Rattle.sizing.specs.declared.Sizes.{Sizes}
 use Rattle.sizing.specs.declared.Sizes.TheVariants as sizes
 use Rattle.sizing.specs.Sizing.{tree_widths, sizes_from}

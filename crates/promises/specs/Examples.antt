@@ -1,9 +1,8 @@
 -- The starred examples of document 01, proved together by computation.
-use Rattle.std.specs.Prelude.{ℕ, ◌≡◌, refl, true, false, List, [], ◌∷◌, ◌++◌, map, length, replicate, ℤ, pos, negsuc, Float}
-use Rattle.std.specs.Float.{fin, binary64}
+use Rattle.std.specs.Prelude.{ℕ, ◌≡◌, refl, List, [], ◌∷◌, ◌++◌, map, replicate, ℤ, pos, Float}
+use Rattle.std.specs.Float.{binary64}
 use Rattle.std.specs.Float.Ieee.{of_bits}
 use Rattle.std.specs.Float.Ieee as ieee
-use Rattle.floats.specs.declared.Answer.{Answer}
 use Rattle.floats.specs.declared.Answer.TheVariants as answer
 use Rattle.floats.specs.Answers.{plus_zero, one, on_answer}
 use Rattle.floats.specs.Whole.{round_alone, rounded}
@@ -12,7 +11,7 @@ use Rattle.elementary.specs.Exponential.{exp_alone, exp_at}
 use Rattle.elementary.specs.Logarithm.{ln_alone, ln_at}
 use Rattle.rounded.specs.Fused.{mul_add_alone, mul_add}
 use Rattle.terms.specs.declared.Settlement.{Settlement}
-use Rattle.terms.specs.Terms.{Leg, CallSchedule, SigmaSchedule, Pillars, Bond, TimeGrid, HullWhite, Market, no_entries}
+use Rattle.terms.specs.Terms.{CallSchedule, Bond, TimeGrid, HullWhite, Market, no_entries}
 use Rattle.terms.specs.Numbers.{float, epsilon}
 use Rattle.terms.specs.Checks.{lowest, on_check}
 use Rattle.terms.specs.Outcomes.{Outcome, given, refused, on_outcome}
@@ -20,7 +19,6 @@ use Rattle.bondevents.specs.Steps.{Axis, step_of, raw_step, paid_into}
 use Rattle.bondevents.specs.Calls.{new_step}
 use Rattle.bondevents.specs.Grid.{grid_answer, axis_of}
 use Rattle.hullwhite.specs.Variance.{piecewise_variance, variance_over}
-use Rattle.treebasedbondpricer.specs.declared.TreeValue.{TreeValue}
 use Rattle.treebasedbondpricer.specs.declared.TreeValue.TheVariants as tree
 use Rattle.lattice.specs.Lattice.{Layer, Lattice, lattice}
 use Rattle.treebasedbondpricer.specs.Tree.{tree_value, Lent, room_of, lent_after, zeroed}

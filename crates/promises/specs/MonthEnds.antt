@@ -1,5 +1,5 @@
 -- Times at month ends by 30E/360, and what rests on the day and what on the time, computed. Day 29 is 30 January 1900: the checker counts from there.
-use Rattle.std.specs.Prelude.{ℕ, ◌≡◌, refl, true, false, [], ◌∷◌, get_or, replicate, Float}
+use Rattle.std.specs.Prelude.{ℕ, ◌≡◌, refl, true, false, [], ◌∷◌, get_or}
 use Rattle.std.specs.Float.{binary64}
 use Rattle.std.specs.Float.Ieee.{div}
 use Rattle.std.specs.Float.Ieee as ieee
@@ -11,7 +11,7 @@ use Rattle.elementary.specs.Logarithm.{ln_at}
 use Rattle.calendar.specs.Calendar.{thirties}
 use Rattle.terms.specs.declared.Settlement.{Settlement}
 use Rattle.terms.specs.Numbers.{float}
-use Rattle.terms.specs.Terms.{Leg, CallSchedule, Pillars, Bond, TimeGrid, no_entries}
+use Rattle.terms.specs.Terms.{Leg, CallSchedule, Pillars, no_entries}
 use Rattle.terms.specs.Times.{time_from, year_fraction}
 use Rattle.terms.specs.Checks.{lowest, on_check}
 use Rattle.terms.specs.Outcomes.{on_outcome}

@@ -1,8 +1,8 @@
 -- Under codes 0 and 1 two days have two times: a day is far more than rounding moves. Assumes nothing.
-use Rattle.std.specs.Prelude.{ℕ, zero, suc, ◌+◌, ◌-◌, ◌*◌, ◌^◌, ◌≤◌, ◌<◌, ◌≡◌, refl, ◌⊎◌, Bool, true, false, not, cond, ◌&&◌, List, [], ◌∷◌, map, T, eqb, ltb, length, get_or, ℤ, Float}
-use Rattle.std.proofs.Common.{mul_comm, mul_assoc, mul_left_comm, mul_right_comm, mul-one, mul-pos, mul-le-mul_right, le_of_mul-le-mul_right, le_antisymm, le_of_eq, add-mul, arith, sym, ap, subst, ◌∙◌, inl, inr, eqb→eq, ltb→lt, lit≤, pow_pos}
+use Rattle.std.specs.Prelude.{ℕ, zero, suc, ◌+◌, ◌-◌, ◌*◌, ◌^◌, ◌≤◌, ◌<◌, ◌≡◌, refl, Bool, true, false, not, cond, ◌&&◌, List, [], ◌∷◌, map, T, eqb, ltb, length, get_or, ℤ, Float}
+use Rattle.std.proofs.Common.{mul_comm, mul_assoc, mul_right_comm, mul-one, mul-pos, mul-le-mul_right, le_of_mul-le-mul_right, le_antisymm, le_of_eq, add-mul, arith, sym, ap, subst, ◌∙◌, inl, inr, eqb→eq, ltb→lt, lit≤, pow_pos}
 use Rattle.std.specs.Float.{nan, inf, fin, binary64}
-use Rattle.std.specs.Float.Ieee.{sub, div, eq, le, lt, of_int, of_bits, round, up, down}
+use Rattle.std.specs.Float.Ieee.{sub, div, eq, le, lt, of_int, of_bits, up, down}
 use Rattle.std.specs.Float.Ieee.Fits.{and_l, and_r}
 use Rattle.std.specs.Float.Ieee.Scale.{finite}
 use Rattle.std.specs.Float.Ieee.Exact.{HasValue}

@@ -1,6 +1,6 @@
 -- What a book's answer comes from: its checks, its values, its sum, or all of them passed; and which numbers its checks have. Assumes nothing.
-use Rattle.std.specs.Prelude.{ℕ, zero, suc, ◌+◌, ◌<◌, ◌≡◌, Bool, true, false, cond, ◌||◌, ltb, ◌⊎◌, List, [], ◌∷◌, ◌++◌, Float, get_or}
-use Rattle.std.proofs.Common.{arith, sym, ap, subst, ◌∙◌, inl, inr}
+use Rattle.std.specs.Prelude.{ℕ, ◌≡◌, Bool, true, false, ◌||◌, ltb, List, [], ◌∷◌, ◌++◌, Float, get_or}
+use Rattle.std.proofs.Common.{arith, sym, ap, subst, ◌∙◌}
 use Rattle.std.proofs.Math.Path.{refl}
 use Rattle.floats.specs.declared.Refusal.{Refusal}
 use Rattle.floats.specs.declared.Answer.{Answer}
@@ -11,22 +11,20 @@ use Rattle.terms.specs.Numbers.{float}
 use Rattle.terms.specs.Terms.{CallSchedule, Market}
 use Rattle.terms.specs.Checks.{on_check, first_of, single, outside, settings, day_count}
 use Rattle.terms.specs.Entries.{most_checks, tree_counts, tree_days, tree_numbers, tree_orders, late_checks, market_checks, tree_checks}
-use Rattle.terms.specs.Outcomes.{on_outcome, follow}
 use Rattle.lattice.specs.Layers.{Room}
-use Rattle.bondevents.specs.Grid.{event_grid}
 use Rattle.treebasedbondpricer.specs.declared.TreeValue.{TreeValue}
-use Rattle.treebasedbondpricer.specs.declared.TreeValue.TheVariants.{Value, Refused}
-use Rattle.treebasedbondpricer.specs.Tree.{lattice_value_over, tree_value_over, tree_value, curve_of, value_of, counted_by}
+use Rattle.treebasedbondpricer.specs.declared.TreeValue.TheVariants.{Refused}
+use Rattle.treebasedbondpricer.specs.Tree.{tree_value_over, tree_value, curve_of, value_of, counted_by}
 use Rattle.bookchecks.specs.declared.Holding.{Holding}
 use Rattle.bookchecks.specs.declared.BookCheck.{BookCheck}
 use Rattle.bookchecks.specs.declared.BookCheck.TheVariants as book
-use Rattle.bookchecks.specs.Book.{Shared, Fields, Lists, Book, size_of, holding_at, holding, market_of, calls_of, market_at, calls_at}
-use Rattle.bookchecks.specs.Checks.{leg_lengths, entry_lengths, cut_amiss, cut_checks, bond_check, first_refused, on_book, desk_check, book_checks}
+use Rattle.bookchecks.specs.Book.{Shared, Fields, Lists, Book, holding, market_of, calls_of}
+use Rattle.bookchecks.specs.Checks.{leg_lengths, entry_lengths, cut_amiss, bond_check, first_refused, on_book, desk_check, book_checks}
 use Rattle.bookchecks.proofs.laws.Naming.{FirstOf, first_refused_lem}
 use Rattle.bookvalue.specs.declared.BookAnswer.{BookAnswer}
 use Rattle.bookvalue.specs.Values.{refused_tree, placed, sum_check, desk_of, refused_book, accepted_book, summed_book, valued_book, book_by}
 use Rattle.bookvalue.proofs.laws.Entered.{by_size, by_desks, by_bonds}
-use Rattle.promises.specs.Books.{AddsUp, CheckedAlone, size}
+use Rattle.promises.specs.Books.{CheckedAlone, size}
 use Rattle.promises.specs.RefusalNumbers.{Among, tree_refusals}
 use Rattle.promises.proofs.laws.TreeNumbers.{tree_numbers_lem}
 

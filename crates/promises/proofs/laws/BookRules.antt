@@ -1,5 +1,5 @@
 -- The call-list rule, the put-list rule and reordering, of a book over any curves. Assumes nothing.
-use Rattle.std.specs.Prelude.{ℕ, zero, suc, ◌+◌, ◌<◌, ◌≤◌, ◌≡◌, refl, Bool, true, false, ◌⊎◌, List, T, ltb, Float}
+use Rattle.std.specs.Prelude.{ℕ, zero, suc, ◌<◌, ◌≤◌, ◌≡◌, refl, Bool, true, false, ◌⊎◌, List, T, ltb, Float}
 use Rattle.std.proofs.Common.{arith, eq-or-lt_of_le, le_of_suc-le-suc, sym, subst, ◌∙◌, inl, inr}
 use Rattle.std.proofs.Math.Path.{ap}
 use Rattle.std.proofs.Math.ListN.{get_or}
@@ -12,7 +12,7 @@ use Rattle.terms.specs.declared.Check.{Check}
 use Rattle.terms.specs.declared.Check.TheVariants as check
 use Rattle.terms.specs.Numbers.{million}
 use Rattle.terms.specs.Terms.{CallSchedule, Market, bond_with_puts, with_puts}
-use Rattle.terms.specs.CallLists.{MadeFrom, StrikeAbove, strike_of}
+use Rattle.terms.specs.CallLists.{StrikeAbove, strike_of}
 use Rattle.terms.specs.Checks.{on_check, first_of, single, outside}
 use Rattle.terms.specs.Entries.{tree_checks}
 use Rattle.terms.specs.laws.EntryChecks.{grid-calls, grid-terms, tree-puts-alike}
@@ -21,8 +21,7 @@ use Rattle.terms.proofs.MadeLists.{tree-made-refused, tree-made-passed, tree-reo
 use Rattle.bondevents.proofs.laws.GridAnswers as grids
 use Rattle.lattice.specs.Layers.{Room}
 use Rattle.treebasedbondpricer.specs.declared.TreeValue.{TreeValue}
-use Rattle.treebasedbondpricer.specs.declared.TreeValue.TheVariants.{Value, Refused}
-use Rattle.treebasedbondpricer.specs.Tree.{tree_value_over, curve_of, value_of, counted_by, Lent, zeroed}
+use Rattle.treebasedbondpricer.specs.Tree.{tree_value_over, curve_of, value_of, Lent, zeroed}
 use Rattle.treebasedbondpricer.specs.CallLists.{NoLowerOr27}
 use Rattle.treebasedbondpricer.specs.CallLists as rule
 use Rattle.treebasedbondpricer.proofs.laws.CallLists.{any_curve_rule}
@@ -33,10 +32,10 @@ use Rattle.bookchecks.specs.declared.BookCheck.{BookCheck}
 use Rattle.bookchecks.specs.declared.BookCheck.TheVariants as book
 use Rattle.bookchecks.specs.Book.{Fields, Book, size_of, holding_at, holding, market_at, calls_at}
 use Rattle.bookchecks.specs.Checks.{leg_lengths, entry_lengths, cut_checks, bond_check, first_refused, on_book, desk_check, book_checks}
-use Rattle.bookchecks.proofs.laws.Naming.{all_pass, pass_all, first_is, same_first, FirstOf, first_refused_lem}
+use Rattle.bookchecks.proofs.laws.Naming.{all_pass, pass_all, first_is, same_first, first_refused_lem}
 use Rattle.bookvalue.specs.declared.BookAnswer.{BookAnswer}
 use Rattle.bookvalue.specs.declared.Valued.{Valued}
-use Rattle.bookvalue.specs.Values.{refused_tree, placed, sum_to, sum_check, desk_of, refused_book, accepted_book, valued_book, book_by}
+use Rattle.bookvalue.specs.Values.{refused_tree, sum_to, sum_check, desk_of, refused_book, valued_book, book_by}
 use Rattle.bookvalue.specs.Entry.{book_lent}
 use Rattle.bookvalue.specs.laws.Placed.{placed_at}
 use Rattle.bookvalue.specs.laws.Answers.{answer_of}

@@ -1,5 +1,5 @@
 -- What a C caller is handed of a book: all or none, each bond as alone, and the rules for call lists, put lists and slices. Assumes nothing.
-use Rattle.std.specs.Prelude.{ℕ, zero, suc, ◌+◌, ◌-◌, ◌<◌, ◌≤◌, ◌≡◌, refl, ◌⊎◌, T, replicate, Float}
+use Rattle.std.specs.Prelude.{ℕ, ◌-◌, ◌<◌, ◌≡◌, refl, ◌⊎◌, T, replicate, Float}
 use native.Mathlib.Omega.{arith}
 use Rattle.std.proofs.Common.{sym, subst, ◌∙◌}
 use Rattle.std.proofs.Math.Path.{ap}
@@ -22,7 +22,7 @@ use Rattle.bookchecks.specs.Book.{Book, size_of, holding, market_at, calls_at}
 use Rattle.bookchecks.specs.Checks.{first_refused, book_checks}
 use Rattle.bookchecks.proofs.laws.Naming.{all_pass, first_refused_lem}
 use Rattle.bookvalue.specs.declared.BookAnswer.{BookAnswer}
-use Rattle.bookvalue.specs.Values.{bond_value, refused_tree, placed, sum_check, desk_of, refused_book, accepted_book, book_by, book_value}
+use Rattle.bookvalue.specs.Values.{bond_value, refused_tree, sum_check, desk_of, accepted_book, book_value}
 use Rattle.bookvalue.specs.Entry.{book_lent}
 use Rattle.bookvalue.specs.laws.Placed.{placed_at, each-alike}
 use Rattle.promises.specs.HostCallLists.{TreeCall, BookCall}

@@ -1,6 +1,6 @@
 -- The counts of eight desks together are the one count. Assumes nothing.
 use Rattle.std.specs.Prelude.{ℕ, zero, suc, ◌+◌, ◌≤◌, ◌<◌, ◌≡◌, refl, Bool, true, false, cond, List, eqb, ltb, get_or}
-use Rattle.std.proofs.Common.{arith, sym, ap, ◌∙◌, ltb-false}
+use Rattle.std.proofs.Common.{arith, ap, ◌∙◌, ltb-false}
 use Rattle.terms.specs.declared.Check.TheVariants as check
 use Rattle.terms.specs.Checks.{single}
 use Rattle.bookchecks.specs.declared.BookCheck.TheVariants as book

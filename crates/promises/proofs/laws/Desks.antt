@@ -1,20 +1,19 @@
 -- A desk's count and values by its bonds alone. Assumes nothing.
-use Prim.Native.Nat.{ℕ, zero, suc, ◌+◌, ◌<◌, ◌≤◌}
+use Prim.Native.Nat.{ℕ, zero, suc, ◌+◌, ◌<◌}
 use Rattle.std.proofs.Common.{arith, subst, ◌∙◌}
-use Rattle.std.specs.Prelude.{◌≡◌, Bool, eqb, Float}
+use Rattle.std.specs.Prelude.{◌≡◌, Bool, eqb}
 use Rattle.std.proofs.Math.Path.{refl, sym, ap}
 use Rattle.std.proofs.Math.Bool.{true, false, cond}
 use mathlib.Core.List.{List, [], ◌∷◌, ◌++◌, map}
 use Rattle.std.proofs.Math.ListN.{get_or}
-use Rattle.floats.specs.Answers.{plus_zero}
 use Rattle.terms.specs.Terms.{Market}
 use Rattle.lattice.specs.Layers.{Room}
 use Rattle.treebasedbondpricer.specs.declared.TreeValue.{TreeValue}
 use Rattle.treebasedbondpricer.specs.declared.TreeValue.TheVariants.{Value}
 use Rattle.treebasedbondpricer.specs.Tree.{tree_value, value_of, counted_by, room_of}
-use Rattle.bookchecks.specs.Book.{Shared, Book, market_at, calls_at}
+use Rattle.bookchecks.specs.Book.{Shared, Book}
 use Rattle.bookvalue.specs.declared.BookAnswer.{BookAnswer}
-use Rattle.bookvalue.specs.Values.{bond_value, placed, desk_to, desk_of}
+use Rattle.bookvalue.specs.Values.{bond_value, desk_to, desk_of}
 use Rattle.bookvalue.specs.laws.Placed.{placed_at, each_at}
 use Rattle.promises.specs.HostCallLists.{BookCall}
 use Rattle.promises.specs.Books.{size}

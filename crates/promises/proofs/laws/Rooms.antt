@@ -20,7 +20,6 @@ use Rattle.bondevents.specs.declared.CallStep.{CallStep}
 use Rattle.bondevents.specs.Grid.{event_grid}
 use Rattle.hullwhite.specs.Variance.{transition_variances}
 use Rattle.lattice.specs.Layers.{Room, fits}
-use Rattle.lattice.specs.Transitions.{Step}
 use Rattle.lattice.specs.Lattice.{Lattice, root_layer, flat_layer, destinations, transitions_of, step_of, spacing_of, decay_of, grown, flat, curved, all_flat, lattice}
 use Rattle.treebasedbondpricer.specs.declared.TreeValue.{TreeValue}
 use Rattle.treebasedbondpricer.specs.declared.TreeValue.TheVariants.{Value, Refused}

@@ -12,7 +12,7 @@ use Rattle.std.specs.Float.Ieee.{mul, le}
 use Rattle.floats.specs.declared.Refusal.{Refusal}
 use Rattle.floats.specs.declared.Answer.{Answer}
 use Rattle.floats.specs.declared.Answer.TheVariants as answer
-use Rattle.floats.specs.Answers.{one, two, on_answer}
+use Rattle.floats.specs.Answers.{two, on_answer}
 use Rattle.terms.specs.Numbers.{float, epsilon}
 use Rattle.terms.specs.Outcomes.{Outcome, given, refused, on_outcome, follow, valued, finite_then, refuse}
 use Rattle.terms.specs.laws.Outcomes.{same_given, given_or_refused, of_given, valued-value}

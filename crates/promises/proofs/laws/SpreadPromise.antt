@@ -1,10 +1,8 @@
 -- The promise of a spread: the difference there is within 1e-12 of 0 as the solver evaluates it, or the spread is the middle of a last bracket less than 1e-14 wide at whose ends the differences are neither both above 0 nor both below (`IsRoot`). At most 386 spreads are tried, none where the input is refused. Assumes nothing.
-use Rattle.std.specs.Prelude.{ℕ, ◌≤◌, ◌≡◌, refl, Float}
-use Rattle.std.proofs.Common.{sym, ap, ◌∙◌}
+use Rattle.std.specs.Prelude.{ℕ, ◌≤◌, ◌≡◌, Float}
 use Rattle.std.proofs.Math.Path.{subst}
 use Rattle.std.specs.Float.Ieee.{neg}
 use native.Mathlib.Omega.{arith}
-use Rattle.floats.specs.declared.Refusal.{Refusal}
 use Rattle.floats.specs.declared.Answer.{Answer}
 use Rattle.floats.specs.Answers.{one}
 use Rattle.terms.specs.declared.Check.{Check}
@@ -12,9 +10,8 @@ use Rattle.terms.specs.declared.Check.TheVariants as check
 use Rattle.terms.specs.Terms.{CallSchedule}
 use Rattle.terms.specs.Checks.{on_check}
 use Rattle.lattice.specs.Layers.{Room}
-use Rattle.brackets.specs.declared.Root.{Root}
 use Rattle.brackets.specs.declared.Root.TheVariants as root
-use Rattle.brackets.specs.Brackets.{bracketed_root, evaluations_of}
+use Rattle.brackets.specs.Brackets.{evaluations_of}
 use Rattle.sought.specs.Objectives.{first_lower, first_upper}
 use Rattle.brackets.specs.laws.Roots.{IsRoot, RootKeeps, root-keeps}
 use Rattle.brackets.specs.laws.Evaluations.{at_most_386}

@@ -1,5 +1,5 @@
 -- The promises of the spread by sigma table. Assumes nothing.
-use Rattle.std.specs.Prelude.{ℕ, ◌+◌, ◌-◌, ◌*◌, ◌≤◌, ◌<◌, ◌≡◌, refl, ◌↔◌, ◌⊎◌, Bool, true, false, not, ◌&&◌, ◌||◌, List, [], ◌∷◌, ◌++◌, T, eqb, length, get_or, take, drop, replicate, Float}
+use Rattle.std.specs.Prelude.{ℕ, ◌-◌, ◌*◌, ◌≡◌, refl, ◌⊎◌, Bool, true, false, not, ◌&&◌, ◌||◌, List, [], ◌∷◌, ◌++◌, T, eqb, length, get_or, take, drop, replicate, Float}
 use Rattle.std.proofs.Common.{sym, subst, ◌∙◌, inl, inr, arith, ne_eqb, T_not, eqb→eq}
 use Rattle.std.proofs.Math.Path.{ap}
 use Rattle.std.proofs.Math.Bool.{cond}
@@ -11,8 +11,7 @@ use Rattle.floats.specs.declared.Refusal.{Refusal}
 use Rattle.floats.specs.Answers.{plus_zero}
 use Rattle.floats.specs.laws.Fractions.{or_r, or_split}
 use Rattle.bondreport.specs.Numbers.{byte_left, digits_left, width_of, whole_left}
-use Rattle.terms.specs.Terms.{CallSchedule, Market, with_puts}
-use Rattle.terms.specs.CallLists.{MadeFrom, StrikeAbove}
+use Rattle.terms.specs.Terms.{CallSchedule, Market}
 use Rattle.lattice.specs.Layers.{Room}
 use Rattle.treebasedbondpricer.specs.declared.TreeValue.{TreeValue}
 use Rattle.treebasedbondpricer.specs.declared.TreeValue.TheVariants.{Value, Refused}
@@ -21,17 +20,17 @@ use Rattle.treebasedbondpricer.specs.CallLists.{Thinned, NoLowerOr27, accepted}
 use Rattle.treebasedbondpricer.proofs.laws.CallLists.{call_list_rule}
 use Rattle.treebasedbondpricer.specs.laws.PutLists.{put_list_rule}
 use Rattle.closingsheet.specs.Cells.{printed_of, value_cell}
-use Rattle.closingsheet.specs.Shown.{Decimal, one_more, read_on, read_back, NoLower}
+use Rattle.closingsheet.specs.Shown.{one_more, read_on, read_back, NoLower}
 use Rattle.closingsheet.specs.laws.HalfCents.{printed-no_lower}
 use Rattle.spreadtable.specs.declared.SpreadTable.{SpreadTable}
 use Rattle.spreadtable.specs.Cells.{hash_cell, value_text, cell_text}
-use Rattle.spreadtable.specs.Page.{row_text, page_text, printed, no_table}
+use Rattle.spreadtable.specs.Page.{page_text, printed, no_table}
 use Rattle.spreadtable.specs.Table.{shifted, with_shift, any_outside, cell_at, wrong_count, table_of}
 use Rattle.spreadtable.proofs.laws.Widths.{cell-wide}
 use Rattle.spreadtable.proofs.laws.Stacking.{page-long}
 use Rattle.spreadtable.proofs.laws.OnPage.{row-there, cell-there, newline-there}
 use Rattle.spreadtable.specs.laws.NoHash.{Unhashed, none, more, cell_unhashed}
-use Rattle.promises.specs.RefusalNumbers.{member, Among, tree_refusals}
+use Rattle.promises.specs.RefusalNumbers.{member, tree_refusals}
 use Rattle.promises.specs.HostCallLists.{TreeCall, TableCall}
 use Rattle.promises.specs.SpreadTable.{row_start, cell_in, cell_terms, On, NoPage, Paged, EveryPage, Single, EachCell, OtherCells, ShowsValue, CellCallListRule, CellPutListRule, RowSized}
 use Rattle.promises.proofs.laws.TreeNumbers.{tree_numbers_lem}

@@ -1,15 +1,14 @@
 -- Without puts every answer is the old one. Assumes nothing.
-use Rattle.std.specs.Prelude.{ℕ, zero, suc, ◌≡◌, ◌⊎◌, Bool, true, false, not, ◌&&◌, List, [], ◌∷◌, map, length, get_or, replicate, T, ltb, ℤ, pos}
+use Rattle.std.specs.Prelude.{ℕ, zero, suc, ◌≡◌, Bool, true, false, not, ◌&&◌, List, [], ◌∷◌, map, length, get_or, replicate, T, ℤ, pos}
 use Rattle.std.proofs.Math.Path.{refl, ap, fun_ext}
 use Rattle.std.proofs.Common.{sym, ◌∙◌, inl, inr}
 use Rattle.std.proofs.Math.Bool.{cond}
-use Rattle.std.proofs.lemmas.List.{length-replicate}
 use Rattle.std.proofs.Math.ListN.{get_or-map}
 use Rattle.std.specs.Float.Ieee.{Float, binary64, sub, neg, lt}
 use Rattle.floats.specs.declared.Refusal.{Refusal}
 use Rattle.floats.specs.declared.Answer.{Answer}
 use Rattle.floats.specs.declared.Answer.TheVariants as answer
-use Rattle.floats.specs.Answers.{plus_zero, one, refusal, tested, on_answer}
+use Rattle.floats.specs.Answers.{plus_zero, one, refusal, tested}
 use Rattle.terms.specs.declared.Settlement.{Settlement}
 use Rattle.terms.specs.declared.Check.{Check}
 use Rattle.terms.specs.declared.Check.TheVariants as check
@@ -18,7 +17,7 @@ use Rattle.terms.specs.Terms.{CallSchedule, Bond, TimeGrid, Market, no_entries, 
 use Rattle.terms.specs.Checks.{on_check, first_of, lowest}
 use Rattle.terms.specs.CallLists.{Entries}
 use Rattle.terms.specs.Entries as entries
-use Rattle.terms.specs.Outcomes.{Outcome, given, refused, follow, on_outcome, valued}
+use Rattle.terms.specs.Outcomes.{Outcome, given, refused, follow, on_outcome}
 use Rattle.terms.specs.laws.Outcomes.{outcome-cases, follow-given, follow-refused}
 use Rattle.terms.specs.laws.Sequence.{indexed_of_none}
 use Rattle.terms.specs.laws.EntryChecks.{grid-calls, tree-grid, spread_is}
@@ -41,7 +40,7 @@ use Rattle.lattice.specs.Lattice.{Layer, node_count}
 use Rattle.backwardinduction.specs.Walk.{node_value, rolled, walk_from}
 use Rattle.treebasedbondpricer.specs.declared.TreeValue.{TreeValue}
 use Rattle.treebasedbondpricer.specs.declared.TreeValue.TheVariants.{Value, Refused}
-use Rattle.treebasedbondpricer.specs.Tree.{Fitted, fitted_tree, lattice_value_over, lattice_value, tree_value_over, tree_value, Lent, zeroed, lent_after}
+use Rattle.treebasedbondpricer.specs.Tree.{fitted_tree, lattice_value_over, lattice_value, tree_value_over, tree_value, Lent, zeroed, lent_after}
 use Rattle.closingsheet.specs.Sheet.{sheet_of}
 use Rattle.sizing.specs.declared.Sizes.TheVariants as sizes
 use Rattle.sizing.specs.Sizing.{tree_widths, sizes_from, sizes_of, nodes_after}
