@@ -1,12 +1,10 @@
 -- Definitions only. Walking back: continuation, then the lower of it and the call price, then the higher of that and the put price, then the step's cashflow.
-use Rattle.std.specs.Prelude.{ℕ, suc, cond, List, [], ◌∷◌, get_or, ℤ, Float}
+use Rattle.std.specs.Prelude.{ℕ, suc, cond, List, [], ◌∷◌, get_or, ℤ, Float, Ok}
 use Rattle.std.specs.Float.{binary64}
 use Rattle.std.specs.Float.Ieee.{add, mul, neg}
-use Rattle.floats.specs.declared.Answer.{Answer}
-use Rattle.floats.specs.Answers.{plus_zero, and_then, tested, when_finite}
+use Rattle.floats.specs.Answers.{Answer, plus_zero, follow, tested, when_finite, Outcome}
 use Rattle.floats.specs.Extremes.{min_of, max_of}
 use Rattle.elementary.specs.Exponential.{exp_at}
-use Rattle.terms.specs.Outcomes.{Outcome, given, follow, valued}
 use Rattle.bondevents.specs.declared.Exercise.{Exercise}
 use Rattle.bondevents.specs.declared.CallStep.{CallStep}
 use Rattle.bondevents.specs.Calls.{new_step}
@@ -51,18 +49,18 @@ exercised s continuation = cond s.put.marked (max_of (called s.call continuation
 unfoldable pub node_value : Reads → ℤ → Transition → List At → ℕ → Answer
 unfolding value_at min_of max_of add mul neg
 node_value r node t next place =
-    and_then (expected t next place) λ e.
-    and_then (discount_of r node place) λ d.
+    follow (expected t next place) λ e.
+    follow (discount_of r node place) λ d.
     when_finite (mul binary64 e d) place λ continuation. tested (add binary64 (exercised r.call continuation) r.cashflow) place
 
 -- One layer, nodes rising.
 unfoldable pub rolled : Reads → List ℤ → List Transition → List At → ℕ → Outcome (List At)
 unfolding node_value
 rolled r (n ∷ ns) (t ∷ ts) next place =
-    valued (node_value r n t next place) λ v.
-    follow (rolled r ns ts next place) λ row. given (record { node = n; value = v } ∷ row)
-rolled r (n ∷ ns) [] next place = given []
-rolled r [] ts next place = given []
+    follow (node_value r n t next place) λ v.
+    follow (rolled r ns ts next place) λ row. Ok (record { node = n; value = v } ∷ row)
+rolled r (n ∷ ns) [] next place = Ok []
+rolled r [] ts next place = Ok []
 
 -- The last layer has the final cashflow everywhere.
 unfoldable pub final_row : Float → List ℤ → List At
@@ -87,5 +85,5 @@ walk_from dt spread cashflows calls k (l ∷ layers) (shift ∷ shifts) final =
     l.transitions
     next
     k
-walk_from dt spread cashflows calls k (l ∷ layers) [] final = given (final_row (get_or cashflows k plus_zero) final)
-walk_from dt spread cashflows calls k [] shifts final = given (final_row (get_or cashflows k plus_zero) final)
+walk_from dt spread cashflows calls k (l ∷ layers) [] final = Ok (final_row (get_or cashflows k plus_zero) final)
+walk_from dt spread cashflows calls k [] shifts final = Ok (final_row (get_or cashflows k plus_zero) final)

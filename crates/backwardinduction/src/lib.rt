@@ -1,4 +1,4 @@
 // Backward induction over the layers: the walk back.
-#![tactic(auto)]
+#![tactic(auto, unfolding(floats::specs::Answers::on_outcome))]
 
 pub mod walk;

@@ -1,10 +1,9 @@
 // Walking back, one layer: continuation, the lower of it and the call price, the higher of that and the put price, then the step's cashflow.
 
-ghost use Rattle.std.specs.Prelude.{◌≡◌, true, ◌+◌, ◌*◌, ◌≤◌, ◌<◌, length};
+ghost use Rattle.std.specs.Prelude.{◌≡◌, true, ◌+◌, ◌*◌, ◌≤◌, ◌<◌, length, Ok};
 ghost use Rattle.backwardinduction.specs.Walk as Walk;
 ghost use Rattle.lattice.specs.laws.Positions.{spot_at, start_of, Layered};
 ghost use Rattle.lattice.specs.laws.Rows.{outcome_of};
-ghost use Rattle.floats.specs.declared.Answer.TheVariants.{Value};
 ghost use Rattle.elementary.specs.laws.Rows.{Filled};
 ghost use Rattle.backwardinduction.specs.laws.Discounts.{exponent_of, exponents_from, Discounts, Ahead};
 ghost use Rattle.backwardinduction.specs.laws.WalkSteps.{sum_of, discount_with, worth_of, value_with, rolled_at};
@@ -12,15 +11,12 @@ ghost use Rattle.backwardinduction.specs.laws.WalkSteps.{sum_of, discount_with, 
 use bondevents::{CallStep, Exercise};
 use elementary::exp::exp_at;
 use elementary::exps::exp_row;
-use floats::Answer;
-use floats::finite::not_finite;
+use floats::Refusal;
+use floats::finite::tested;
 use floats::max::greater;
 use floats::min::lesser;
-use floats::refusals::overflow;
 use forwardinduction::fit::spot;
 use lattice::reach::{nothing_below, reached};
-use terms::Check;
-use terms::refusing::refused_by;
 
 // What the short rate of a step is made of, and time_step.
 #[derive(Clone, Copy)]
@@ -32,14 +28,19 @@ pub struct Rates {
 }
 
 // From 0, down, middle, up: each value × its probability.
-fn summed(low: f64, down: f64, mid: f64, middle: f64, high: f64, up: f64, place: u32) -> Answer
+#[tactic(auto, using(crate::specs::laws::Discounts::sum_is), unfolding(floats::specs::Answers::on_outcome))]
+fn summed(
+    low: f64,
+    down: f64,
+    mid: f64,
+    middle: f64,
+    high: f64,
+    up: f64,
+    place: u32,
+) -> Result<f64, Refusal>
     ensures { result ≡ sum_of low down mid middle high up place }
 {
-    let sum = ((0.0 + low * down) + mid * middle) + high * up;
-    if not_finite(sum) {
-        return overflow(place);
-    }
-    Answer::Value(sum)
+    tested(((0.0 + low * down) + mid * middle) + high * up, place)
 }
 
 // A node's short rate × −time_step; the spread joins the short rate only here.
@@ -80,28 +81,30 @@ fn refill(known: bool, rates: Rates, nodes: &[i32], count: usize, i: usize, es: 
     requires { (length es.old ≡ 64) × (i < count) × (length nodes.now ≡ count * 2) × Ahead known rates nodes.now count i i es.old }
     ensures { Ahead result rates nodes.now count i (i + 1) es.new }
 {
-    if i % 64 == 0 {
-        let left = count - i;
-        if left < 64 {
-            return discounts(rates, nodes, i, &mut es[..left]);
-        }
-        return discounts(rates, nodes, i, es);
+    if i % 64 != 0 {
+        return known;
     }
-    known
+    let left = count - i;
+    if left < 64 {
+        return discounts(rates, nodes, i, &mut es[..left]);
+    }
+    discounts(rates, nodes, i, es)
 }
 
 // exp(short rate × −time_step), or the factor where it is known.
-fn discount(rates: Rates, node: f64, place: u32, known: bool, factor: f64) -> Answer
-    requires { known ≡ true → discount_with rates node place ≡ Value factor }
+#[tactic(auto, using(crate::specs::laws::Discounts::discount_is), unfolding(floats::specs::Answers::on_outcome))]
+fn discount(rates: Rates, node: f64, place: u32, known: bool, factor: f64) -> Result<f64, Refusal>
+    requires { known ≡ true → discount_with rates node place ≡ Ok factor }
     ensures { result ≡ discount_with rates node place }
 {
     if known {
-        return Answer::Value(factor);
+        return Ok(factor);
     }
     exp_at(exponent(rates, node), place)
 }
 
 // The lower of continuation and call price.
+#[tactic(auto, unfolding(floats::specs::Answers::on_outcome, floats::specs::Extremes::min_of))]
 fn lower(call: Exercise, continuation: f64) -> f64
     ensures { result ≡ Walk.called call continuation }
 {
@@ -112,6 +115,7 @@ fn lower(call: Exercise, continuation: f64) -> f64
 }
 
 // The lower of continuation and call price, then the higher of that and the put price.
+#[tactic(auto, unfolding(floats::specs::Answers::on_outcome, floats::specs::Extremes::max_of))]
 fn exercised(step: CallStep, continuation: f64) -> f64
     ensures { result ≡ Walk.exercised step continuation }
 {
@@ -124,22 +128,23 @@ fn exercised(step: CallStep, continuation: f64) -> f64
 }
 
 // Continuation, what is exercised, then the cashflow.
-fn worth(call: CallStep, cashflow: f64, place: u32, expected: f64, factor: f64) -> Answer
+#[tactic(auto, unfolding(floats::specs::Answers::on_outcome, crate::specs::laws::WalkSteps::worth_of))]
+fn worth(
+    call: CallStep,
+    cashflow: f64,
+    place: u32,
+    expected: f64,
+    factor: f64,
+) -> Result<f64, Refusal>
     ensures { result ≡ worth_of call cashflow place expected factor }
 {
-    let continuation = expected * factor;
+    let continuation = tested(expected * factor, place)?;
     let held = exercised(call, continuation);
-    let value = held + cashflow;
-    if not_finite(continuation) {
-        return overflow(place);
-    }
-    if not_finite(value) {
-        return overflow(place);
-    }
-    Answer::Value(value)
+    tested(held + cashflow, place)
 }
 
 // A node's value from the next row, whose nodes reached are counted with this node's.
+#[tactic(auto, unfolding(floats::specs::Answers::on_outcome, crate::specs::laws::WalkSteps::value_with))]
 fn node_value(
     rates: Rates,
     call: CallStep,
@@ -154,21 +159,15 @@ fn node_value(
     known: bool,
     factor: f64,
     next: &[f64],
-) -> Answer
-    requires { (3 ≤ count) × (spot_at flat count 1 < length next.now) × (known ≡ true → discount_with rates node place ≡ Value factor) }
+) -> Result<f64, Refusal>
+    requires { (3 ≤ count) × (spot_at flat count 1 < length next.now) × (known ≡ true → discount_with rates node place ≡ Ok factor) }
     ensures { result ≡ value_with rates call cashflow place flat count node down middle up next.now }
 {
     let low = spot(flat, count, 3);
     let mid = spot(flat, count, 2);
     let high = spot(flat, count, 1);
-    let e = summed(next[low], down, next[mid], middle, next[high], up, place);
-    let Answer::Value(expected) = e else {
-        return e;
-    };
-    let d = discount(rates, node, place, known, factor);
-    let Answer::Value(factor) = d else {
-        return d;
-    };
+    let expected = summed(next[low], down, next[mid], middle, next[high], up, place)?;
+    let factor = discount(rates, node, place, known, factor)?;
     worth(call, cashflow, place, expected, factor)
 }
 
@@ -183,7 +182,7 @@ pub fn roll(
     call: CallStep,
     cashflow: f64,
     place: u32,
-) -> Check
+) -> Result<(), Refusal>
     requires { Layered flat (length next.now) nodes.now probabilities.now (length row.old) }
     ensures { outcome_of result row.new ≡ rolled_at rates call cashflow place flat next.now (start_of nodes.now) 0 nodes.now probabilities.now row.old }
 {
@@ -197,7 +196,7 @@ pub fn roll(
         let middle = nodes[i * 2 + 1];
         let after = reached(r, middle);
         let count = after.count;
-        let v = node_value(
+        row[i] = node_value(
             rates,
             call,
             cashflow,
@@ -211,13 +210,9 @@ pub fn roll(
             known,
             es[i % 64],
             next,
-        );
-        let Answer::Value(value) = v else {
-            return refused_by(v);
-        };
-        row[i] = value;
+        )?;
         r = after;
         i += 1;
     }
-    Check::Passed
+    Ok(())
 }

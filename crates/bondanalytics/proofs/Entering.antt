@@ -1,101 +1,95 @@
 -- The two yield entries in the shape that `search` wants: the checks, the rate definition, and what is then done with it. Assumes nothing.
+use Rattle.std.specs.Prelude.{Ok, Err}
 use Prim.Native.Nat.{ℕ}
 use mathlib.Core.Path.{◌≡◌, sym, ap, ◌∙◌}
 use mathlib.Core.List.{List, []}
 use lib.Ieee.{Float}
 use lib.ListN.{length}
 use Rattle.floats.specs.declared.Refusal.{Refusal}
-use Rattle.floats.specs.Answers.{plus_zero}
-use Rattle.terms.specs.declared.Check.{Check}
-use Rattle.terms.specs.declared.Check.TheVariants as check
+use Rattle.floats.specs.Answers.{plus_zero, Check, Outcome, on_outcome}
 use Rattle.terms.specs.Numbers.{million, target_limit}
 use Rattle.terms.specs.declared.Settlement.{Settlement}
 use Rattle.terms.specs.declared.Epoch.{Epoch}
 use Rattle.terms.specs.Terms.{Leg}
 use Rattle.terms.specs.Times.{epoch_of}
-use Rattle.terms.specs.Outcomes.{Outcome, on_outcome}
 use Rattle.terms.specs.Checks.{on_check}
 use Rattle.terms.specs.Entries.{yield_checks, price_checks, target_checks}
 use Rattle.terms.specs.laws.TermChecks.{leg-counted}
 use Rattle.terms.specs.laws.EntryChecks.{yield-terms}
 use Rattle.interestrate.specs.declared.RateDefinition.{RateDefinition}
-use Rattle.interestrate.specs.declared.FoundRate.{FoundRate}
-use Rattle.interestrate.specs.declared.FoundRate.TheVariants.{Given, Refused}
 use Rattle.interestrate.specs.declared.YieldPrice.{YieldPrice}
-use Rattle.interestrate.specs.declared.YieldPrice.TheVariants as price
 use Rattle.brackets.specs.declared.Root.{Root}
-use Rattle.brackets.specs.declared.Root.TheVariants as root
 use Rattle.interestrate.specs.Rates.{rate_of, rate_check, lowest_yield}
 use Rattle.interestrate.specs.Prices.{flows, price_and_derivative}
 use Rattle.bondanalytics.specs.Yields.{price_from_yield, solve_yield, yield_from_price}
 use Rattle.sought.specs.Objectives.{objective, first_lower, first_upper}
-use Rattle.brackets.specs.Brackets.{bracketed_root}
+use Rattle.brackets.specs.Brackets.{Searched, no_root, bracketed_root}
 use Rattle.sought.specs.declared.Priced.TheVariants.{Yield}
 use Rattle.sought.specs.declared.Sought.{Sought}
 use Rattle.sought.specs.laws.Sought.{TreeParts, sought_at}
 use Rattle.brackets.specs.laws.SoughtRoots.{sought-yield}
-use Rattle.interestrate.specs.laws.Found.{found_rate, found_check, found_check_lem}
+use Rattle.interestrate.specs.laws.Found.{found_check, found_check_lem}
 
-module _ (limit x : Float) (settlement : Settlement) (leg : Leg) (compounding code : ℕ) (f : FoundRate) {w s : Check} (e : found_rate f ≡ rate_of compounding code) (k : w ≡ found_check f) (h : s ≡ yield_checks limit settlement leg x w) where
+module _ (limit x : Float) (settlement : Settlement) (leg : Leg) (compounding code : ℕ) (f : Outcome RateDefinition) {w s : Check} (e : f ≡ rate_of compounding code) (k : w ≡ found_check f) (h : s ≡ yield_checks limit settlement leg x w) where
   checked : s ≡ yield_checks limit settlement leg x (rate_check compounding code)
   checked = h ∙ ap (yield_checks limit settlement leg x) (k ∙ found_check_lem compounding code f e)
 
   -- Checks that passed give as many amounts as days.
-  pub same_count : s ≡ check.Passed → length leg.amounts ≡ length leg.days
+  pub same_count : s ≡ Ok tt → length leg.amounts ≡ length leg.days
   same_count p = (leg-counted leg (yield-terms limit settlement leg x w (sym h ∙ p)).0.counted).amounts_too
 
   module _ {A : Type 0} (refuse : Refusal → A) (go : RateDefinition → A) where
     abbrev entered : A
     entered = on_check (yield_checks limit settlement leg x (rate_check compounding code)) refuse (on_outcome (rate_of compounding code) refuse go)
 
-    refused : {q : Refusal} → s ≡ check.Refused q → refuse q ≡ entered
+    refused : {q : Refusal} → s ≡ Err q → refuse q ≡ entered
     unfolding on_check
     refused v = ap (λ (z : Check). on_check z refuse (on_outcome (rate_of compounding code) refuse go)) (sym v ∙ checked)
 
-    passed : s ≡ check.Passed → on_outcome (found_rate f) refuse go ≡ entered
+    passed : s ≡ Ok tt → on_outcome f refuse go ≡ entered
     unfolding on_check
     passed v =
         ap (λ (z : Outcome RateDefinition). on_outcome z refuse go) e
         ∙ ap (λ (z : Check). on_check z refuse (on_outcome (rate_of compounding code) refuse go)) (sym v ∙ checked)
 
-    given : {d : RateDefinition} → s ≡ check.Passed → f ≡ Given d → go d ≡ entered
+    given : {d : RateDefinition} → s ≡ Ok tt → f ≡ Ok d → go d ≡ entered
     unfolding on_outcome
     given v g = rw g at (passed v)
 
-    unknown : {q : Refusal} → s ≡ check.Passed → f ≡ Refused q → refuse q ≡ entered
+    unknown : {q : Refusal} → s ≡ Ok tt → f ≡ Err q → refuse q ≡ entered
     unfolding on_outcome
     unknown v g = rw g at (passed v)
 
-module _ (settlement : Settlement) (leg : Leg) (compounding code : ℕ) (x : Float) (f : FoundRate) {w s : Check} (e : found_rate f ≡ rate_of compounding code) (k : w ≡ found_check f) where
+module _ (settlement : Settlement) (leg : Leg) (compounding code : ℕ) (x : Float) (f : Outcome RateDefinition) {w s : Check} (e : f ≡ rate_of compounding code) (k : w ≡ found_check f) where
   module _ (h : s ≡ price_checks settlement leg x w) where
-    pub price-refused : {q : Refusal} → s ≡ check.Refused q → price.Refused q ≡ price_from_yield settlement leg compounding code x
+    pub price-refused : {q : Refusal} {r : Outcome YieldPrice} → s ≡ Err q → r ≡ Err q → r ≡ price_from_yield settlement leg compounding code x
     unfolding price_from_yield
-    price-refused v = refused million x settlement leg compounding code f e k h price.Refused (λ rate. price_and_derivative (epoch_of settlement) leg rate x) v
+    price-refused v p = p ∙ refused million x settlement leg compounding code f e k h Err (λ rate. price_and_derivative (epoch_of settlement) leg rate x) v
 
-    pub price-unknown : {q : Refusal} → s ≡ check.Passed → f ≡ Refused q → price.Refused q ≡ price_from_yield settlement leg compounding code x
+    pub price-unknown : {q : Refusal} {r : Outcome YieldPrice} → s ≡ Ok tt → f ≡ Err q → r ≡ Err q → r ≡ price_from_yield settlement leg compounding code x
     unfolding price_from_yield
-    price-unknown v g = unknown million x settlement leg compounding code f e k h price.Refused (λ rate. price_and_derivative (epoch_of settlement) leg rate x) v g
+    price-unknown v g p = p ∙ unknown million x settlement leg compounding code f e k h Err (λ rate. price_and_derivative (epoch_of settlement) leg rate x) v g
 
-    pub price-given : {d : RateDefinition} {r : YieldPrice} {t : Epoch} → t ≡ epoch_of settlement → s ≡ check.Passed → f ≡ Given d → r ≡ flows x d.compounding t leg.days leg.amounts plus_zero plus_zero → r ≡ price_from_yield settlement leg compounding code x
+    pub price-given : {d : RateDefinition} {r : Outcome YieldPrice} {t : Epoch} → t ≡ epoch_of settlement → s ≡ Ok tt → f ≡ Ok d → r ≡ flows x d.compounding t leg.days leg.amounts plus_zero plus_zero → r ≡ price_from_yield settlement leg compounding code x
     unfolding price_from_yield
-    price-given {d = d} t v g p = p ∙ ap (λ (z : Epoch). flows x d.compounding z leg.days leg.amounts plus_zero plus_zero) t ∙ given million x settlement leg compounding code f e k h price.Refused (λ rate. price_and_derivative (epoch_of settlement) leg rate x) v g
+    price-given {d = d} t v g p = p ∙ ap (λ (z : Epoch). flows x d.compounding z leg.days leg.amounts plus_zero plus_zero) t ∙ given million x settlement leg compounding code f e k h Err (λ rate. price_and_derivative (epoch_of settlement) leg rate x) v g
 
   module _ (h : s ≡ target_checks settlement leg x w) where
-    pub yield-refused : {q : Refusal} → s ≡ check.Refused q → root.Refused q 0 ≡ yield_from_price settlement leg compounding code x
+    pub yield-refused : {q : Refusal} {r : Searched Root} → s ≡ Err q → r ≡ no_root q 0 → r ≡ yield_from_price settlement leg compounding code x
     unfolding yield_from_price
-    yield-refused v = refused target_limit x settlement leg compounding code f e k h (λ r. root.Refused r 0) (λ rate. solve_yield (epoch_of settlement) leg rate x) v
+    yield-refused v p = p ∙ refused target_limit x settlement leg compounding code f e k h (λ r. no_root r 0) (λ rate. solve_yield (epoch_of settlement) leg rate x) v
 
-    pub yield-unknown : {q : Refusal} → s ≡ check.Passed → f ≡ Refused q → root.Refused q 0 ≡ yield_from_price settlement leg compounding code x
+    pub yield-unknown : {q : Refusal} {r : Searched Root} → s ≡ Ok tt → f ≡ Err q → r ≡ no_root q 0 → r ≡ yield_from_price settlement leg compounding code x
     unfolding yield_from_price
-    yield-unknown v g = unknown target_limit x settlement leg compounding code f e k h (λ r. root.Refused r 0) (λ rate. solve_yield (epoch_of settlement) leg rate x) v g
+    yield-unknown v g p = p ∙ unknown target_limit x settlement leg compounding code f e k h (λ r. no_root r 0) (λ rate. solve_yield (epoch_of settlement) leg rate x) v g
 
     -- The kinds play no part.
-    pub yield-given : {d : RateDefinition} {r : Root} {t : Epoch} → t ≡ epoch_of settlement → s ≡ check.Passed → f ≡ Given d → r ≡ solve_yield t (record { days = leg.days; kinds = []; amounts = leg.amounts }) d x → r ≡ yield_from_price settlement leg compounding code x
+    pub yield-given : {d : RateDefinition} {r : Searched Root} {t : Epoch} → t ≡ epoch_of settlement → s ≡ Ok tt → f ≡ Ok d → r ≡ solve_yield t (record { days = leg.days; kinds = []; amounts = leg.amounts }) d x → r ≡ yield_from_price settlement leg compounding code x
     unfolding yield_from_price objective
-    yield-given {d = d} t v g p = p ∙ ap (λ (z : Epoch). solve_yield z (record { days = leg.days; kinds = []; amounts = leg.amounts }) d x) t ∙ given target_limit x settlement leg compounding code f e k h (λ r. root.Refused r 0) (λ rate. solve_yield (epoch_of settlement) leg rate x) v g
+    yield-given {d = d} t v g p = p ∙ ap (λ (z : Epoch). solve_yield z (record { days = leg.days; kinds = []; amounts = leg.amounts }) d x) t ∙ given target_limit x settlement leg compounding code f e k h (λ r. no_root r 0) (λ rate. solve_yield (epoch_of settlement) leg rate x) v g
 
 -- The solver's call, with the lowest yield that it is given. The tree plays no part.
-pub solves : (s : Sought) (days : List ℕ) (amounts : List Float) (t : TreeParts) {l : Float} {r : Root}
+pub solves : (s : Sought) (days : List ℕ) (amounts : List Float) (t : TreeParts) {l : Float} {r : Searched Root}
     → s.priced ≡ Yield
     → r ≡ bracketed_root (sought_at s days amounts t) first_lower first_upper l
     → l ≡ lowest_yield s.rate.compounding

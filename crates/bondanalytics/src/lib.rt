@@ -1,4 +1,4 @@
 // Price from yield and yield from price.
-#![tactic(auto)]
+#![tactic(auto, unfolding(floats::specs::Answers::on_outcome))]
 
 pub mod yields;

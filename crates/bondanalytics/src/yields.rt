@@ -5,14 +5,16 @@ ghost use Rattle.terms.specs.Slices.{leg_in};
 ghost use Rattle.bondanalytics.specs.Yields.{price_from_yield, yield_from_price, solve_yield};
 
 use bracketedroot::solver::bracketed_root;
-use brackets::Root;
+use brackets::brackets::counted;
+use brackets::{NoRoot, Root};
 use entrychecks::entries::{price_checks, target_checks};
+use floats::Refusal;
 use interestrate::prices::yield_price_and_derivative;
 use interestrate::rates::{lowest_yield, rate_check, rate_of};
-use interestrate::{FoundRate, RateDefinition, YieldPrice};
+use interestrate::{RateDefinition, YieldPrice};
 use sought::{Priced, Sought};
 use terms::time::epoch_of;
-use terms::{Check, Epoch, Settlement};
+use terms::{Epoch, Settlement};
 
 // The price of the cashflows at a yield, and its derivative.
 pub fn price_from_yield(
@@ -23,32 +25,21 @@ pub fn price_from_yield(
     compounding: u32,
     frequency: u32,
     y: f64,
-) -> YieldPrice
+) -> Result<YieldPrice, Refusal>
     ensures { result ≡ price_from_yield settlement (leg_in cashflow_days cashflow_kinds cashflow_amounts) compounding frequency y }
 {
     let found = rate_of(compounding, frequency);
-    let checked = price_checks(
+    price_checks(
         settlement,
         cashflow_days,
         cashflow_kinds,
         cashflow_amounts,
         y,
         rate_check(found),
-    );
-    if let Check::Refused(q) = checked {
-        return YieldPrice::Refused(q);
-    }
+    )?;
+    let rate = found?;
     let epoch = epoch_of(settlement);
-    match found {
-        FoundRate::Given(rate) => yield_price_and_derivative(
-            epoch,
-            cashflow_days,
-            cashflow_amounts,
-            rate,
-            y,
-        ),
-        FoundRate::Refused(q) => YieldPrice::Refused(q),
-    }
+    yield_price_and_derivative(epoch, cashflow_days, cashflow_amounts, rate, y)
 }
 
 // The yield at which the cashflows are worth the target.
@@ -58,7 +49,7 @@ fn solve_yield(
     amounts: &[f64],
     rate: RateDefinition,
     target: f64,
-) -> Root
+) -> Result<Root, NoRoot>
     requires { length amounts.now ≡ length days.now }
     ensures { result ≡ solve_yield settlement (record { days = days.now; kinds = []; amounts = amounts.now }) rate target }
 {
@@ -70,7 +61,6 @@ fn solve_yield(
         dt: 0.0,
         flat: false,
     };
-    let compounding = rate.compounding;
     bracketed_root(
         sought,
         days,
@@ -87,7 +77,7 @@ fn solve_yield(
         &mut [],
         Sought::LOWER,
         Sought::UPPER,
-        lowest_yield(compounding),
+        lowest_yield(rate.compounding),
     )
 }
 
@@ -100,7 +90,7 @@ pub fn yield_from_price(
     compounding: u32,
     frequency: u32,
     target: f64,
-) -> Root
+) -> Result<Root, NoRoot>
     ensures { result ≡ yield_from_price settlement (leg_in cashflow_days cashflow_kinds cashflow_amounts) compounding frequency target }
 {
     let found = rate_of(compounding, frequency);
@@ -112,12 +102,8 @@ pub fn yield_from_price(
         target,
         rate_check(found),
     );
-    if let Check::Refused(q) = checked {
-        return Root::Refused(q, 0);
-    }
+    counted(checked, 0)?;
+    let rate = counted(found, 0)?;
     let epoch = epoch_of(settlement);
-    match found {
-        FoundRate::Given(rate) => solve_yield(epoch, cashflow_days, cashflow_amounts, rate, target),
-        FoundRate::Refused(q) => Root::Refused(q, 0),
-    }
+    solve_yield(epoch, cashflow_days, cashflow_amounts, rate, target)
 }

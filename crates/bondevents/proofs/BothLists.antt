@@ -1,4 +1,5 @@
 -- The steps of the grid from both lists that the code has gone over, and 38. Assumes nothing.
+use Rattle.std.specs.Prelude.{Ok, Err}
 use Prim.Native.Nat.{ℕ, ◌+◌, ◌<◌, ◌≤◌}
 use native.Mathlib.Omega.{arith}
 use mathlib.Core.Path.{◌≡◌, sym, ap, ◌∙◌}
@@ -6,26 +7,22 @@ use mathlib.Core.List.{List}
 use lib.ListN.{length, get_or, set}
 use lib.Seq.{ext_get_or}
 use Rattle.floats.specs.declared.Refusal.{Refusal}
-use Rattle.terms.specs.declared.Check.{Check}
-use Rattle.terms.specs.declared.Check.TheVariants.{Passed, Refused}
+use Rattle.floats.specs.Answers.{Check, Outcome, follow, on_outcome}
 use Rattle.terms.specs.Terms.{Bond, CallSchedule, no_entries, bond_with_puts}
 use Rattle.terms.specs.Checks.{on_check, lowest}
-use Rattle.terms.specs.Outcomes.{Outcome, given, refused, follow, on_outcome}
 use Rattle.bondevents.specs.declared.Side.{Side}
 use Rattle.bondevents.specs.declared.Side.TheVariants.{Call, Put}
 use Rattle.bondevents.specs.declared.Exercise.{Exercise}
 use Rattle.bondevents.specs.declared.CallStep.{CallStep}
-use Rattle.bondevents.specs.declared.SideAnswer.{SideAnswer}
-use Rattle.bondevents.specs.declared.CallsAnswer.{CallsAnswer}
 use Rattle.bondevents.specs.Steps.{Axis}
 use Rattle.bondevents.specs.Calls.{none, new_step, over_entries, exercises, joined, put_above, puts_below, call_steps}
-use Rattle.bondevents.specs.Parts.{no_exercises, no_calls, side_answer, calls_answer}
+use Rattle.bondevents.specs.Parts.{no_exercises}
 use Rattle.bondevents.proofs.laws.SamePrices.{puts-unread}
 use Rattle.bondevents.specs.laws.Joined.{step, joined_at, joined-long}
 use Rattle.bondevents.proofs.laws.CallSteps.{filled, steps_are}
 use Rattle.bondevents.proofs.Filling.{Filling, more}
-use Rattle.bondevents.proofs.Outcomes.{side-passed, side-refused}
 use Rattle.terms.proofs.Laws.{same_at}
+use Rattle.floats.specs.declared.Reason.TheVariants as reason
 
 module _ (a : Axis) (bond : Bond) (calls : CallSchedule) where
   -- One list over all its entries; the prices don't read the puts.
@@ -42,45 +39,46 @@ module _ (a : Axis) (bond : Bond) (calls : CallSchedule) where
       ∙ ap (λ (o : Outcome (List Exercise)). follow o λ cs. follow (exercises Put a bond bond.puts) λ ps. filled cs ps) (row_is Call calls)
       ∙ ap (λ (o : Outcome (List Exercise)). follow (row Call calls) λ cs. follow o λ ps. filled cs ps) (row_is Put bond.puts)
 
-  -- A refusal beside no steps.
-  refused-beside : {s : Refusal} {k : Check} {z : CallsAnswer} → k ≡ Refused s → z ≡ record { check = k; calls = no_calls } → call_steps a bond calls ≡ refused s → z ≡ calls_answer (call_steps a bond calls)
-  unfolding on_outcome
-  refused-beside {s} {k} {z} c w e = w ∙ ap (λ (y : Check). record { check = y; calls = no_calls }) c ∙ sym (ap calls_answer e)
+  module _ {r : Outcome (List Exercise)} (e : r ≡ row Call calls) where
+    called : call_steps a bond calls ≡ follow r λ cs. follow (row Put bond.puts) λ ps. filled cs ps
+    called = from_rows ∙ ap (λ (o : Outcome (List Exercise)). follow o λ cs. follow (row Put bond.puts) λ ps. filled cs ps) (sym e)
 
-  module _ {r : SideAnswer} (e : r ≡ side_answer (row Call calls)) where
     -- The calls are refused.
-    pub calls-stop : {s : Refusal} {z : CallsAnswer} → r.check ≡ Refused s → z ≡ record { check = r.check; calls = no_calls } → z ≡ calls_answer (call_steps a bond calls)
+    pub calls-stop : {s : Refusal} {z : Outcome (List CallStep)} → r ≡ Err s → z ≡ Err s → z ≡ call_steps a bond calls
     unfolding on_outcome
-    calls-stop c w = refused-beside c w (from_rows ∙ ap (λ (o : Outcome (List Exercise)). follow o λ cs. follow (row Put bond.puts) λ ps. filled cs ps) (side-refused (row Call calls) e c))
+    calls-stop c w = w ∙ sym (called ∙ ap (λ (o : Outcome (List Exercise)). follow o λ cs. follow (row Put bond.puts) λ ps. filled cs ps) c)
 
-    module _ (c : r.check ≡ Passed) {t : SideAnswer} (f : t ≡ side_answer (row Put bond.puts)) where
-      with_puts_lem : call_steps a bond calls ≡ follow (row Put bond.puts) λ ps. filled r.steps ps
+    module _ {cs : List Exercise} (c : r ≡ Ok cs) {t : Outcome (List Exercise)} (f : t ≡ row Put bond.puts) where
+      with_puts_lem : call_steps a bond calls ≡ follow t λ ps. filled cs ps
       unfolding on_outcome
-      with_puts_lem = from_rows ∙ ap (λ (o : Outcome (List Exercise)). follow o λ cs. follow (row Put bond.puts) λ ps. filled cs ps) (side-passed (row Call calls) e c)
+      with_puts_lem =
+          called
+          ∙ ap (λ (o : Outcome (List Exercise)). follow o λ cs. follow (row Put bond.puts) λ ps. filled cs ps) c
+          ∙ ap (λ (o : Outcome (List Exercise)). follow o λ ps. filled cs ps) (sym f)
 
       -- The puts are refused.
-      pub puts-stop : {s : Refusal} {z : CallsAnswer} → t.check ≡ Refused s → z ≡ record { check = t.check; calls = no_calls } → z ≡ calls_answer (call_steps a bond calls)
+      pub puts-stop : {s : Refusal} {z : Outcome (List CallStep)} → t ≡ Err s → z ≡ Err s → z ≡ call_steps a bond calls
       unfolding on_outcome
-      puts-stop d w = refused-beside d w (with_puts_lem ∙ ap (λ (o : Outcome (List Exercise)). follow o λ ps. filled r.steps ps) (side-refused (row Put bond.puts) f d))
+      puts-stop d w = w ∙ sym (with_puts_lem ∙ ap (λ (o : Outcome (List Exercise)). follow o λ ps. filled cs ps) d)
 
-      module _ (d : t.check ≡ Passed) {steps : List CallStep} (j : steps ≡ joined r.steps t.steps) {k : Check} (b : k ≡ puts_below steps) where
+      module _ {ps : List Exercise} (d : t ≡ Ok ps) {steps : List CallStep} (j : steps ≡ joined cs ps) {k : Check} (b : k ≡ puts_below steps) where
         -- Both lists are filled in: 38 is left.
-        whole : call_steps a bond calls ≡ on_check k refused (given steps)
+        whole : call_steps a bond calls ≡ on_check k Err (Ok steps)
         unfolding on_outcome
         whole =
             with_puts_lem
-            ∙ ap (λ (o : Outcome (List Exercise)). follow o λ ps. filled r.steps ps) (side-passed (row Put bond.puts) f d)
-            ∙ ap (λ (z : List CallStep). on_check (puts_below z) refused (given z)) (sym j)
-            ∙ ap (λ (z : Check). on_check z refused (given steps)) (sym b)
+            ∙ ap (λ (o : Outcome (List Exercise)). follow o λ ps. filled cs ps) d
+            ∙ ap (λ (z : List CallStep). on_check (puts_below z) Err (Ok z)) (sym j)
+            ∙ ap (λ (z : Check). on_check z Err (Ok steps)) (sym b)
 
         -- A put stands above a call.
-        pub above-stop : {s : Refusal} {z : CallsAnswer} → k ≡ Refused s → z ≡ record { check = k; calls = no_calls } → z ≡ calls_answer (call_steps a bond calls)
+        pub above-stop : {s : Refusal} {z : Outcome (List CallStep)} → k ≡ Err s → z ≡ Err s → z ≡ call_steps a bond calls
         unfolding on_check
-        above-stop x w = refused-beside x w (whole ∙ ap (λ (y : Check). on_check y refused (given steps)) x)
+        above-stop x w = w ∙ sym (whole ∙ ap (λ (y : Check). on_check y Err (Ok steps)) x)
 
-        pub all_filled : k ≡ Passed → record { check = Passed; calls = steps } ≡ calls_answer (call_steps a bond calls)
-        unfolding on_check on_outcome
-        all_filled x = sym (ap calls_answer (whole ∙ ap (λ (y : Check). on_check y refused (given steps)) x))
+        pub all_filled : {u : Unit {0}} → k ≡ Ok u → Ok steps ≡ call_steps a bond calls
+        unfolding on_check
+        all_filled x = sym (whole ∙ ap (λ (y : Check). on_check y Err (Ok steps)) x)
 
 -- ---- the loop that joins both rows
 
@@ -101,5 +99,5 @@ joins cs ps i table d e n m h s =
 
 -- ---- the loop that looks for a put above its call
 
-pub sought-below : (steps : List CallStep) {r : Check} → length steps ≡ 513 → r ≡ lowest 38 (λ k. put_above (get_or steps k new_step)) 513 0 → r ≡ puts_below steps
-sought-below steps n e = e ∙ ap (λ (m : ℕ). lowest 38 (λ k. put_above (get_or steps k new_step)) m 0) (sym n)
+pub sought-below : (steps : List CallStep) {r : Check} → length steps ≡ 513 → r ≡ lowest reason.PutAbove (λ k. put_above (get_or steps k new_step)) 513 0 → r ≡ puts_below steps
+sought-below steps n e = e ∙ ap (λ (m : ℕ). lowest reason.PutAbove (λ k. put_above (get_or steps k new_step)) m 0) (sym n)

@@ -1,4 +1,5 @@
 -- A float made whole, cast to an unsigned number and clamped, by what the float is compared with: for rounding and for ceiling alike. Assumes nothing.
+use Rattle.std.specs.Prelude.{Ok, Err}
 use Prim.Native.Nat.{ℕ, ◌-◌, ◌*◌, ◌/◌, ◌^◌, ◌≤◌, ◌<◌, min, max, zero-le}
 use native.Mathlib.Nat.{le_trans, le_of_eq, lt_of_le_of_lt, min-le_left, min-le_right, le-min, min-eq_left, min-eq_right, max-eq_left, max-eq_right, le-div_iff_mul-le, div-mul-le_self, le_of_mul-le-mul_right, mul-le-mul_right, mul_right_comm, zero-div}
 use native.Mathlib.Omega.{arith}
@@ -11,10 +12,8 @@ use lib.Ieee.Scale.{finite}
 use lib.Ieee.Fits.{down_pos, of_int-fits}
 use lib.Ieee.Exact.{HasValue}
 use lib.Ieee.Back.{unsigned_back, round_whole}
-use Rattle.floats.specs.Answers.{plus_zero, one}
+use Rattle.floats.specs.Answers.{plus_zero, one, Answer}
 use Rattle.floats.specs.declared.Refusal.{Refusal}
-use Rattle.floats.specs.declared.Answer.{Answer}
-use Rattle.floats.specs.declared.Answer.TheVariants.{Value, Refused}
 use Rattle.floats.specs.Whole.{rounded, ceiled, round_at, ceil_at}
 use Rattle.floats.specs.laws.Fractions.{leq_of_le}
 use Rattle.floats.specs.laws.Order.{le_of_lt as float-le-of-lt, le_of_not_lt, lt_of_not_le, number_of-finite, number_of_le, T_of, T-of_not, between, le_trans as float-le-trans}
@@ -83,7 +82,7 @@ pub record Way (g : Float → Float) (at : Float → ℕ → Answer) : Type 0 wh
   pub held : (x : Float) → T (fits binary64 x) → T (finite x) → IsWhole (g x)
   pub nothing : g nan ≡ nan
   pub endless : (s : Bool) → g (inf s) ≡ inf s
-  pub answered : (x : Float) (place : ℕ) → T (fits binary64 x) → T (finite x) → at x place ≡ Value (g x)
+  pub answered : (x : Float) (place : ℕ) → T (fits binary64 x) → T (finite x) → at x place ≡ Ok (g x)
 
 pub nearest : Way rounded round_at
 unfolding rounded
@@ -183,7 +182,7 @@ module _ (g : Float → Float) (at : Float → ℕ → Answer) (way : Way g at) 
     within : T (finite x)
     within = between (float 1) x (float high) (float-finite 1 (lit≤ tt)) (float-finite high few) from_one to_high
 
-    given : s ≡ Value (g x)
+    given : s ≡ Ok (g x)
     given = e ∙ way.answered x 0 p within
 
     taken : T (in_unsigned binary64 64 (g x))
@@ -194,14 +193,14 @@ module _ (g : Float → Float) (at : Float → ℕ → Answer) (way : Way g at) 
         (subst (λ (z : Float). T (le z (g x))) (way.own 1 (lit≤ tt) (lit≤ tt)) (way.mono (float 1) x (float-finite 1 (lit≤ tt)) within from_one)))
         (subst (λ (z : Float). T (le (g x) z)) (way.own high some few) (way.mono x (float high) within (float-finite high few) to_high))
 
-    pub mid-taken : {y : Float} → s ≡ Value y → T (in_unsigned binary64 64 y)
+    pub mid-taken : {y : Float} → s ≡ Ok y → T (in_unsigned binary64 64 y)
     mid-taken {y} v = let i : g x ≡ y = cc (given, v) in subst (λ (z : Float). T (in_unsigned binary64 64 z)) i taken
 
-    pub mid-clamped : {y : Float} → s ≡ Value y → to_unsigned 64 y ≡ clamp 1 high (to_unsigned 64 (g x))
+    pub mid-clamped : {y : Float} → s ≡ Ok y → to_unsigned 64 y ≡ clamp 1 high (to_unsigned 64 (g x))
     mid-clamped {y} v =
         let i : g x ≡ y = cc (given, v) in
         ap (to_unsigned 64) (sym i)
         ∙ clamp-mid high (to_unsigned 64 (g x)) (from 1 x (lit≤ tt) (lit≤ tt) within from_one) (upto high x some few within to_high)
 
-    pub mid-refused : {q : Refusal} → s ≡ Refused q → 1 ≡ clamp 1 high (to_unsigned 64 (g x))
+    pub mid-refused : {q : Refusal} → s ≡ Err q → 1 ≡ clamp 1 high (to_unsigned 64 (g x))
     mid-refused v = let z : ◌≡◌ {A = ℕ} 0 1 = cc (given, v) in absurd (omega arith)

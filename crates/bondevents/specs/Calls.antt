@@ -1,20 +1,18 @@
 -- Definitions only. Which steps a call or put entry reaches, the principal and the price there, and the price kept: of calls the lowest, of puts the highest.
-use Rattle.std.specs.Prelude.{ℕ, zero, suc, Bool, true, false, cond, ◌&&◌, List, [], ◌∷◌, get_or, replicate, eqb, ltb, Float}
+use Rattle.std.specs.Prelude.{ℕ, zero, suc, Bool, true, false, cond, ◌&&◌, List, [], ◌∷◌, get_or, replicate, eqb, ltb, Float, Ok, Err}
 use Rattle.std.specs.Float.{binary64}
 use Rattle.std.specs.Float.Ieee.{add, mul, div, le, lt}
-use Rattle.floats.specs.declared.Answer.{Answer}
-use Rattle.floats.specs.Answers.{plus_zero, refusal, tested, when_finite}
+use Rattle.floats.specs.Answers.{Answer, plus_zero, refusal, tested, when_finite, Check, Outcome, follow}
 use Rattle.floats.specs.Extremes.{min_of, max_of}
 use Rattle.terms.specs.Numbers.{float, tolerance}
 use Rattle.terms.specs.Terms.{Leg, CallSchedule, Bond}
-use Rattle.terms.specs.declared.Check.{Check}
 use Rattle.terms.specs.Checks.{on_check, indexed, lowest}
-use Rattle.terms.specs.Outcomes.{Outcome, given, refused, follow, valued}
 use Rattle.bondevents.specs.declared.Side.{Side}
 use Rattle.bondevents.specs.declared.Side.TheVariants.{Call, Put}
 use Rattle.bondevents.specs.declared.Exercise.{Exercise}
 use Rattle.bondevents.specs.declared.CallStep.{CallStep}
 use Rattle.bondevents.specs.Steps.{Axis, time_of, step_of, call_step_of}
+use Rattle.floats.specs.declared.Reason.TheVariants as reason
 
 -- One call or put entry.
 pub record Entry : Type 0 where
@@ -67,7 +65,7 @@ unfolding principal mul div le
 call_price a bond e step =
     cond
     (le (principal a bond.leg e step) plus_zero)
-    (refusal 20 0)
+    (refusal reason.NoPrincipal 0)
     (when_finite (mul binary64 e.strike (principal a bond.leg e step)) 0 λ paid. tested (div binary64 paid bond.units) 0)
 
 -- No exercise: unmarked, and the price is 0 then.
@@ -93,24 +91,24 @@ unfoldable pub over_steps : Side → Axis → Bond → Entry → ℕ → ℕ →
 unfolding eligible call_price keep
 over_steps side a bond e (suc count) step (c ∷ cs) =
     follow
-    (cond (eligible a e step) (valued (call_price a bond e step) λ price. given (keep side c price)) (given c))
-    λ c. follow (over_steps side a bond e count (suc step) cs) λ cs. given (c ∷ cs)
-over_steps side a bond e (suc count) step [] = given []
-over_steps side a bond e zero step cs = given cs
+    (cond (eligible a e step) (follow (call_price a bond e step) λ price. Ok (keep side c price)) (Ok c))
+    λ c. follow (over_steps side a bond e count (suc step) cs) λ cs. Ok (c ∷ cs)
+over_steps side a bond e (suc count) step [] = Ok []
+over_steps side a bond e zero step cs = Ok cs
 
 -- Entries ending before settlement are skipped; steps 0 to steps−1 are tried.
 unfoldable pub with_entry : Side → Axis → Bond → Entry → List Exercise → Outcome (List Exercise)
 unfolding over_steps
-with_entry side a bond e cs = cond (ltb e.end a.settlement) (given cs) (over_steps side a bond e a.steps 0 cs)
+with_entry side a bond e cs = cond (ltb e.end a.settlement) (Ok cs) (over_steps side a bond e a.steps 0 cs)
 
 -- Entry 0 over all its steps, then entry 1.
 unfoldable pub over_entries : Side → Axis → Bond → List ℕ → List ℕ → List Float → List Exercise → Outcome (List Exercise)
 unfolding with_entry
 over_entries side a bond (s ∷ starts) (e ∷ ends) (k ∷ strikes) cs =
     follow (with_entry side a bond (record { start = s; end = e; strike = k }) cs) λ cs. over_entries side a bond starts ends strikes cs
-over_entries side a bond (s ∷ starts) (e ∷ ends) [] cs = given cs
-over_entries side a bond (s ∷ starts) [] strikes cs = given cs
-over_entries side a bond [] ends strikes cs = given cs
+over_entries side a bond (s ∷ starts) (e ∷ ends) [] cs = Ok cs
+over_entries side a bond (s ∷ starts) [] strikes cs = Ok cs
+over_entries side a bond [] ends strikes cs = Ok cs
 
 -- One list over all its entries.
 abbrev pub exercises : Side → Axis → Bond → CallSchedule → Outcome (List Exercise)
@@ -128,11 +126,11 @@ put_above c = (c.call.marked && c.put.marked) && lt c.call.price c.put.price
 
 -- 38: a put above the call at a step, lowest step as its place.
 abbrev pub puts_below : List CallStep → Check
-puts_below steps = indexed 38 (λ k. put_above (get_or steps k new_step)) steps
+puts_below steps = indexed reason.PutAbove (λ k. put_above (get_or steps k new_step)) steps
 
 -- The steps of a grid: all calls are filled in, then all puts, and 38 is tried once the whole is filled.
 unfoldable pub call_steps : Axis → Bond → CallSchedule → Outcome (List CallStep)
 unfolding over_entries joined lowest on_check
 call_steps a bond calls =
     follow (exercises Call a bond calls) λ cs.
-    follow (exercises Put a bond bond.puts) λ ps. on_check (puts_below (joined cs ps)) refused (given (joined cs ps))
+    follow (exercises Put a bond bond.puts) λ ps. on_check (puts_below (joined cs ps)) Err (Ok (joined cs ps))

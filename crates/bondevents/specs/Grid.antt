@@ -1,13 +1,12 @@
 -- Definitions only. The event grid and the grid entry.
-use Rattle.std.specs.Prelude.{replicate}
+use Rattle.std.specs.Prelude.{replicate, Ok, Some, None}
 use Rattle.floats.specs.declared.Refusal.{Refusal}
-use Rattle.floats.specs.Answers.{plus_zero}
+use Rattle.floats.specs.Answers.{plus_zero, Outcome, follow, on_outcome}
 use Rattle.terms.specs.declared.Settlement.{Settlement}
 use Rattle.terms.specs.Terms.{Leg, CallSchedule, Bond, TimeGrid}
 use Rattle.terms.specs.Times.{year_fraction}
 use Rattle.terms.specs.Checks.{on_check}
 use Rattle.terms.specs.Entries.{grid_checks}
-use Rattle.terms.specs.Outcomes.{Outcome, given, follow, on_outcome}
 use Rattle.bondevents.specs.declared.BondEventGrid.{BondEventGrid}
 use Rattle.bondevents.specs.declared.GridAnswer.{GridAnswer}
 use Rattle.bondevents.specs.Steps.{Axis, maturity_time, steps_of, step_cashflows}
@@ -30,7 +29,7 @@ unfolding axis_of call_steps
 event_grid settlement bond calls controls =
     let a = axis_of settlement bond.leg controls in
     follow (call_steps a bond calls) λ cs.
-    given
+    Ok
     (record {
       maturity_time = a.maturity;
       steps = a.steps;
@@ -43,10 +42,10 @@ abbrev pub zero_grid : BondEventGrid
 zero_grid = record { maturity_time = plus_zero; steps = 0; cashflows = replicate 513 plus_zero; calls = replicate 513 new_step }
 
 abbrev pub refused_grid : Refusal → GridAnswer
-refused_grid r = record { refusal = r; grid = zero_grid }
+refused_grid r = record { refusal = Some r; grid = zero_grid }
 
 abbrev pub accepted_grid : BondEventGrid → GridAnswer
-accepted_grid g = record { refusal = record { number = 0; place = 0 }; grid = g }
+accepted_grid g = record { refusal = None; grid = g }
 
 -- The grid entry: the input checks, then the grid.
 unfoldable pub grid_answer : Settlement → Bond → CallSchedule → TimeGrid → GridAnswer

@@ -1,29 +1,24 @@
--- Definitions only. What the parts of the grid hand to one another: a price from its principal, the steps of one entry by any test and price, an outcome as the struct that carries it, and the steps as marks beside prices.
-use Rattle.std.specs.Prelude.{ℕ, zero, suc, ◌<◌, ◌≡◌, Bool, cond, ◌&&◌, List, [], ◌∷◌, length, get_or, replicate, ltb, Float}
+-- Definitions only. What the parts of the grid hand to one another: a price from its principal, the steps of one entry by any test and price, and the steps as marks beside prices.
+use Rattle.std.specs.Prelude.{ℕ, zero, suc, ◌<◌, ◌≡◌, Bool, cond, ◌&&◌, List, [], ◌∷◌, length, get_or, replicate, ltb, Float, Ok, Err}
 use Rattle.std.specs.Float.{nan, binary64}
 use Rattle.std.specs.Float.Ieee.{add, mul, div, le}
-use Rattle.floats.specs.declared.Refusal.{Refusal}
-use Rattle.floats.specs.declared.Answer.{Answer}
+use Rattle.floats.specs.Answers.{Answer, plus_zero, refusal, tested, when_finite, Outcome, follow}
 use Rattle.terms.specs.Checks.{on_check}
-use Rattle.floats.specs.Answers.{plus_zero, refusal, tested, when_finite}
-use Rattle.terms.specs.declared.Check.{Check}
-use Rattle.terms.specs.declared.Check.TheVariants.{Passed, Refused}
 use Rattle.terms.specs.declared.Epoch.{Epoch}
 use Rattle.terms.specs.Times.{time_from}
 use Rattle.terms.specs.Numbers.{tolerance}
-use Rattle.terms.specs.Terms.{Leg, Bond, no_entries}
-use Rattle.terms.specs.Outcomes.{Outcome, given, follow, on_outcome, valued}
+use Rattle.terms.specs.declared.Settlement.{Settlement}
+use Rattle.terms.specs.Terms.{Leg, CallSchedule, Bond, TimeGrid, no_entries}
+use Rattle.terms.specs.Entries.{grid_checks}
 use Rattle.bondevents.specs.declared.Side.{Side}
 use Rattle.bondevents.specs.declared.Side.TheVariants.{Call, Put}
 use Rattle.bondevents.specs.declared.Exercise.{Exercise}
 use Rattle.bondevents.specs.declared.CallStep.{CallStep}
-use Rattle.bondevents.specs.declared.SideAnswer.{SideAnswer}
-use Rattle.bondevents.specs.declared.CallsAnswer.{CallsAnswer}
 use Rattle.bondevents.specs.declared.BondEventGrid.{BondEventGrid}
-use Rattle.bondevents.specs.declared.EventGrid.{EventGrid}
 use Rattle.bondevents.specs.Steps.{Axis}
-use Rattle.bondevents.specs.Calls.{Entry, none, new_step, keep, grid_time, redemptions, redemption_step_of}
-use Rattle.bondevents.specs.Grid.{zero_grid}
+use Rattle.bondevents.specs.Calls.{Entry, none, keep, grid_time, redemptions, redemption_step_of}
+use Rattle.bondevents.specs.Grid.{event_grid, zero_grid}
+use Rattle.floats.specs.declared.Reason.TheVariants as reason
 
 -- What the parallel parameters of the code make together.
 abbrev pub axis_at : Epoch → Float → ℕ → Axis
@@ -44,7 +39,7 @@ entry_of start end strike = record { start = start; end = end; strike = strike }
 -- 20: no principal. Price: strike × principal/units.
 abbrev pub priced : Float → Float → Float → Answer
 priced strike principal units =
-    cond (le principal plus_zero) (refusal 20 0) (when_finite (mul binary64 strike principal) 0 λ paid. tested (div binary64 paid units) 0)
+    cond (le principal plus_zero) (refusal reason.NoPrincipal 0) (when_finite (mul binary64 strike principal) 0 λ paid. tested (div binary64 paid units) 0)
 
 -- The step's time within two times, with the tolerance.
 abbrev pub in_window : Axis → Float → Float → ℕ → Bool
@@ -55,10 +50,10 @@ unfoldable pub over_prices : Side → (ℕ → Bool) → (ℕ → Answer) → �
 unfolding keep
 over_prices side eligible price (suc count) step (c ∷ cs) =
     follow
-    (cond (eligible step) (valued (price step) λ x. given (keep side c x)) (given c))
-    λ c. follow (over_prices side eligible price count (suc step) cs) λ cs. given (c ∷ cs)
-over_prices side eligible price (suc count) step [] = given []
-over_prices side eligible price zero step cs = given cs
+    (cond (eligible step) (follow (price step) λ x. Ok (keep side c x)) (Ok c))
+    λ c. follow (over_prices side eligible price count (suc step) cs) λ cs. Ok (c ∷ cs)
+over_prices side eligible price (suc count) step [] = Ok []
+over_prices side eligible price zero step cs = Ok cs
 
 -- The principal of a window at a step: redemptions whose step exceeds it.
 abbrev pub principal_after : Axis → Leg → ℕ → Float
@@ -78,29 +73,14 @@ pub record Principals (a : Axis) (leg : Leg) (count : ℕ) (table : List Float) 
 unfoldable pub no_exercises : List Exercise
 no_exercises = replicate 513 none
 
--- The exercises of each step, or the refusal beside none.
-abbrev pub side_answer : Outcome (List Exercise) → SideAnswer
-side_answer o = on_outcome o (λ r. record { check = Refused r; steps = no_exercises }) λ cs. record { check = Passed; steps = cs }
-
--- No step has a call price or a put price.
-unfoldable pub no_calls : List CallStep
-no_calls = replicate 513 new_step
-
--- The steps of the grid, or the refusal beside none.
-abbrev pub calls_answer : Outcome (List CallStep) → CallsAnswer
-calls_answer o = on_outcome o (λ r. record { check = Refused r; calls = no_calls }) λ cs. record { check = Passed; calls = cs }
-
--- What a check refuses; number and place 0 where it passed.
-abbrev pub refusal_in : Check → Refusal
-refusal_in c = on_check c (λ r. r) (record { number = 0; place = 0 })
+-- The input checks, then the grid.
+unfoldable pub checked_grid : Settlement → Bond → CallSchedule → TimeGrid → Outcome BondEventGrid
+unfolding grid_checks event_grid
+checked_grid settlement bond calls controls = on_check (grid_checks settlement bond calls controls) Err (event_grid settlement bond calls controls)
 
 -- The grid that is all zero.
 unfoldable pub no_grid : BondEventGrid
 no_grid = zero_grid
-
--- The grid, or the refusal beside one that is all zero.
-abbrev pub grid_outcome : Outcome BondEventGrid → EventGrid
-grid_outcome o = on_outcome o (λ r. record { check = Refused r; grid = no_grid }) λ g. record { check = Passed; grid = g }
 
 -- A mark is 1 where a price stands.
 abbrev pub mark_of : Exercise → ℕ

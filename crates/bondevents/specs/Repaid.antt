@@ -1,7 +1,6 @@
 -- Definitions only. Repaid principal is gone: redemptions on or before settlement count nowhere.
-use Rattle.std.specs.Prelude.{ℕ, ◌≡◌, Bool, cond, ◌&&◌, List, [], ◌∷◌, eqb, leb}
+use Rattle.std.specs.Prelude.{ℕ, ◌≡◌, Bool, cond, ◌&&◌, List, [], ◌∷◌, eqb, leb, Ok}
 use Rattle.terms.specs.declared.Settlement.{Settlement}
-use Rattle.terms.specs.declared.Check.TheVariants.{Passed}
 use Rattle.terms.specs.Terms.{CallSchedule, Bond, TimeGrid}
 use Rattle.terms.specs.Entries.{grid_checks}
 use Rattle.bondevents.specs.Grid.{event_grid}
@@ -35,5 +34,5 @@ without_repaid settlement bond =
 abbrev pub RepaidNowhere : Type 0
 RepaidNowhere =
     (settlement : Settlement) (bond : Bond) (calls : CallSchedule) (controls : TimeGrid)
-    → grid_checks settlement bond calls controls ≡ Passed
+    → grid_checks settlement bond calls controls ≡ Ok tt
     → event_grid settlement bond calls controls ≡ event_grid settlement (without_repaid settlement.day bond) calls controls

@@ -1,5 +1,5 @@
 // Contractual cashflows, the issuer's calls and the holder's puts on a uniform time grid.
-#![tactic(auto)]
+#![tactic(auto, unfolding(floats::specs::Answers::on_outcome))]
 
 pub mod calls;
 pub mod marks;
@@ -12,7 +12,6 @@ ghost use Rattle.bondevents.specs.Calls.{none, new_step, kept, keep};
 use floats::Refusal;
 use floats::max::greater;
 use floats::min::lesser;
-use terms::Check;
 
 // Who exercises: the issuer calls, the holder puts.
 #[derive(Clone, Copy)]
@@ -94,30 +93,9 @@ pub struct BondEventGrid {
     pub calls: [CallStep; 513],
 }
 
-// The exercises of each step on one side, or a refusal beside none.
-#[derive(Drop)]
-pub struct SideAnswer {
-    pub check: Check,
-    pub steps: [Exercise; 513],
-}
-
-// The steps of the grid, or a refusal beside none.
-#[derive(Drop)]
-pub struct CallsAnswer {
-    pub check: Check,
-    pub calls: [CallStep; 513],
-}
-
-// The grid for who has checked its terms, or a refusal beside a grid that is all zero.
-#[derive(Drop)]
-pub struct EventGrid {
-    pub check: Check,
-    pub grid: BondEventGrid,
-}
-
-// The grid, or its refusal beside a grid that is all zero. An accepted grid has number and place 0.
+// The grid, or its refusal beside a grid that is all zero.
 #[derive(Drop)]
 pub struct GridAnswer {
-    pub refusal: Refusal,
+    pub refusal: Option<Refusal>,
     pub grid: BondEventGrid,
 }

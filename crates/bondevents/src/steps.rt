@@ -6,7 +6,6 @@ ghost use Rattle.floats.specs.Whole.{rounded, ceiled};
 ghost use Rattle.bondevents.specs.Parts.{axis_at};
 ghost use Rattle.bondevents.specs.Steps.{clamp, steps_of, step_of, call_step_of};
 
-use floats::Answer;
 use floats::ceil::ceil_at;
 use floats::round::round_at;
 use terms::Epoch;
@@ -22,7 +21,7 @@ fn up_to(target: f64, high: usize) -> usize
     }
     if target > 1.0 {
         let answer = ceil_at(target, 0);
-        let Answer::Value(whole) = answer else {
+        let Ok(whole) = answer else {
             return 1;
         };
         return whole as usize;
@@ -40,7 +39,7 @@ fn near_to(target: f64, high: usize) -> usize
     }
     if target > 1.0 {
         let answer = round_at(target, 0);
-        let Answer::Value(whole) = answer else {
+        let Ok(whole) = answer else {
             return 1;
         };
         return whole as usize;

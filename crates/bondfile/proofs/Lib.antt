@@ -1,3 +1,2 @@
-pub mod Hunting
+pub mod Walking
 pub mod Filling
-pub mod Checking

@@ -1,7 +1,7 @@
 -- Definitions only. A bond file: its lines, and their entries in order.
-use Rattle.std.specs.Prelude.{ℕ, suc, cond, List, [], ◌∷◌, drop, eqb}
-use Rattle.bondline.specs.declared.Entry.{Entry}
+use Rattle.std.specs.Prelude.{ℕ, suc, cond, Ok, List, [], ◌∷◌, drop, eqb}
 use Rattle.bondline.specs.declared.Entry.TheVariants.{Blank}
+use Rattle.bondline.specs.Forms.{Said}
 use Rattle.bondline.specs.Lines.{line_entry}
 use Rattle.bondfile.specs.Entries.{kind_of}
 
@@ -21,7 +21,7 @@ lines_of (b ∷ bs) = cond (eqb b 10) ([] ∷ lines_of bs) (begun b (lines_of bs
 -- A line's number, from 1, and what it says.
 pub record Numbered : Type 0 where
   pub line : ℕ
-  pub entry : Entry
+  pub entry : Said
 
 -- One entry for each line.
 unfoldable pub numbered : ℕ → List (List ℕ) → List Numbered
@@ -36,8 +36,8 @@ abbrev pub entries_from : List ℕ → ℕ → ℕ → List Numbered
 entries_from text at n = numbered n (lines_of (drop at text))
 
 -- What the first of some entries says; nothing where there is none.
-abbrev pub first_entry : List Numbered → Entry
-first_entry [] = Blank
+abbrev pub first_entry : List Numbered → Said
+first_entry [] = Ok Blank
 first_entry (e ∷ es) = e.entry
 
 -- The entries of a kind, in the order of their lines.
@@ -46,5 +46,5 @@ of_kind k [] = []
 of_kind k (e ∷ es) = cond (eqb (kind_of e.entry) k) (e ∷ of_kind k es) (of_kind k es)
 
 -- What a file's first entry of a kind says.
-abbrev pub field_of : ℕ → List ℕ → Entry
+abbrev pub field_of : ℕ → List ℕ → Said
 field_of k text = first_entry (of_kind k (entries_of text))

@@ -1,5 +1,6 @@
 pub mod Entries
 pub mod File
+pub mod Walks
 pub mod Storing
 pub mod Checks
 pub mod Examples

@@ -1,131 +1,89 @@
 // The kind of an entry, and its numbers.
-ghost use Rattle.std.specs.Prelude.{◌≡◌};
-ghost use Rattle.bondfile.specs.Entries.{kind_of, first_whole, second_whole, flow_kind, first_number, second_number};
+ghost use Rattle.std.specs.Prelude.{◌≡◌, Ok};
+ghost use Rattle.bondfile.specs.Entries.{number_of, kind_of, first_whole, second_whole, flow_kind, first_number, second_number};
 
-use bondline::Entry;
+use bondline::{Entry, Kind};
 
-// The number of an entry's kind.
-pub fn kind_of(e: Entry) -> usize
-    ensures { result ≡ kind_of e }
+pub fn kind_of(e: Entry) -> Kind
+    ensures { number_of result ≡ kind_of (Ok e) }
 {
     match e {
-        Entry::Blank => 0,
-        Entry::Settlement(_) => 1,
-        Entry::Units(_) => 2,
-        Entry::Steps(_, _) => 3,
-        Entry::Alpha(_) => 4,
-        Entry::Spread(_) => 5,
-        Entry::Cashflow(_, _, _) => 6,
-        Entry::Call(_, _, _) => 7,
-        Entry::Sigma(_, _) => 8,
-        Entry::Pillar(_, _) => 9,
-        Entry::Yield(_, _, _) => 10,
-        Entry::Quote(_) => 11,
-        Entry::Refused(_) => 12,
+        Entry::Blank => Kind::Blank,
+        Entry::Settlement(_) => Kind::Settlement,
+        Entry::Units(_) => Kind::Units,
+        Entry::Steps(_, _) => Kind::Steps,
+        Entry::Alpha(_) => Kind::Alpha,
+        Entry::Spread(_) => Kind::Spread,
+        Entry::Cashflow(_, _, _) => Kind::Cashflow,
+        Entry::Call(_, _, _) => Kind::Call,
+        Entry::Sigma(_, _) => Kind::Sigma,
+        Entry::Pillar(_, _) => Kind::Pillar,
+        Entry::Yield(_, _, _) => Kind::Yield,
+        Entry::Quote(_) => Kind::Quote,
     }
 }
 
 // The first whole number of an entry.
 pub fn first_whole(e: Entry) -> u32
-    ensures { result ≡ first_whole e }
+    ensures { result ≡ first_whole (Ok e) }
 {
     match e {
-        Entry::Blank => 0,
-        Entry::Settlement(d) => d,
-        Entry::Units(_) => 0,
-        Entry::Steps(a, _) => a,
-        Entry::Alpha(_) => 0,
-        Entry::Spread(_) => 0,
-        Entry::Cashflow(d, _, _) => d,
-        Entry::Call(a, _, _) => a,
-        Entry::Sigma(_, _) => 0,
-        Entry::Pillar(d, _) => d,
-        Entry::Yield(_, a, _) => a,
-        Entry::Quote(_) => 0,
-        Entry::Refused(_) => 0,
+        Entry::Settlement(n)
+        | Entry::Steps(n, _)
+        | Entry::Cashflow(n, _, _)
+        | Entry::Call(n, _, _)
+        | Entry::Pillar(n, _)
+        | Entry::Yield(_, n, _) => n,
+        _ => 0,
     }
 }
 
 // The second whole number of an entry.
 pub fn second_whole(e: Entry) -> u32
-    ensures { result ≡ second_whole e }
+    ensures { result ≡ second_whole (Ok e) }
 {
     match e {
-        Entry::Blank => 0,
-        Entry::Settlement(_) => 0,
-        Entry::Units(_) => 0,
-        Entry::Steps(_, b) => b,
-        Entry::Alpha(_) => 0,
-        Entry::Spread(_) => 0,
-        Entry::Cashflow(_, _, _) => 0,
-        Entry::Call(_, b, _) => b,
-        Entry::Sigma(_, _) => 0,
-        Entry::Pillar(_, _) => 0,
-        Entry::Yield(_, _, b) => b,
-        Entry::Quote(_) => 0,
-        Entry::Refused(_) => 0,
+        Entry::Steps(_, n) => n,
+        Entry::Call(_, n, _) => n,
+        Entry::Yield(_, _, n) => n,
+        _ => 0,
     }
 }
 
 // A cashflow's kind.
 pub fn flow_kind(e: Entry) -> u8
-    ensures { result ≡ flow_kind e }
+    ensures { result ≡ flow_kind (Ok e) }
 {
     match e {
-        Entry::Blank => 0,
-        Entry::Settlement(_) => 0,
-        Entry::Units(_) => 0,
-        Entry::Steps(_, _) => 0,
-        Entry::Alpha(_) => 0,
-        Entry::Spread(_) => 0,
-        Entry::Cashflow(_, k, _) => k,
-        Entry::Call(_, _, _) => 0,
-        Entry::Sigma(_, _) => 0,
-        Entry::Pillar(_, _) => 0,
-        Entry::Yield(_, _, _) => 0,
-        Entry::Quote(_) => 0,
-        Entry::Refused(_) => 0,
+        Entry::Cashflow(_, kind, _) => kind,
+        _ => 0,
     }
 }
 
 // The first number of an entry.
 pub fn first_number(e: Entry) -> f64
-    ensures { result ≡ first_number e }
+    ensures { result ≡ first_number (Ok e) }
 {
     match e {
-        Entry::Blank => 0.0,
-        Entry::Settlement(_) => 0.0,
-        Entry::Units(x) => x,
-        Entry::Steps(_, _) => 0.0,
-        Entry::Alpha(x) => x,
-        Entry::Spread(x) => x,
-        Entry::Cashflow(_, _, x) => x,
-        Entry::Call(_, _, x) => x,
-        Entry::Sigma(x, _) => x,
-        Entry::Pillar(_, x) => x,
-        Entry::Yield(x, _, _) => x,
-        Entry::Quote(x) => x,
-        Entry::Refused(_) => 0.0,
+        Entry::Units(x)
+        | Entry::Alpha(x)
+        | Entry::Spread(x)
+        | Entry::Cashflow(_, _, x)
+        | Entry::Call(_, _, x)
+        | Entry::Sigma(x, _)
+        | Entry::Pillar(_, x)
+        | Entry::Yield(x, _, _)
+        | Entry::Quote(x) => x,
+        _ => 0.0,
     }
 }
 
 // The second number of an entry.
 pub fn second_number(e: Entry) -> f64
-    ensures { result ≡ second_number e }
+    ensures { result ≡ second_number (Ok e) }
 {
     match e {
-        Entry::Blank => 0.0,
-        Entry::Settlement(_) => 0.0,
-        Entry::Units(_) => 0.0,
-        Entry::Steps(_, _) => 0.0,
-        Entry::Alpha(_) => 0.0,
-        Entry::Spread(_) => 0.0,
-        Entry::Cashflow(_, _, _) => 0.0,
-        Entry::Call(_, _, _) => 0.0,
         Entry::Sigma(_, y) => y,
-        Entry::Pillar(_, _) => 0.0,
-        Entry::Yield(_, _, _) => 0.0,
-        Entry::Quote(_) => 0.0,
-        Entry::Refused(_) => 0.0,
+        _ => 0.0,
     }
 }

@@ -1,26 +1,100 @@
-// The entries of a kind, one after the other.
-ghost use Rattle.std.specs.Prelude.{◌+◌, ◌≤◌, length};
-ghost use Rattle.bondfile.specs.Storing.{NextOf};
+// The lines of a file, and the entries of a kind among them.
+ghost use Rattle.std.specs.Prelude.{◌≡◌, ◌+◌, ◌≤◌, length};
 
-use crate::NextEntry;
+use crate::Found;
 use crate::entries::kind_of;
 use bondline::lines::{line_entry, next_line};
+use bondline::{Entry, Fault, Kind};
 
-// The next entry of a kind, from an index on at which a line of this number begins.
-pub fn next_entry(text: &[u8], kind: usize, at: usize, line: usize) -> NextEntry
-    requires { (line ≤ at + 1) × (at ≤ length text.now) }
-    ensures { NextOf text.now kind at line result }
-{
-    let mut i = at;
-    let mut n = line;
-    while i < text.len() {
-        let e = line_entry(text, i);
-        let next = next_line(text, i);
-        if kind_of(e) == kind {
-            return NextEntry::Found(e, n, next);
+// The lines of a file from an index on, with the number of the line that begins there.
+#[derive(Drop)]
+pub struct Lines<'a> {
+    text: &'a [u8],
+    at: usize,
+    line: usize,
+    ghost order: { line ≤ at + 1 },
+    ghost within: { at ≤ length text.now },
+}
+
+impl<'a> Lines<'a> {
+    ghost use Rattle.bondfile.specs.File.{entries_of};
+    ghost use Rattle.bondfile.specs.Walks.{lines_left};
+
+    pub fn new(text: &'a [u8]) -> Lines<'a>
+        ensures { lines_left result ≡ entries_of text.now }
+    {
+        Lines {
+            text,
+            at: 0,
+            line: 1,
         }
-        i = next;
-        n += 1;
     }
-    NextEntry::Nothing
+}
+
+impl<'a> Iterator for Lines<'a> {
+    ghost use Rattle.std.specs.Iterator.{YieldsFirstBy, item_count};
+    ghost use Rattle.bondfile.specs.Walks.{lines_left, numbered_line};
+
+    type Item = (usize, Result<Entry, Fault>);
+
+    ghost next_gives = { YieldsFirstBy numbered_line lines_left };
+
+    ghost remaining = { item_count lines_left };
+
+    #[tactic(auto, using(crate::proofs::Walking::walking))]
+    fn next(&mut self) -> Option<(usize, Result<Entry, Fault>)> {
+        if self.at >= self.text.len() {
+            return None;
+        }
+        let line = self.line;
+        let said = line_entry(self.text, self.at);
+        self.at = next_line(self.text, self.at);
+        self.line = line + 1;
+        Some((line, said))
+    }
+}
+
+// The entries of a kind, in the order of their lines.
+#[derive(Drop)]
+pub struct OfKind<'a> {
+    lines: Lines<'a>,
+    kind: Kind,
+}
+
+impl<'a> OfKind<'a> {
+    ghost use Rattle.bondfile.specs.Entries.{number_of};
+    ghost use Rattle.bondfile.specs.File.{entries_of, of_kind};
+    ghost use Rattle.bondfile.specs.Walks.{found_left};
+
+    pub fn new(text: &'a [u8], kind: Kind) -> OfKind<'a>
+        ensures { found_left result ≡ of_kind (number_of kind) (entries_of text.now) }
+    {
+        OfKind {
+            lines: Lines::new(text),
+            kind,
+        }
+    }
+}
+
+impl<'a> Iterator for OfKind<'a> {
+    ghost use Rattle.std.specs.Iterator.{YieldsFirstBy, item_count};
+    ghost use Rattle.bondfile.specs.Walks.{found_left, numbered_found};
+
+    type Item = Found;
+
+    ghost next_gives = { YieldsFirstBy numbered_found found_left };
+
+    ghost remaining = { item_count found_left };
+
+    #[tactic(auto, unfolding(crate::specs::File::of_kind))]
+    fn next(&mut self) -> Option<Found> {
+        while let Some((line, said)) = self.lines.next() {
+            if let Ok(entry) = said
+                && kind_of(entry) == self.kind
+            {
+                return Some(Found { line, entry });
+            }
+        }
+        None
+    }
 }

@@ -1,5 +1,7 @@
 -- Definitions only. Bytes of a bond file and runs of them; a text of the definitions as its bytes.
-use Rattle.std.specs.Prelude.{ℕ, suc, ◌+◌, Bool, true, false, cond, not, ◌&&◌, List, [], ◌∷◌, drop, eqb, leb, ltb}
+use Rattle.std.specs.Prelude.{ℕ, ◌+◌, ◌≡◌, Bool, not, ◌&&◌, List, [], ◌∷◌, drop, eqb, leb, ltb}
+use Rattle.std.specs.List.{prefix_len}
+use Rattle.std.specs.Str.{bytes_eq}
 use Prim.Native.Char.{code}
 use Prim.Native.String.{String, [] as none, ◌∷◌ as ◌then◌}
 
@@ -22,17 +24,17 @@ abbrev pub is_commented : ℕ → Bool
 is_commented b = leb 32 b
 
 -- How many bytes at the front pass a test.
-unfoldable pub leading : (ℕ → Bool) → List ℕ → ℕ
-leading p [] = 0
-leading p (b ∷ bs) = cond (p b) (suc (leading p bs)) 0
+abbrev pub leading : (ℕ → Bool) → List ℕ → ℕ
+leading p bs = prefix_len p bs
 
 -- The first index from i on whose byte fails the test; the end where all pass.
 abbrev pub run_end : (ℕ → Bool) → List ℕ → ℕ → ℕ
 run_end p bs i = i + leading p (drop i bs)
 
+-- That a closure's results are those of a test.
+abbrev pub Computes : {F : Type 0} → (F → ℕ → Bool → Type 0) → F → (ℕ → Bool) → Type 0
+Computes post f p = (b : ℕ) (r : Bool) → post f b r → r ≡ p b
+
 -- Whether two words are the same.
-unfoldable pub same : List ℕ → List ℕ → Bool
-same [] [] = true
-same [] (b ∷ bs) = false
-same (a ∷ rest) [] = false
-same (a ∷ rest) (b ∷ bs) = eqb a b && same rest bs
+abbrev pub same : List ℕ → List ℕ → Bool
+same a b = bytes_eq a b

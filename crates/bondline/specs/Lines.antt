@@ -1,12 +1,10 @@
 -- Definitions only. What a line says.
-use Rattle.std.specs.Prelude.{ℕ, ◌+◌, cond, List, length, get_or, ltb}
+use Rattle.std.specs.Prelude.{ℕ, ◌+◌, cond, Err, List, length, get_or, ltb}
 use Rattle.bondline.specs.declared.Cause.TheVariants.{Byte}
-use Rattle.bondline.specs.declared.Entry.{Entry}
-use Rattle.bondline.specs.declared.Entry.TheVariants.{Refused}
 use Rattle.bondline.specs.Bytes.{is_allowed, is_commented, is_other, run_end}
 use Rattle.bondline.specs.Words.{between}
 use Rattle.bondline.specs.Values.{fault}
-use Rattle.bondline.specs.Forms.{body_entry}
+use Rattle.bondline.specs.Forms.{Said, body_entry}
 
 -- Where the comment starts: at #.
 abbrev pub comment_start : List ℕ → ℕ
@@ -21,9 +19,9 @@ abbrev pub uncommented : List ℕ → List ℕ
 uncommented line = between 0 (comment_start line) line
 
 -- First its bytes, then its words.
-unfoldable pub line_entry : List ℕ → Entry
+unfoldable pub line_entry : List ℕ → Said
 line_entry line =
-    cond (ltb (first_bad line) (length line)) (Refused (fault (first_bad line + 1) (Byte (get_or line (first_bad line) 0))))
+    cond (ltb (first_bad line) (length line)) (Err (fault (first_bad line + 1) (Byte (get_or line (first_bad line) 0))))
     (body_entry (uncommented line))
 
 -- The line that an index begins: up to the next line end.

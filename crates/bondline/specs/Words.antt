@@ -1,5 +1,5 @@
 -- Definitions only. The words of a line: the runs of bytes other than spaces, counted from 0.
-use Rattle.std.specs.Prelude.{ℕ, zero, suc, ◌+◌, ◌-◌, Bool, cond, List, length, take, drop, ltb}
+use Rattle.std.specs.Prelude.{ℕ, zero, suc, ◌+◌, ◌-◌, Bool, cond, Option, Some, None, List, length, take, drop, ltb}
 use Rattle.bondline.specs.declared.Span.{Span}
 use Rattle.bondline.specs.Bytes.{is_space, is_other, run_end, same}
 
@@ -26,10 +26,10 @@ abbrev pub column_of : List ℕ → ℕ → ℕ
 column_of line n = (span_of line n).start + 1
 
 -- The first word of a table from k on that is the word given; `left` words are tried.
-unfoldable pub seek : List ℕ → List ℕ → ℕ → ℕ → ℕ
-seek word table zero k = k
-seek word table (suc left) k = cond (same word (word_at table k)) k (seek word table left (suc k))
+unfoldable pub seek : List ℕ → List ℕ → ℕ → ℕ → Option ℕ
+seek word table zero k = None
+seek word table (suc left) k = cond (same word (word_at table k)) (Some k) (seek word table left (suc k))
 
--- A word's place among the n words of a table; n where it is none of them.
-abbrev pub place_in : List ℕ → List ℕ → ℕ → ℕ
+-- A word's place among the n words of a table, if it is one of them.
+abbrev pub place_in : List ℕ → List ℕ → ℕ → Option ℕ
 place_in word table n = seek word table n 0

@@ -1,91 +1,57 @@
 // Runs of bytes.
-ghost use Rattle.std.specs.Prelude.{◌≡◌};
-ghost use Rattle.bondline.specs.Bytes.{run_end, is_space, is_allowed, is_commented, is_other};
+ghost use Rattle.std.specs.Prelude.{◌≡◌, ◌≤◌, ℕ, Bool, length};
+ghost use Rattle.bondline.specs.Bytes.{run_end, Computes, is_space, is_allowed, is_commented, is_other};
 ghost use Rattle.bondline.specs.Lines.{first_bad};
 
 // Whether a byte may stand in a line.
 pub fn is_allowed(b: u8) -> bool
     ensures { result ≡ is_allowed b }
 {
-    if b < 32 {
-        return false;
-    }
-    b < 127
+    matches!(b, b' '..=b'~')
 }
 
 // Whether a byte may stand in a comment.
 fn is_commented(b: u8) -> bool
     ensures { result ≡ is_commented b }
 {
-    32 <= b
+    b >= b' '
+}
+
+// The first index from one on whose byte fails the test.
+fn run_end<F: Fn(u8) -> bool>(text: &[u8], from: usize, passes: F) -> usize
+    requires { F.IsAlwaysCallable passes }
+    ensures end { (p : ℕ → Bool) → Computes F.post passes p → result ≡ run_end p text.now from }
+    ensures onward { from ≤ result }
+    ensures within { from ≤ length text.now → result ≤ length text.now }
+{
+    from + text.iter().skip(from).take_while(|b| passes(**b)).count()
 }
 
 // The first index from one on whose byte is no space.
 pub fn past_spaces(text: &[u8], from: usize) -> usize
-    ensures { result ≡ run_end is_space text.now from }
+    ensures end { result ≡ run_end is_space text.now from }
+    ensures onward { from ≤ result }
+    ensures within { from ≤ length text.now → result ≤ length text.now }
 {
-    let mut i = from;
-    while i < text.len() {
-        if text[i] != 32 {
-            return i;
-        }
-        i += 1;
-    }
-    i
+    run_end(text, from, |b| b == b' ')
 }
 
 // The first index from one on whose byte is the one that stops.
 pub fn until(text: &[u8], from: usize, stop: u8) -> usize
-    ensures { result ≡ run_end (is_other stop) text.now from }
+    ensures end { result ≡ run_end (is_other stop) text.now from }
+    ensures onward { from ≤ result }
+    ensures within { from ≤ length text.now → result ≤ length text.now }
 {
-    let mut i = from;
-    while i < text.len() {
-        if text[i] == stop {
-            return i;
-        }
-        i += 1;
-    }
-    i
+    run_end(text, from, |b| b != stop)
 }
 
-// The first index whose byte may not stand before a comment.
-fn plain_end(text: &[u8]) -> usize
-    ensures { result ≡ run_end is_allowed text.now 0 }
-{
-    let mut i = 0;
-    while i < text.len() {
-        if is_allowed(text[i]) {
-            i += 1;
-        } else {
-            return i;
-        }
-    }
-    i
-}
-
-// The first index from one on whose byte may not stand in a comment.
-fn commented_end(text: &[u8], from: usize) -> usize
-    ensures { result ≡ run_end is_commented text.now from }
-{
-    let mut i = from;
-    while i < text.len() {
-        if is_commented(text[i]) {
-            i += 1;
-        } else {
-            return i;
-        }
-    }
-    i
-}
-
-// The first index whose byte may not stand in a line.
+// The first index whose byte may not stand in a line: what follows # is its comment.
 pub fn allowed_end(line: &[u8]) -> usize
     ensures { result ≡ first_bad line.now }
 {
-    let plain = plain_end(line);
-    let comment = until(line, 0, 35);
-    if comment < plain {
-        return commented_end(line, plain);
+    let plain = run_end(line, 0, is_allowed);
+    if until(line, 0, b'#') < plain {
+        return run_end(line, plain, is_commented);
     }
     plain
 }

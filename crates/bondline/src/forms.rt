@@ -1,206 +1,138 @@
 // The forms of a line.
-ghost use Rattle.std.specs.Prelude.{◌≡◌, ◌<◌, get_or};
-ghost use Rattle.bondline.specs.Forms.{settlement_form, units_form, steps_form, alpha_form, spread_form, cashflow_form, call_form, sigma_form, pillar_form, yield_form, quote_form, value_counts, form_at, unformed_entry, named_entry, body_entry};
+ghost use Rattle.std.specs.Prelude.{◌≡◌};
+ghost use Rattle.bondline.specs.Forms.{number_form, settlement_form, steps_form, cashflow_form, call_form, sigma_form, pillar_form, yield_form, kind_named, form_of, body_entry};
 
 use crate::values::{compounding_at, count_at, day_at, frequency_at, kind_at, number_at, shape};
 use crate::words::{column_of, has_word, place_in, word_at};
-use crate::{Cause, Entry, Fault, Shape, WordCode, WordKind, WordNumber};
+use crate::{Cause, Entry, Fault, Kind};
 
-fn settlement_form(line: &[u8]) -> Entry
+#[tactic(auto, unfolding(crate::specs::Forms::settlement_form))]
+fn settlement_form(line: &[u8]) -> Result<Entry, Fault>
     ensures { result ≡ settlement_form line.now }
 {
-    match day_at(line, 1) {
-        WordCode::Wrong(q) => Entry::Refused(q),
-        WordCode::Code(day) => Entry::Settlement(day),
-    }
+    shape(line, 1)?;
+    Ok(Entry::Settlement(day_at(line, 1)?))
 }
 
-fn units_form(line: &[u8]) -> Entry
-    ensures { result ≡ units_form line.now }
+// A line with one number behind its name.
+#[tactic(auto, unfolding(crate::specs::Forms::number_form))]
+fn number_form(line: &[u8]) -> Result<f64, Fault>
+    ensures { result ≡ number_form line.now }
 {
-    match number_at(line, 1) {
-        WordNumber::Faulty(q) => Entry::Refused(q),
-        WordNumber::Number(x) => Entry::Units(x),
-    }
+    shape(line, 1)?;
+    number_at(line, 1)
 }
 
-fn steps_form(line: &[u8]) -> Entry
+#[tactic(auto, unfolding(crate::specs::Forms::steps_form))]
+fn steps_form(line: &[u8]) -> Result<Entry, Fault>
     ensures { result ≡ steps_form line.now }
 {
-    match count_at(line, 1) {
-        WordCode::Wrong(q) => Entry::Refused(q),
-        WordCode::Code(per_year) => match count_at(line, 2) {
-            WordCode::Wrong(q) => Entry::Refused(q),
-            WordCode::Code(maximum) => Entry::Steps(per_year, maximum),
-        },
-    }
+    shape(line, 2)?;
+    Ok(Entry::Steps(count_at(line, 1)?, count_at(line, 2)?))
 }
 
-fn alpha_form(line: &[u8]) -> Entry
-    ensures { result ≡ alpha_form line.now }
-{
-    match number_at(line, 1) {
-        WordNumber::Faulty(q) => Entry::Refused(q),
-        WordNumber::Number(x) => Entry::Alpha(x),
-    }
-}
-
-fn spread_form(line: &[u8]) -> Entry
-    ensures { result ≡ spread_form line.now }
-{
-    match number_at(line, 1) {
-        WordNumber::Faulty(q) => Entry::Refused(q),
-        WordNumber::Number(x) => Entry::Spread(x),
-    }
-}
-
-fn cashflow_form(line: &[u8]) -> Entry
+#[tactic(auto, unfolding(crate::specs::Forms::cashflow_form))]
+fn cashflow_form(line: &[u8]) -> Result<Entry, Fault>
     ensures { result ≡ cashflow_form line.now }
 {
-    match day_at(line, 1) {
-        WordCode::Wrong(q) => Entry::Refused(q),
-        WordCode::Code(day) => match kind_at(line, 2) {
-            WordKind::Unkind(q) => Entry::Refused(q),
-            WordKind::Kind(kind) => match number_at(line, 3) {
-                WordNumber::Faulty(q) => Entry::Refused(q),
-                WordNumber::Number(amount) => Entry::Cashflow(day, kind, amount),
-            },
-        },
-    }
+    shape(line, 3)?;
+    Ok(Entry::Cashflow(day_at(line, 1)?, kind_at(line, 2)?, number_at(line, 3)?))
 }
 
-fn call_form(line: &[u8]) -> Entry
+#[tactic(auto, unfolding(crate::specs::Forms::call_form))]
+fn call_form(line: &[u8]) -> Result<Entry, Fault>
     ensures { result ≡ call_form line.now }
 {
-    match day_at(line, 1) {
-        WordCode::Wrong(q) => Entry::Refused(q),
-        WordCode::Code(start) => match day_at(line, 2) {
-            WordCode::Wrong(q) => Entry::Refused(q),
-            WordCode::Code(end) => match number_at(line, 3) {
-                WordNumber::Faulty(q) => Entry::Refused(q),
-                WordNumber::Number(strike) => Entry::Call(start, end, strike),
-            },
-        },
-    }
+    shape(line, 3)?;
+    Ok(Entry::Call(day_at(line, 1)?, day_at(line, 2)?, number_at(line, 3)?))
 }
 
-fn sigma_form(line: &[u8]) -> Entry
+#[tactic(auto, unfolding(crate::specs::Forms::sigma_form))]
+fn sigma_form(line: &[u8]) -> Result<Entry, Fault>
     ensures { result ≡ sigma_form line.now }
 {
-    match number_at(line, 1) {
-        WordNumber::Faulty(q) => Entry::Refused(q),
-        WordNumber::Number(time) => match number_at(line, 2) {
-            WordNumber::Faulty(q) => Entry::Refused(q),
-            WordNumber::Number(sigma) => Entry::Sigma(time, sigma),
-        },
-    }
+    shape(line, 2)?;
+    Ok(Entry::Sigma(number_at(line, 1)?, number_at(line, 2)?))
 }
 
-fn pillar_form(line: &[u8]) -> Entry
+#[tactic(auto, unfolding(crate::specs::Forms::pillar_form))]
+fn pillar_form(line: &[u8]) -> Result<Entry, Fault>
     ensures { result ≡ pillar_form line.now }
 {
-    match day_at(line, 1) {
-        WordCode::Wrong(q) => Entry::Refused(q),
-        WordCode::Code(day) => match number_at(line, 2) {
-            WordNumber::Faulty(q) => Entry::Refused(q),
-            WordNumber::Number(factor) => Entry::Pillar(day, factor),
-        },
-    }
+    shape(line, 2)?;
+    Ok(Entry::Pillar(day_at(line, 1)?, number_at(line, 2)?))
 }
 
-fn yield_form(line: &[u8]) -> Entry
+#[tactic(auto, unfolding(crate::specs::Forms::yield_form))]
+fn yield_form(line: &[u8]) -> Result<Entry, Fault>
     ensures { result ≡ yield_form line.now }
 {
-    match number_at(line, 1) {
-        WordNumber::Faulty(q) => Entry::Refused(q),
-        WordNumber::Number(price) => match compounding_at(line, 2) {
-            WordCode::Wrong(q) => Entry::Refused(q),
-            WordCode::Code(compounding) => match frequency_at(line, 3) {
-                WordCode::Wrong(q) => Entry::Refused(q),
-                WordCode::Code(frequency) => Entry::Yield(price, compounding, frequency),
-            },
-        },
+    shape(line, 3)?;
+    Ok(Entry::Yield(
+        number_at(line, 1)?,
+        compounding_at(line, 2)?,
+        frequency_at(line, 3)?,
+    ))
+}
+
+// The values of a line of a kind.
+#[tactic(auto, unfolding(crate::specs::Forms::form_of, crate::specs::Forms::units_form, crate::specs::Forms::alpha_form, crate::specs::Forms::spread_form, crate::specs::Forms::quote_form))]
+fn form_of(kind: Kind, line: &[u8]) -> Result<Entry, Fault>
+    ensures { result ≡ form_of kind line.now }
+{
+    match kind {
+        Kind::Blank => Ok(Entry::Blank),
+        Kind::Settlement => settlement_form(line),
+        Kind::Units => Ok(Entry::Units(number_form(line)?)),
+        Kind::Steps => steps_form(line),
+        Kind::Alpha => Ok(Entry::Alpha(number_form(line)?)),
+        Kind::Spread => Ok(Entry::Spread(number_form(line)?)),
+        Kind::Cashflow => cashflow_form(line),
+        Kind::Call => call_form(line),
+        Kind::Sigma => sigma_form(line),
+        Kind::Pillar => pillar_form(line),
+        Kind::Yield => yield_form(line),
+        Kind::Quote => Ok(Entry::Quote(number_form(line)?)),
     }
 }
 
-fn quote_form(line: &[u8]) -> Entry
-    ensures { result ≡ quote_form line.now }
-{
-    match number_at(line, 1) {
-        WordNumber::Faulty(q) => Entry::Refused(q),
-        WordNumber::Number(x) => Entry::Quote(x),
-    }
-}
+// The kinds in the order of their names. The last name is the bond's own: its line says nothing of the terms.
+const KINDS: [Kind; 12] = [
+    Kind::Settlement,
+    Kind::Units,
+    Kind::Steps,
+    Kind::Alpha,
+    Kind::Spread,
+    Kind::Cashflow,
+    Kind::Call,
+    Kind::Sigma,
+    Kind::Pillar,
+    Kind::Yield,
+    Kind::Quote,
+    Kind::Blank,
+];
 
-// The values of the k-th form.
-fn form_at(k: usize, line: &[u8]) -> Entry
-    ensures { result ≡ form_at k line.now }
+// The kind of a line by its name.
+#[tactic(auto, unfolding(crate::specs::Forms::kind_named))]
+pub fn kind_named(name: &[u8]) -> Option<Kind>
+    ensures { result ≡ kind_named name.now }
 {
-    match k {
-        0 => settlement_form(line),
-        1 => units_form(line),
-        2 => steps_form(line),
-        3 => alpha_form(line),
-        4 => spread_form(line),
-        5 => cashflow_form(line),
-        6 => call_form(line),
-        7 => sigma_form(line),
-        8 => pillar_form(line),
-        9 => yield_form(line),
-        10 => quote_form(line),
-        _ => Entry::Blank,
-    }
-}
-
-const VALUE_COUNTS: [usize; 11] = [1, 1, 2, 1, 1, 3, 3, 2, 2, 3, 1];
-
-// How many values the k-th form takes.
-fn value_count(k: usize) -> usize
-    requires { k < 11 }
-    ensures { (result ≡ get_or value_counts k 0) × (result < 4) }
-{
-    VALUE_COUNTS[k]
-}
-
-// The bond's own name, or a word that is none of the names.
-fn unformed_entry(k: usize, line: &[u8]) -> Entry
-    ensures { result ≡ unformed_entry k line.now }
-{
-    if k == 11 {
-        return Entry::Blank;
-    }
-    Entry::Refused(Fault {
-        column: column_of(line, 0),
-        cause: Cause::UnknownWord,
-    })
-}
-
-// A line whose name is the k-th.
-fn named_entry(k: usize, line: &[u8]) -> Entry
-    ensures { result ≡ named_entry k line.now }
-{
-    if k < 11 {
-        let n = value_count(k);
-        return match shape(line, n) {
-            Shape::Unfit(q) => Entry::Refused(q),
-            Shape::Fits => form_at(k, line),
-        };
-    }
-    unformed_entry(k, line)
+    let names = b"settlement units steps alpha spread cashflow call sigma pillar yield quote name";
+    let place = place_in(name, names, KINDS.len())?;
+    Some(KINDS[place])
 }
 
 // What the words of a line say.
-pub fn body_entry(line: &[u8]) -> Entry
+#[tactic(auto, unfolding(crate::specs::Forms::body_entry))]
+pub fn body_entry(line: &[u8]) -> Result<Entry, Fault>
     ensures { result ≡ body_entry line.now }
 {
-    if has_word(line, 0) {
-        let w = word_at(line, 0);
-        let k = place_in(
-            w,
-            b"settlement units steps alpha spread cashflow call sigma pillar yield quote name",
-            12,
-        );
-        return named_entry(k, line);
+    if !has_word(line, 0) {
+        return Ok(Entry::Blank);
     }
-    Entry::Blank
+    let kind = kind_named(word_at(line, 0)).ok_or(Fault {
+        column: column_of(line, 0),
+        cause: Cause::UnknownWord,
+    })?;
+    form_of(kind, line)
 }

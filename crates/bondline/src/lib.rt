@@ -1,6 +1,8 @@
 // The lines of a bond file: their words, values and forms.
 #![tactic(auto)]
 
+use calendar::DateError;
+
 pub mod bytes;
 pub mod forms;
 pub mod lines;
@@ -9,30 +11,21 @@ pub mod values;
 pub mod words;
 
 // Where a word stands in its line.
-#[derive(Drop)]
+#[derive(Clone, Copy, Debug, PartialEq, Eq)]
 pub struct Span {
     pub start: usize,
     pub end: usize,
 }
 
-// A whole number, or where its word is malformed.
-#[derive(Drop)]
-pub enum ReadWhole {
-    Whole(u32),
-    NotWhole(usize),
-}
-
-// A day, or why its word gives none.
-#[derive(Drop)]
-pub enum ReadDay {
-    Day(u32),
+// Why a word gives no day: where it is malformed, or what is wrong with its date.
+#[derive(Clone, Copy, Debug, PartialEq, Eq)]
+pub enum DayError {
     NotDay(usize),
-    NoSuchDate,
-    OutOfRange,
+    NotDate(DateError),
 }
 
 // Why a line is refused.
-#[derive(Clone, Copy)]
+#[derive(Clone, Copy, Debug, PartialEq, Eq)]
 pub enum Cause {
     Byte(u8),
     UnknownWord,
@@ -50,43 +43,32 @@ pub enum Cause {
 }
 
 // What is wrong in a line, and at which column.
-#[derive(Clone, Copy)]
+#[derive(Clone, Copy, Debug, PartialEq, Eq)]
 pub struct Fault {
     pub column: usize,
     pub cause: Cause,
 }
 
-// The code, count or day that a word gives.
-#[derive(Drop)]
-pub enum WordCode {
-    Code(u32),
-    Wrong(Fault),
+// What a line is about, by its first word. One that says nothing of the terms is blank.
+#[derive(Clone, Copy, Debug, PartialEq, Eq)]
+pub enum Kind {
+    Blank,
+    Settlement,
+    Units,
+    Steps,
+    Alpha,
+    Spread,
+    Cashflow,
+    Call,
+    Sigma,
+    Pillar,
+    Yield,
+    Quote,
 }
 
-// The kind of cashflow that a word gives.
-#[derive(Drop)]
-pub enum WordKind {
-    Kind(u8),
-    Unkind(Fault),
-}
-
-// The number that a word gives.
-#[derive(Drop)]
-pub enum WordNumber {
-    Number(f64),
-    Faulty(Fault),
-}
-
-// Whether a line has as many values as its form.
-#[derive(Drop)]
-pub enum Shape {
-    Fits,
-    Unfit(Fault),
-}
-
-// What a line says. The kinds are numbered: 0 nothing, 1 settlement, 2 units, 3 steps, 4 alpha, 5 spread, 6 cashflow, 7 call, 8 sigma, 9 pillar, 10 yield, 11 quote,
-// 12 a line that is refused.
-#[derive(Clone, Copy)]
+// What a line says. A cashflow's kind, a compounding and a frequency are the numbers that a C caller gives too: the
+// pricing functions take them so.
+#[derive(Clone, Copy, Debug)]
 pub enum Entry {
     Blank,
     Settlement(u32),
@@ -100,5 +82,4 @@ pub enum Entry {
     Pillar(u32, f64),
     Yield(f64, u32, u32),
     Quote(f64),
-    Refused(Fault),
 }

@@ -1,114 +1,69 @@
 // Whole numbers and days, from their words.
-ghost use Rattle.std.specs.Prelude.{◌≡◌, true, ◌-◌, ◌≤◌, length};
-ghost use Rattle.calendar.specs.Calendar.{dated};
-ghost use Rattle.bondline.specs.Words.{between};
-ghost use Rattle.bondline.specs.Numbers.{is_digit, whole_of, date_shaped, date_of, day_of, of_dated};
+ghost use Rattle.std.specs.Prelude.{◌≡◌, true, ◌≤◌, length, IfErr};
+ghost use Rattle.bondline.specs.Numbers.{whole_of, date_shaped, part_of, date_of, day_of};
 
-use crate::{ReadDay, ReadWhole};
-use calendar::Dated;
+use crate::DayError;
 use calendar::numbers::day_number;
 
-// Whether a byte is a digit.
-fn is_digit(b: u8) -> bool
-    ensures { result ≡ is_digit b }
-{
-    if b < 48 {
-        return false;
-    }
-    b <= 57
-}
+// The most digits of a whole number.
+const MOST_DIGITS: usize = 9;
 
-// A digit's value.
-fn digit(b: u8) -> u32
-    requires { 48 ≤ b }
-    ensures { result ≡ b - 48 }
+// A whole number; or where its word is malformed.
+#[tactic(auto, using(crate::proofs::Reading::whole_more, crate::proofs::Reading::whole_all, crate::proofs::Reading::below, crate::proofs::Reading::longer), unfolding(crate::specs::Numbers::whole_of))]
+pub fn whole(word: &[u8]) -> Result<u32, usize>
+    ensures value { result ≡ whole_of word.now }
+    ensures within { IfErr result (λ at. at ≤ length word.now) }
 {
-    (b - 48) as u32
-}
-
-// A whole number.
-pub fn whole(word: &[u8]) -> ReadWhole
-    ensures { result ≡ whole_of word.now }
-{
-    if word.len() == 0 {
-        return ReadWhole::NotWhole(0);
+    if word.is_empty() {
+        return Err(0);
     }
-    let mut v: u32 = 0;
-    let mut i = 0;
-    while i < word.len() {
-        let b = word[i];
-        if 9 <= i {
-            return ReadWhole::NotWhole(i);
-        }
-        if is_digit(b) {
-            v = v * 10 + digit(b);
-            i += 1;
-        } else {
-            return ReadWhole::NotWhole(i);
+    let mut value = 0;
+    for (i, byte) in word.iter().enumerate() {
+        match *byte {
+            b'0'..=b'9' if i < MOST_DIGITS => value = value * 10 + u32::from(*byte - b'0'),
+            _ => return Err(i),
         }
     }
-    ReadWhole::Whole(v)
+    Ok(value)
 }
 
 // Whether a word has a date's shape.
+#[tactic(auto, unfolding(crate::specs::Numbers::date_shaped))]
 fn is_date_shaped(word: &[u8]) -> bool
-    ensures { result ≡ date_shaped word.now }
+    ensures shaped { result ≡ date_shaped word.now }
+    ensures long { result ≡ true → length word.now ≡ 10 }
 {
-    if word.len() != 10 {
-        return false;
-    }
-    if word[4] != 45 {
-        return false;
-    }
-    word[7] == 45
+    word.len() == 10 && word[4] == b'-' && word[7] == b'-'
 }
 
 // A part of a word, as a whole number.
-fn part(word: &[u8], a: usize, e: usize) -> ReadWhole
-    requires { (a ≤ e) × (e ≤ length word.now) }
-    ensures { result ≡ whole_of (between a e word.now) }
+#[tactic(auto, unfolding(crate::specs::Numbers::part_of))]
+fn part(word: &[u8], start: usize, end: usize) -> Result<u32, DayError>
+    requires { (start ≤ end) × (end ≤ length word.now) }
+    ensures { result ≡ part_of start end word.now }
 {
-    let p = &word[a..e];
-    whole(p)
-}
-
-// The day of a date.
-fn dated_day(year: u32, month: u32, day: u32) -> ReadDay
-    ensures { result ≡ of_dated (dated (record { year = year; month = month; day = day })) }
-{
-    match day_number(year, month, day) {
-        Dated::Day(d) => ReadDay::Day(d),
-        Dated::NoSuchDate => ReadDay::NoSuchDate,
-        Dated::OutOfRange => ReadDay::OutOfRange,
-    }
+    whole(&word[start..end]).map_err(|at| DayError::NotDay(start + at))
 }
 
 // The day of a word of a date's shape.
-fn date(word: &[u8]) -> ReadDay
+#[tactic(auto, unfolding(crate::specs::Numbers::date_of))]
+fn date(word: &[u8]) -> Result<u32, DayError>
     requires { length word.now ≡ 10 }
     ensures { result ≡ date_of word.now }
 {
-    match part(word, 0, 4) {
-        ReadWhole::NotWhole(at) => ReadDay::NotDay(at),
-        ReadWhole::Whole(year) => match part(word, 5, 7) {
-            ReadWhole::NotWhole(at) => ReadDay::NotDay(at + 5),
-            ReadWhole::Whole(month) => match part(word, 8, 10) {
-                ReadWhole::NotWhole(at) => ReadDay::NotDay(at + 8),
-                ReadWhole::Whole(day) => dated_day(year, month, day),
-            },
-        },
-    }
+    let year = part(word, 0, 4)?;
+    let month = part(word, 5, 7)?;
+    let day = part(word, 8, 10)?;
+    day_number(year, month, day).map_err(DayError::NotDate)
 }
 
 // A day.
-pub fn day(word: &[u8]) -> ReadDay
+#[tactic(auto, unfolding(crate::specs::Numbers::day_of))]
+pub fn day(word: &[u8]) -> Result<u32, DayError>
     ensures { result ≡ day_of word.now }
 {
     if is_date_shaped(word) {
         return date(word);
     }
-    match whole(word) {
-        ReadWhole::Whole(d) => ReadDay::Day(d),
-        ReadWhole::NotWhole(at) => ReadDay::NotDay(at),
-    }
+    whole(word).map_err(DayError::NotDay)
 }

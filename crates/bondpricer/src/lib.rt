@@ -1,5 +1,5 @@
 // What a bond is worth without its calls.
-#![tactic(auto)]
+#![tactic(auto, unfolding(floats::specs::Answers::on_outcome))]
 
 ghost use Rattle.std.specs.Prelude.{◌≡◌, [], length};
 ghost use Rattle.floats.specs.Answers.{plus_zero};
@@ -10,12 +10,11 @@ ghost use Rattle.bondpricer.specs.Straight.{with_flow, flows, discounted_value, 
 
 use elementary::exp::exp_at;
 use entrychecks::entries::straight_checks;
-use floats::finite::not_finite;
-use floats::refusals::overflow;
-use floats::{Answer, Refusal};
+use floats::finite::tested;
+use floats::{Reason, Refusal};
 use terms::curve::{curve_at, pillar_times, timed_pillars};
 use terms::time::{epoch_of, time_from};
-use terms::{Check, Epoch, Settlement};
+use terms::{Epoch, Settlement};
 
 // amount × (the day's factor / settlement's) × exp(spread × −time), added to the value.
 fn with_flow(
@@ -27,39 +26,17 @@ fn with_flow(
     day: u32,
     amount: f64,
     value: f64,
-) -> Answer
+) -> Result<f64, Refusal>
     ensures { result ≡ with_flow (curve_over curve_times.now factors.now) settlement spread reference day amount value }
 {
     let time = time_from(settlement, day);
-    let a = curve_at(curve_times, factors, time, 0);
-    let Answer::Value(factor) = a else {
-        return a;
-    };
-    let discount = factor / reference;
-    if not_finite(discount) {
-        return overflow(0);
-    }
-    let x = spread * -time;
-    if not_finite(x) {
-        return overflow(0);
-    }
-    let e = exp_at(x, 0);
-    let Answer::Value(spread_discount) = e else {
-        return e;
-    };
-    let y = amount * discount;
-    if not_finite(y) {
-        return overflow(0);
-    }
-    let z = y * spread_discount;
-    if not_finite(z) {
-        return overflow(0);
-    }
-    let sum = value + z;
-    if not_finite(sum) {
-        return overflow(0);
-    }
-    Answer::Value(sum)
+    let factor = curve_at(curve_times, factors, time, 0)?;
+    let discount = tested(factor / reference, 0)?;
+    let x = tested(spread * -time, 0)?;
+    let spread_discount = exp_at(x, 0)?;
+    let y = tested(amount * discount, 0)?;
+    let z = tested(y * spread_discount, 0)?;
+    tested(value + z, 0)
 }
 
 // The paid cashflows in list order.
@@ -71,7 +48,7 @@ fn all_flows(
     curve_times: &[f64],
     factors: &[f64],
     reference: f64,
-) -> Answer
+) -> Result<f64, Refusal>
     requires { length amounts.now ≡ length days.now }
     ensures { result ≡ flows (curve_over curve_times.now factors.now) settlement spread reference days.now amounts.now plus_zero }
 {
@@ -82,7 +59,7 @@ fn all_flows(
         let amount = amounts[i];
         i += 1;
         if settlement.day < day {
-            let a = with_flow(
+            value = with_flow(
                 settlement,
                 curve_times,
                 factors,
@@ -91,14 +68,10 @@ fn all_flows(
                 day,
                 amount,
                 value,
-            );
-            let Answer::Value(v) = a else {
-                return a;
-            };
-            value = v;
+            )?;
         }
     }
-    Answer::Value(value)
+    Ok(value)
 }
 
 // discounted_value: 25 is tried on settlement's factor only.
@@ -109,22 +82,19 @@ pub fn discounted_value(
     spread: f64,
     curve_times: &[f64],
     factors: &[f64],
-) -> Answer
+) -> Result<f64, Refusal>
     requires { length amounts.now ≡ length days.now }
     ensures { result ≡ discounted_value (curve_over curve_times.now factors.now) settlement (record { days = days.now; kinds = []; amounts = amounts.now }) spread }
 {
-    let a = curve_at(
+    let reference = curve_at(
         curve_times,
         factors,
         time_from(settlement, settlement.day),
         0,
-    );
-    let Answer::Value(reference) = a else {
-        return a;
-    };
+    )?;
     if reference <= 0.0 {
-        return Answer::Refused(Refusal {
-            number: Refusal::FACTOR,
+        return Err(Refusal {
+            reason: Reason::Factor,
             place: 0,
         });
     }
@@ -148,12 +118,12 @@ pub fn straight_value(
     spread: f64,
     pillar_days: &[u32],
     pillar_factors: &[f64],
-) -> Answer
+) -> Result<f64, Refusal>
     ensures { result ≡ straight_value settlement (leg_in cashflow_days cashflow_kinds cashflow_amounts) spread (pillars_in pillar_days pillar_factors) }
 {
     let table = pillar_times(settlement, pillar_days);
     let count = timed_pillars(pillar_days);
-    let checked = straight_checks(
+    straight_checks(
         settlement,
         cashflow_days,
         cashflow_kinds,
@@ -162,10 +132,7 @@ pub fn straight_value(
         pillar_days,
         pillar_factors,
         &table[..count],
-    );
-    if let Check::Refused(q) = checked {
-        return Answer::Refused(q);
-    }
+    )?;
     let epoch = epoch_of(settlement);
     discounted_value(
         epoch,

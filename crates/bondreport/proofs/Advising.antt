@@ -1,13 +1,10 @@
--- The sentence beside a number that an arm names, and beside one that none names. Assumes nothing.
+-- The sentence beside a number that no arm names. Assumes nothing.
 use Prim.Native.Nat.{ℕ}
-use mathlib.Core.Path.{◌≡◌, refl, sym, ap, ◌∙◌}
+use mathlib.Core.Path.{◌≡◌, refl, ap, ◌∙◌}
 use mathlib.Core.List.{List, [], ◌∷◌}
 use Rattle.floats.proofs.Laws.{left_eq}
 use Rattle.bondreport.specs.Lines.{text_line}
 use Rattle.bondreport.specs.Sentences.{Advice, advice, unknown, looked_up, sentence_for}
-
-pub named : {r : List ℕ} {n k : ℕ} → n ≡ k → r ≡ text_line (sentence_for k) → r ≡ text_line (sentence_for n)
-named e p = p ∙ ap (λ (z : ℕ). text_line (sentence_for z)) (sym e)
 
 -- None of the numbers of a list, behind what was known before.
 abbrev Past : Type 0 → List Advice → ℕ → Type 0

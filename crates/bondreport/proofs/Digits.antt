@@ -5,24 +5,9 @@ use Prim.Native.Nat.{ℕ, zero, suc, ◌+◌, ◌-◌, ◌/◌, ◌%◌, ◌≤�
 use native.Mathlib.Numerals.{add-one}
 use native.Mathlib.Omega.{arith}
 use mathlib.Core.Path.{◌≡◌, refl, sym, ap, ◌∙◌}
-use mathlib.Core.List.{List}
-use lib.ListN.{length, set}
-use lib.Seq.{set_out}
-use Rattle.floats.proofs.Laws.{taken_lt, left_lt, taken_eq, left_eq}
+use Rattle.floats.proofs.Laws.{taken_lt, left_lt}
 use Rattle.bondreport.specs.declared.Leftward.{Leftward}
 use Rattle.bondreport.specs.Numbers.{byte_left, digits_left, width_from, width_of}
-
-module _ (c : Leftward) (byte : ℕ) where
-  pub left_none : c.end ≡ 0 → c ≡ byte_left c byte
-  unfolding byte_left
-  left_none e = taken_eq c.end 0 c (record { line = set c.line (c.end - 1) byte; end = c.end - 1 }) e refl
-
-  pub left_one : (c.end ≡ 0 → ⊥) → ◌≡◌ {A = Leftward} (record { line = set c.line (c.end - 1) byte; end = c.end - 1 }) (byte_left c byte)
-  unfolding byte_left
-  left_one e = left_eq c.end 0 c (record { line = set c.line (c.end - 1) byte; end = c.end - 1 }) e refl
-
-  pub left_beyond : length c.line ≡ 80 → (c.end ≡ 0 → ⊥) → 80 ≤ c.end - 1 → ◌≡◌ {A = Leftward} (record { line = c.line; end = c.end - 1 }) (byte_left c byte)
-  left_beyond l e h = ap (λ (z : List ℕ). record { line = z; end = c.end - 1 }) (sym (set_out c.line (c.end - 1) byte (omega (arith, l)))) ∙ left_one e
 
 -- The digits that are left give the whole.
 pub record Digits (count : ℕ) (c : Leftward) (n : ℕ) (done : Leftward) (rest i : ℕ) : Type 0 where
@@ -99,3 +84,7 @@ few_from (suc room) count n = go (ltb n 10) (few_from room (suc count) (n / 10))
 pub few : {w : ℕ} (n : ℕ) → w ≡ width_of n → w ≤ 20
 unfolding width_of
 few n e = omega (arith, e, few_from 19 1 n)
+
+pub ruleset digits = (digits-begin, digits-turn, digits-done)
+
+pub ruleset counting = (count-begin, count_last, count_turn, count-done)

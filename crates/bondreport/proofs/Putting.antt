@@ -1,18 +1,16 @@
--- A text put byte by byte, and a line looked through from its end. Assumes nothing.
-use Prim.Native.Nat.{ℕ, suc, ◌+◌, ◌-◌, ◌≤◌, ◌<◌}
-use native.Mathlib.Numerals.{add-one}
+-- A text copied into a line, and a line looked through from its end. Assumes nothing.
+use Prim.Native.Nat.{ℕ, suc, ◌-◌, ◌≤◌, ◌<◌, min}
 use native.Mathlib.Omega.{arith}
 use mathlib.Core.Path.{◌≡◌, refl, sym, ap, ◌∙◌}
-use mathlib.Core.List.{List, [], ◌∷◌}
-use lib.ListN.{length, get_or, set, drop, length-set, drop_of_length-le}
-use lib.Seq.{drop-cons, set_out}
+use mathlib.Core.List.{List, [], ◌∷◌, ◌++◌, append_assoc}
+use mathlib.Core.Logic.{◌⊎◌, inl, inr}
+use lib.ListN.{length, get_or, set, take, drop, length-set, take-append-drop}
+use lib.Seq.{drop-cons, set_out, take-suc-set}
+use borrow.Rule.Slice.PartMut.{put_mid}
+use Rattle.std.proofs.lemmas.List.{drop-set-lt}
+use Rattle.rounded.specs.laws.RoundToOdd.{ordered}
 use Rattle.floats.proofs.Laws.{taken_eq, left_eq}
 use Rattle.bondreport.specs.Columns.{put_at, used_of}
-
--- What is left of the text, put into what is filled, gives the whole.
-pub record Putting (line : List ℕ) (at : ℕ) (text filled : List ℕ) (column i : ℕ) : Type 0 where
-  pub size : length filled ≡ 80
-  pub left : put_at filled column (drop i text) ≡ put_at line at text
 
 -- Beyond the line nothing is put.
 beyond : (text line : List ℕ) (at : ℕ) → length line ≤ at → line ≡ put_at line at text
@@ -22,25 +20,37 @@ beyond (b ∷ text) line at h =
     beyond text line (suc at) (omega arith)
     ∙ ap (λ (l : List ℕ). put_at l (suc at) text) (sym (set_out line at b h))
 
-module _ (line : List ℕ) (at : ℕ) (text : List ℕ) where
-  pub put-begin : length line ≡ 80 → Putting line at text line at 0
-  put-begin h = record { size = h; left = refl }
+-- As much of a text as there is room for, in the place of what stood there.
+placed : (text line : List ℕ) (at n : ℕ) → at ≤ length line → n ≡ min (length text) (length line - at) → put_mid at n line (take n text) ≡ put_at line at text
+unfolding put_at
+placed [] line at n h e = let z : n ≡ 0 = omega arith in rw z (take-append-drop at line)
+placed (b ∷ text) line at n h e = go (placed text (set line at b) (suc at) (n - 1)) (ordered (length line) at)
+  where
+    Rest : Type 0
+    Rest = suc at ≤ length (set line at b) → n - 1 ≡ min (length text) (length (set line at b) - suc at) → put_mid (suc at) (n - 1) (set line at b) (take (n - 1) text) ≡ put_at (set line at b) (suc at) text
 
-  module _ (filled : List ℕ) (column i : ℕ) (p : Putting line at text filled column i) where
-    pub put-turn : i < length text → Putting line at text (set filled column (get_or text i 0)) (column + 1) (i + 1)
-    unfolding put_at
-    put-turn h =
-        record {
-          size = length-set filled column (get_or text i 0) ∙ p.size;
-          left = rw (add-one column, add-one i) (ap (λ (l : List ℕ). put_at filled column l) (sym (drop-cons text i 0 h)) ∙ p.left);
-        }
+    go : Rest → (length line ≤ at) ⊎ (at < length line) → put_mid at n line (take n (b ∷ text)) ≡ put_at line at (b ∷ text)
+    go rest (inl l) = let z : n ≡ 0 = omega arith in rw z (take-append-drop at line) ∙ beyond (b ∷ text) line at l
+    go rest (inr l) =
+        let k : length (set line at b) ≡ length line = length-set line at b in
+        let m : n ≡ suc (n - 1) = omega arith in
+        let one : put_mid at (suc (n - 1)) line (b ∷ take (n - 1) text) ≡ put_mid (suc at) (n - 1) (set line at b) (take (n - 1) text) =
+        ap (λ (z : List ℕ). take at line ++ (b ∷ (take (n - 1) text ++ drop (suc (n - 1)) z))) (drop-cons line at 0 l)
+        ∙ sym (append_assoc (take at line) (b ∷ []) (take (n - 1) text ++ drop (n - 1) (drop (suc at) line)))
+        ∙ ap (λ (z : List ℕ). z ++ (take (n - 1) text ++ drop (n - 1) (drop (suc at) line))) (sym (take-suc-set line at b l))
+        ∙ ap (λ (z : List ℕ). take (suc at) (set line at b) ++ (take (n - 1) text ++ drop (n - 1) z)) (sym (drop-set-lt (suc at) line at b (omega arith))) in
+        ap (λ (z : ℕ). put_mid at z line (take z (b ∷ text))) m ∙ one ∙ rest (omega arith) (omega arith)
 
-    pub put_full : 80 ≤ column → filled ≡ put_at line at text
-    put_full h = beyond (drop i text) filled column (omega (arith, p.size)) ∙ p.left
-
-    pub put-done : length text ≤ i → filled ≡ put_at line at text
-    unfolding put_at
-    put-done h = sym (ap (λ (l : List ℕ). put_at filled column l) (drop_of_length-le text h)) ∙ p.left
+pub copied : {s n k : ℕ} {part : List ℕ} (line text : List ℕ) (at : ℕ) → length line ≡ 80 → s ≡ min at 80 → n ≡ min (length text) (80 - s) → k ≡ n → part ≡ take n text → put_mid s k line part ≡ put_at line at text
+copied {s} {n} {k} {part} line text at l e f g p = go (ordered at 80)
+  where
+    go : (at ≤ 80) ⊎ (80 < at) → put_mid s k line part ≡ put_at line at text
+    go (inl h) =
+        let d : s ≡ at = omega arith in
+        rw (p, g, d) (placed text line at n (omega arith) (omega arith))
+    go (inr h) =
+        let z : n ≡ 0 = omega arith in
+        rw (p, g, z) (take-append-drop s line) ∙ beyond text line at (omega arith)
 
 -- The columns that are left to look at give the whole.
 pub record Looking (line : List ℕ) (n : ℕ) : Type 0 where
@@ -76,3 +86,5 @@ module _ (line : List ℕ) where
   pub look-done : (n : ℕ) → Looking line n → n ≤ 0 → 0 ≡ used_of 80 line
   unfolding used_of
   look-done n l h = let none : 0 ≡ n = omega arith in ap (λ (z : ℕ). used_of z line) none ∙ l.same
+
+pub ruleset looking = (look-begin, look-found, look_on, look-done)

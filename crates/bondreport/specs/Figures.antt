@@ -1,14 +1,11 @@
 -- Definitions only. Dates, decimals and bits in a line.
 use Rattle.std.specs.Prelude.{ℕ, ◌-◌, cond, List, eqb, ltb, Float}
+use Rattle.std.specs.Option.{option_map_or}
 use Rattle.std.specs.Float.{binary64}
 use Rattle.std.specs.Float.Ieee.{eq, to_bits}
 use Rattle.calendar.specs.declared.Date.{Date}
-use Rattle.calendar.specs.declared.Dating.{Dating}
-use Rattle.calendar.specs.declared.Dating.TheVariants.{On, NoDay}
 use Rattle.calendar.specs.Calendar.{dating}
 use Rattle.decimal.specs.declared.Rounded.{Rounded}
-use Rattle.decimal.specs.declared.Decimals.{Decimals}
-use Rattle.decimal.specs.declared.Decimals.TheVariants.{Shown, Beyond}
 use Rattle.decimal.specs.Writing.{decimals_of, hex_digits}
 use Rattle.decimal.specs.Examples.{bytes}
 use Rattle.bondreport.specs.declared.Leftward.{Leftward}
@@ -27,14 +24,9 @@ put_whole line end n = (whole_left (before line end) n).line
 abbrev pub date_left : Leftward → Date → Leftward
 date_left c date = digits_left 4 (byte_left (digits_left 2 (byte_left (digits_left 2 c date.day) 45) date.month) 45) date.year
 
--- What is done with a date, and where there is none.
-unfoldable pub on_dating : {A : Type 0} → Dating → A → (Date → A) → A
-on_dating (On date) none some = some date
-on_dating NoDay none some = none
-
 -- A day's date; a day that has none is its number.
 abbrev pub put_date : List ℕ → ℕ → ℕ → List ℕ
-put_date line end day = on_dating (dating day) (put_whole line end day) λ date. (date_left (before line end) date).line
+put_date line end day = option_map_or (λ date. (date_left (before line end) date).line) (dating day) (put_whole line end day)
 
 -- A point stands where there are decimals.
 unfoldable pub point_left : Leftward → ℕ → Leftward
@@ -48,14 +40,10 @@ minus_left c x = cond x.negative (cond (ltb 0 x.whole) (byte_left c 45) (cond (l
 abbrev pub decimals_left : Leftward → ℕ → Rounded → Leftward
 decimals_left c places x = minus_left (whole_left (point_left (digits_left places c x.part) places) x.whole) x
 
--- What is done with a number that has decimals, and with one that has none.
-unfoldable pub on_decimals : {A : Type 0} → Decimals → A → (Rounded → A) → A
-on_decimals (Shown x) none some = some x
-on_decimals Beyond none some = none
-
 -- A number to some decimals, right-justified; the word for one that has none.
 abbrev pub put_decimals : List ℕ → ℕ → Float → ℕ → List ℕ
-put_decimals line end x places = on_decimals (decimals_of places x) (put_at line (end - 6) (bytes "beyond")) λ shown. (decimals_left (before line end) places shown).line
+put_decimals line end x places =
+    option_map_or (λ shown. (decimals_left (before line end) places shown).line) (decimals_of places x) (put_at line (end - 6) (bytes "beyond"))
 
 -- The sixteen hexadecimal digits of a number's bits; a NaN, which doesn't equal itself, has none.
 abbrev pub put_bits : List ℕ → ℕ → Float → List ℕ

@@ -2,42 +2,34 @@
 ghost use Rattle.std.specs.Prelude.{◌≡◌};
 ghost use Rattle.bondreport.specs.Columns.{blank_line, put_at, used_of};
 
+use crate::{Line, WIDTH};
+
 // A line with nothing in it.
-pub fn blank() -> [u8; 80]
+pub fn blank() -> Line
     ensures { result ≡ blank_line }
 {
-    let line = [32u8; 80];
-    line
+    [b' '; WIDTH]
 }
 
 // A text from a column on; what lies beyond the line is dropped.
-pub fn put(line: [u8; 80], at: usize, text: &[u8]) -> [u8; 80]
+pub fn put(mut line: Line, at: usize, text: &[u8]) -> Line
     ensures { result ≡ put_at line at text.now }
 {
-    let mut filled = line;
-    let mut column = at;
-    let mut i = 0;
-    while i < text.len() {
-        if column >= 80 {
-            return filled;
-        }
-        filled[column] = text[i];
-        column += 1;
-        i += 1;
-    }
-    filled
+    let start = at.min(WIDTH);
+    let n = text.len().min(WIDTH - start);
+    line[start..start + n].copy_from_slice(&text[..n]);
+    line
 }
 
 // The columns up to the last that isn't blank.
-pub fn used(line: [u8; 80]) -> usize
+#[tactic(auto, using(crate::proofs::Putting::looking))]
+pub fn used(line: Line) -> usize
     ensures { result ≡ used_of 80 line }
 {
-    let mut n = 80;
-    while n > 0 {
-        if line[n - 1] != 32 {
-            return n;
+    for column in (0..WIDTH).rev() {
+        if line[column] != b' ' {
+            return column + 1;
         }
-        n -= 1;
     }
     0
 }

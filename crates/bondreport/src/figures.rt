@@ -2,100 +2,92 @@
 ghost use Rattle.std.specs.Prelude.{◌≡◌, ◌≤◌};
 ghost use Rattle.bondreport.specs.Figures.{date_left, point_left, minus_left, decimals_left, put_whole, put_date, put_decimals, put_bits};
 
-use crate::Leftward;
 use crate::columns::put;
-use crate::numbers::{byte_left, digits_left, whole_left};
+use crate::{Leftward, Line};
+use calendar::Date;
 use calendar::dates::date_of;
-use calendar::{Date, Dating};
+use decimal::Rounded;
 use decimal::writing::{decimals, hex_digits};
-use decimal::{Decimals, Rounded};
 
-// A whole number.
-pub fn put_whole(line: [u8; 80], end: usize, n: u64) -> [u8; 80]
-    ensures { result ≡ put_whole line end n }
-{
-    let c = whole_left(Leftward { line, end }, n);
-    c.line
+impl Leftward {
+    // A date as YYYY-MM-DD.
+    fn date(self, date: Date) -> Leftward
+        ensures { result ≡ date_left self date }
+    {
+        self.digits(2, date.day as u64)
+            .byte(b'-')
+            .digits(2, date.month as u64)
+            .byte(b'-')
+            .digits(4, date.year as u64)
+    }
+
+    // A point where there are decimals.
+    #[tactic(auto, unfolding(crate::specs::Figures::point_left))]
+    fn point(self, places: u32) -> Leftward
+        ensures { result ≡ point_left self places }
+    {
+        if places == 0 { self } else { self.byte(b'.') }
+    }
+
+    // A minus, but not before a zero.
+    #[tactic(auto, unfolding(crate::specs::Figures::minus_left))]
+    fn minus(self, x: Rounded) -> Leftward
+        ensures { result ≡ minus_left self x }
+    {
+        if x.negative && (x.whole > 0 || x.part > 0) {
+            self.byte(b'-')
+        } else {
+            self
+        }
+    }
+
+    // The decimals, the point, the whole part and the sign.
+    pub fn decimals(self, places: u32, x: Rounded) -> Leftward
+        ensures { result ≡ decimals_left self places x }
+    {
+        self.digits(places as usize, x.part)
+            .point(places)
+            .whole(x.whole)
+            .minus(x)
+    }
 }
 
-// A date as YYYY-MM-DD.
-fn date_left(c: Leftward, date: Date) -> Leftward
-    ensures { result ≡ date_left c date }
+// A whole number.
+pub fn put_whole(line: Line, end: usize, n: u64) -> Line
+    ensures { result ≡ put_whole line end n }
 {
-    let d = digits_left(c, 2, date.day as u64);
-    let m = digits_left(byte_left(d, 45), 2, date.month as u64);
-    digits_left(byte_left(m, 45), 4, date.year as u64)
+    Leftward::before(line, end).whole(n).line
 }
 
 // A day's date, or its number where it has none.
-pub fn put_date(line: [u8; 80], end: usize, day: u32) -> [u8; 80]
+pub fn put_date(line: Line, end: usize, day: u32) -> Line
     ensures { result ≡ put_date line end day }
 {
-    let c = Leftward { line, end };
-    let dating = date_of(day);
-    let Dating::On(date) = dating else {
-        return put_whole(line, end, day as u64);
-    };
-    let dated = date_left(c, date);
-    dated.line
-}
-
-// A point where there are decimals.
-fn point_left(c: Leftward, places: u32) -> Leftward
-    ensures { result ≡ point_left c places }
-{
-    if places == 0 {
-        return c;
+    match date_of(day) {
+        Some(date) => Leftward::before(line, end).date(date).line,
+        None => put_whole(line, end, day as u64),
     }
-    byte_left(c, 46)
-}
-
-// A minus, but not before a zero.
-fn minus_left(c: Leftward, x: Rounded) -> Leftward
-    ensures { result ≡ minus_left c x }
-{
-    let negative = x.negative;
-    if negative {
-        if x.whole > 0 {
-            return byte_left(c, 45);
-        }
-        if x.part > 0 {
-            return byte_left(c, 45);
-        }
-    }
-    c
-}
-
-// The decimals, the point, the whole part and the sign.
-pub fn decimals_left(c: Leftward, places: u32, x: Rounded) -> Leftward
-    ensures { result ≡ decimals_left c places x }
-{
-    let part = digits_left(c, places as usize, x.part);
-    let whole = whole_left(point_left(part, places), x.whole);
-    minus_left(whole, x)
 }
 
 // A number to some decimals, or the word for one that has none.
-pub fn put_decimals(line: [u8; 80], end: usize, x: f64, places: u32) -> [u8; 80]
+pub fn put_decimals(line: Line, end: usize, x: f64, places: u32) -> Line
     requires { 6 ≤ end }
     ensures { result ≡ put_decimals line end x places }
 {
-    let c = Leftward { line, end };
-    let rounded = decimals(x, places);
-    let Decimals::Shown(shown) = rounded else {
-        return put(line, end - 6, b"beyond");
-    };
-    let written = decimals_left(c, places, shown);
-    written.line
+    match decimals(x, places) {
+        Some(shown) => Leftward::before(line, end).decimals(places, shown).line,
+        None => put(line, end - 6, b"beyond"),
+    }
 }
 
 // The sixteen hexadecimal digits of a number's bits; a NaN has none.
-pub fn put_bits(line: [u8; 80], at: usize, x: f64) -> [u8; 80]
+#[tactic(auto, using(crate::proofs::Figuring::itself))]
+pub fn put_bits(line: Line, at: usize, x: f64) -> Line
     ensures { result ≡ put_bits line at x }
 {
-    if x == x {
-        let digits = hex_digits(f64::to_bits(x));
-        return put(line, at, &digits);
+    if x.is_nan() {
+        put(line, at, b"----------------")
+    } else {
+        put(line, at, &hex_digits(f64::to_bits(x)))
     }
-    put(line, at, b"----------------")
 }

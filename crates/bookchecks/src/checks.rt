@@ -9,13 +9,14 @@ ghost use Rattle.bookchecks.specs.laws.Holdings.{past_end};
 
 use crate::cut::{cut_days, cut_kinds, cut_numbers};
 use crate::fields::part_amiss;
-use crate::{BookCheck, Holding, Lengths};
+use crate::naming::at_bond;
+use crate::{Holding, Lengths, RefusedBond};
 use entrychecks::entries::tree_checks;
-use floats::Refusal;
+use floats::{Reason, Refusal};
+use terms::Settlement;
 use terms::curve::{pillar_times, timed_pillars};
 use terms::fields::{day_count, settings};
 use terms::refusing::single;
-use terms::{Check, Settlement};
 
 // A field is missing, a cut passes a list's end, or something is left over behind the last bond.
 fn cut_amiss(held: Holding, leg: Lengths, calls: Lengths, puts: Lengths) -> bool
@@ -34,22 +35,13 @@ fn cut_amiss(held: Holding, leg: Lengths, calls: Lengths, puts: Lengths) -> bool
 }
 
 // 2, 1, 33 and 2: fields that are missing, settings and day count, and a cut that doesn't add up.
-fn cut_checks(held: Holding, leg: Lengths, calls: Lengths, puts: Lengths) -> Check
+fn cut_checks(held: Holding, leg: Lengths, calls: Lengths, puts: Lengths) -> Result<(), Refusal>
     ensures { result ≡ first_of (cut_checks held leg calls puts) }
 {
-    let a = single(Refusal::COUNT, held.unset);
-    let Check::Passed = a else {
-        return a;
-    };
-    let b = settings(held.yearly, held.maximum);
-    let Check::Passed = b else {
-        return b;
-    };
-    let c = day_count(held.code);
-    let Check::Passed = c else {
-        return c;
-    };
-    single(Refusal::COUNT, cut_amiss(held, leg, calls, puts))
+    single(Reason::Count, held.unset)?;
+    settings(held.yearly, held.maximum)?;
+    day_count(held.code)?;
+    single(Reason::Count, cut_amiss(held, leg, calls, puts))
 }
 
 // The checks of one bond, cut from the lists.
@@ -70,7 +62,7 @@ fn bond_check(
     sigmas: &[f64],
     pillars: &[u32],
     factors: &[f64],
-) -> Check
+) -> Result<(), Refusal>
     ensures { result ≡ bond_check
         (shared_of day alpha (sigma_in times sigmas) (pillars_in pillars factors))
         (lists_of (leg_in days kinds amounts) (calls_in starts ends strikes) (calls_in put_starts put_ends put_strikes))
@@ -91,10 +83,7 @@ fn bond_check(
         two: put_ends.len(),
         three: put_strikes.len(),
     };
-    let cut = cut_checks(held, leg, calls, puts);
-    let Check::Passed = cut else {
-        return cut;
-    };
+    cut_checks(held, leg, calls, puts)?;
     let settlement = Settlement {
         day,
         code: held.code,
@@ -147,7 +136,7 @@ pub fn all_checks(
     sigmas: &[f64],
     pillars: &[u32],
     factors: &[f64],
-) -> BookCheck
+) -> Result<(), RefusedBond>
     requires { size ≤ 32 }
     ensures { result ≡ first_refused
         (λ i. bond_check
@@ -178,10 +167,8 @@ pub fn all_checks(
             pillars,
             factors,
         );
-        if let Check::Refused(refusal) = check {
-            return BookCheck::Refused(i as u32, refusal);
-        }
+        at_bond(i as u32, check)?;
         i += 1;
     }
-    BookCheck::Passed
+    Ok(())
 }

@@ -1,5 +1,5 @@
 // A book of bonds: what each of them holds, and the input checks of all.
-#![tactic(auto)]
+#![tactic(auto, unfolding(floats::specs::Answers::on_outcome, terms::specs::Checks::on_check, terms::specs::Checks::first_of))]
 
 use floats::Refusal;
 
@@ -8,6 +8,7 @@ pub mod cut;
 pub mod desks;
 pub mod fields;
 pub mod holdings;
+pub mod naming;
 
 // At most 32 bonds, each of a desk 0 to 7.
 #[derive(Drop)]
@@ -51,9 +52,9 @@ pub struct Lengths {
     pub three: usize,
 }
 
-// What the checks of a book find: the first refused bond, and its refusal.
-#[derive(Drop)]
-pub enum BookCheck {
-    Passed,
-    Refused(u32, Refusal),
+// The first refused bond, and its refusal.
+#[derive(Clone, Copy, Debug, PartialEq, Eq)]
+pub struct RefusedBond {
+    pub bond: u32,
+    pub refusal: Refusal,
 }

@@ -12,8 +12,8 @@ use crate::values::all_values;
 use bookchecks::checks::all_checks;
 use bookchecks::desks::desk_checks;
 use bookchecks::holdings::holdings;
-use bookchecks::{Book, BookCheck};
-use floats::Refusal;
+use bookchecks::{Book, RefusedBond};
+use floats::{Reason, Refusal};
 use terms::ranges::out_of;
 use treebasedbondpricer::zero::{zero_floats, zero_numbers};
 
@@ -59,13 +59,13 @@ pub fn book_value(
 {
     let size = cashflow_counts.len();
     if out_of(1, Book::MOST, size) {
-        return refused_book(
-            0,
-            Refusal {
-                number: Refusal::BOOK_SIZE,
+        return refused_book(RefusedBond {
+            bond: 0,
+            refusal: Refusal {
+                reason: Reason::BookSize,
                 place: 0,
             },
-        );
+        });
     }
     let held = holdings(
         day_counts,
@@ -79,8 +79,8 @@ pub fn book_value(
         desks,
     );
     let of_desks = desk_checks(held, size);
-    if let BookCheck::Refused(bond, refusal) = of_desks {
-        return refused_book(bond, refusal);
+    if let Err(refused) = of_desks {
+        return refused_book(refused);
     }
     let check = all_checks(
         held,
@@ -101,8 +101,8 @@ pub fn book_value(
         pillar_days,
         pillar_factors,
     );
-    if let BookCheck::Refused(bond, refusal) = check {
-        return refused_book(bond, refusal);
+    if let Err(refused) = check {
+        return refused_book(refused);
     }
     let valued = all_values(
         held,

@@ -1,20 +1,19 @@
 // The values of a book's bonds, each with the whole of the slices.
 
-ghost use Rattle.std.specs.Prelude.{◌≡◌, ◌≤◌, get_or};
-ghost use Rattle.terms.specs.declared.Check.TheVariants.{Passed};
+ghost use Rattle.std.specs.Prelude.{◌≡◌, ◌≤◌, get_or, Ok};
 ghost use Rattle.terms.specs.Slices.{leg_in, calls_in, sigma_in, pillars_in};
 ghost use Rattle.treebasedbondpricer.specs.Tree.{tree_value};
 ghost use Rattle.treebasedbondpricer.specs.Slices.{room_in};
-ghost use Rattle.bookchecks.specs.declared.BookCheck.TheVariants as book;
 ghost use Rattle.bookchecks.specs.Book.{market_of, calls_of};
 ghost use Rattle.bookchecks.specs.Checks.{bond_check, first_refused};
 ghost use Rattle.bookchecks.specs.Slices.{shared_of, lists_of};
 ghost use Rattle.bookchecks.specs.laws.Holdings.{past_end};
-ghost use Rattle.bookvalue.specs.laws.Answers.{shared_now, lists_now, tree_refusal, no_values, values_of};
+ghost use Rattle.bookvalue.specs.laws.Answers.{shared_now, lists_now, values_of};
 
 use crate::Valued;
 use bookchecks::cut::{cut_days, cut_kinds, cut_numbers};
-use bookchecks::{BookCheck, Holding};
+use bookchecks::naming::at_bond;
+use bookchecks::{Holding, RefusedBond};
 use floats::Refusal;
 use terms::Settlement;
 use terms::curve::{pillar_times, timed_pillars};
@@ -43,11 +42,11 @@ fn bond_value(
     probabilities: &mut [f64],
     first: &mut [f64],
     second: &mut [f64],
-) -> TreeValue
+) -> Result<TreeValue, Refusal>
     requires { bond_check
         (shared_now day alpha times sigmas pillars factors)
         (lists_now days kinds amounts starts ends strikes put_starts put_ends put_strikes)
-        held ≡ Passed }
+        held ≡ Ok tt }
     ensures { result ≡ tree_value
         (market_of (shared_of day alpha (sigma_in times sigmas) (pillars_in pillars factors))
         (lists_of (leg_in days kinds amounts) (calls_in starts ends strikes) (calls_in put_starts put_ends put_strikes))
@@ -92,32 +91,6 @@ fn bond_value(
     )
 }
 
-// A tree value's refusal; number and place 0 where it has none.
-fn tree_refusal(worth: TreeValue) -> Refusal
-    ensures { result ≡ tree_refusal worth }
-{
-    match worth {
-        TreeValue::Value(_, _) => Refusal {
-            number: 0,
-            place: 0,
-        },
-        TreeValue::Refused(refusal) => refusal,
-    }
-}
-
-// A refused bond, and no values.
-fn no_values(bond: u32, refusal: Refusal) -> Valued
-    ensures { result ≡ no_values bond refusal }
-{
-    let values = [0.0; 32];
-    let counts = [0u64; 32];
-    Valued {
-        check: BookCheck::Refused(bond, refusal),
-        values,
-        counts,
-    }
-}
-
 // The values of all bonds, whose checks passed: the first that is refused, or each value and node count.
 pub fn all_values(
     held: [Holding; 32],
@@ -141,14 +114,14 @@ pub fn all_values(
     probabilities: &mut [f64],
     first: &mut [f64],
     second: &mut [f64],
-) -> Valued
+) -> Result<Valued, RefusedBond>
     requires { (size ≤ 32) × (first_refused
         (λ i. bond_check
         (shared_now day alpha times sigmas pillars factors)
         (lists_now days kinds amounts starts ends strikes put_starts put_ends put_strikes)
         (get_or held i past_end))
         size
-        0 ≡ book.Passed) }
+        0 ≡ Ok tt) }
     ensures { result ≡ values_of
         (shared_of day alpha (sigma_in times sigmas) (pillars_in pillars factors))
         (lists_of (leg_in days kinds amounts) (calls_in starts ends strikes) (calls_in put_starts put_ends put_strikes))
@@ -161,7 +134,7 @@ pub fn all_values(
     let mut i: usize = 0;
     while i < size {
         let bond = held[i];
-        let worth = bond_value(
+        let outcome = bond_value(
             bond,
             day,
             days,
@@ -183,16 +156,10 @@ pub fn all_values(
             first,
             second,
         );
-        let TreeValue::Value(x, n) = worth else {
-            return no_values(i as u32, tree_refusal(worth));
-        };
-        values[i] = x;
-        counts[i] = n;
+        let worth = at_bond(i as u32, outcome)?;
+        values[i] = worth.value;
+        counts[i] = worth.nodes;
         i += 1;
     }
-    Valued {
-        check: BookCheck::Passed,
-        values,
-        counts,
-    }
+    Ok(Valued { values, counts })
 }

@@ -3,11 +3,10 @@ ghost use Rattle.std.specs.Prelude.{◌≡◌, ◌<◌, ◌≤◌, length};
 ghost use Rattle.brackets.specs.Brackets.{halving, settled, widening, bracketed_root};
 ghost use Rattle.sought.specs.laws.Sought.{tree_parts, sought_at, Ready};
 
-use brackets::brackets::is_small;
-use brackets::{Bracket, Halved, Root, Widened};
+use brackets::brackets::{counted, is_small};
+use brackets::{Bracket, Halved, NoRoot, Root, Widened};
 use floats::max::greater;
-use floats::refusals::refusal_of;
-use floats::{Answer, Refusal};
+use floats::{Reason, Refusal};
 use sought::Sought;
 use sought::objectives::objective;
 
@@ -27,7 +26,7 @@ fn halved_to_root(
     prices: &[f64],
     first: &mut [f64],
     second: &mut [f64],
-) -> Root
+) -> Result<Root, NoRoot>
     requires ready { Ready sought days.now amounts.now (tree_parts nodes.now probabilities.now counts.now spacings.now shifts.now cashflows.now marks.now prices.now) (length first.old) (length second.old) }
     requires evaluations_bound { start.evaluations ≤ 130 }
     ensures { result ≡ halving (sought_at sought days.now amounts.now (tree_parts nodes.now probabilities.now counts.now spacings.now shifts.now cashflows.now marks.now prices.now)) 256 start }
@@ -50,25 +49,22 @@ fn halved_to_root(
             prices,
             first,
             second,
-        ) {
+        )? {
             Halved::Next(next) => {
                 b = next;
             }
-            Halved::Found(x, n) => {
-                return Root::Found(x, n);
-            }
-            Halved::Refused(q, n) => {
-                return Root::Refused(q, n);
+            Halved::Found(root) => {
+                return Ok(root);
             }
         }
     }
-    Root::Refused(
-        Refusal {
-            number: Refusal::NOT_CONVERGED,
+    Err(NoRoot {
+        refusal: Refusal {
+            reason: Reason::NotConverged,
             place: 0,
         },
-        b.evaluations,
-    )
+        evaluations: b.evaluations,
+    })
 }
 
 // After widening: an end that is a root, no bracket, or the halvings.
@@ -87,16 +83,22 @@ fn settle(
     prices: &[f64],
     first: &mut [f64],
     second: &mut [f64],
-) -> Root
+) -> Result<Root, NoRoot>
     requires ready { Ready sought days.now amounts.now (tree_parts nodes.now probabilities.now counts.now spacings.now shifts.now cashflows.now marks.now prices.now) (length first.old) (length second.old) }
     requires evaluations_bound { b.evaluations ≤ 130 }
     ensures { result ≡ settled (sought_at sought days.now amounts.now (tree_parts nodes.now probabilities.now counts.now spacings.now shifts.now cashflows.now marks.now prices.now)) b }
 {
     if is_small(Bracket::TOLERANCE, b.at_lower) {
-        return Root::Found(b.lower, b.evaluations);
+        return Ok(Root {
+            at: b.lower,
+            evaluations: b.evaluations,
+        });
     }
     if is_small(Bracket::TOLERANCE, b.at_upper) {
-        return Root::Found(b.upper, b.evaluations);
+        return Ok(Root {
+            at: b.upper,
+            evaluations: b.evaluations,
+        });
     }
     if b.falls() {
         return halved_to_root(
@@ -116,13 +118,13 @@ fn settle(
             second,
         );
     }
-    Root::Refused(
-        Refusal {
-            number: Refusal::NO_BRACKET,
+    Err(NoRoot {
+        refusal: Refusal {
+            reason: Reason::NoBracket,
             place: 0,
         },
-        b.evaluations,
-    )
+        evaluations: b.evaluations,
+    })
 }
 
 // Up to 64 widenings.
@@ -142,7 +144,7 @@ fn widened_to_root(
     first: &mut [f64],
     second: &mut [f64],
     lowest: f64,
-) -> Root
+) -> Result<Root, NoRoot>
     requires ready { Ready sought days.now amounts.now (tree_parts nodes.now probabilities.now counts.now spacings.now shifts.now cashflows.now marks.now prices.now) (length first.old) (length second.old) }
     requires evaluations_bound { start.evaluations ≤ 2 }
     ensures { result ≡ widening (sought_at sought days.now amounts.now (tree_parts nodes.now probabilities.now counts.now spacings.now shifts.now cashflows.now marks.now prices.now)) lowest 64 start }
@@ -166,7 +168,7 @@ fn widened_to_root(
             first,
             second,
             lowest,
-        ) {
+        )? {
             Widened::Next(next) => {
                 b = next;
             }
@@ -187,9 +189,6 @@ fn widened_to_root(
                     first,
                     second,
                 );
-            }
-            Widened::Refused(q, n) => {
-                return Root::Refused(q, n);
             }
         }
     }
@@ -229,12 +228,12 @@ pub fn bracketed_root(
     first_lower: f64,
     upper: f64,
     lowest: f64,
-) -> Root
+) -> Result<Root, NoRoot>
     requires { Ready sought days.now amounts.now (tree_parts nodes.now probabilities.now counts.now spacings.now shifts.now cashflows.now marks.now prices.now) (length first.old) (length second.old) }
     ensures { result ≡ bracketed_root (sought_at sought days.now amounts.now (tree_parts nodes.now probabilities.now counts.now spacings.now shifts.now cashflows.now marks.now prices.now)) first_lower upper lowest }
 {
     let lower = greater(first_lower, lowest);
-    let y = objective(
+    let tried = objective(
         sought,
         days,
         amounts,
@@ -250,10 +249,8 @@ pub fn bracketed_root(
         second,
         lower,
     );
-    let Answer::Value(at_lower) = y else {
-        return Root::Refused(refusal_of(y), 1);
-    };
-    let z = objective(
+    let at_lower = counted(tried, 1)?;
+    let tried = objective(
         sought,
         days,
         amounts,
@@ -269,9 +266,7 @@ pub fn bracketed_root(
         second,
         upper,
     );
-    let Answer::Value(at_upper) = z else {
-        return Root::Refused(refusal_of(z), 2);
-    };
+    let at_upper = counted(tried, 2)?;
     let b = Bracket {
         lower,
         upper,

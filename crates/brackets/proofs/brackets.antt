@@ -1,2 +1,3 @@
--- What the proof of moving the lower end uses.
+-- What the proofs of moving the lower end and of halving use.
+pub mod Halving
 pub mod Lowering

@@ -2,15 +2,14 @@
 ghost use Rattle.std.specs.Prelude.{◌≡◌, true, false, ◌<◌, length};
 ghost use Rattle.std.specs.Float.Ieee.{lt};
 ghost use Rattle.floats.specs.Answers.{plus_zero};
-ghost use Rattle.brackets.specs.Brackets.{small, bracketed, raised, widen, halve};
+ghost use Rattle.brackets.specs.Brackets.{counted, small, bracketed, raised, widen, halve};
 ghost use Rattle.sought.specs.laws.Sought.{tree_parts, sought_at, Ready};
 
-use crate::{Bracket, Halved, Widened};
-use floats::Answer;
-use floats::finite::not_finite;
+use crate::{Bracket, Halved, NoRoot, Root, Widened};
+use floats::Refusal;
+use floats::finite::tested;
 use floats::max::greater;
 use floats::midpoint::midpoint_at;
-use floats::refusals::{overflow_refusal, refusal_of};
 use rounded::mul_add::mul_add_at;
 use sought::Sought;
 use sought::objectives::objective;
@@ -19,10 +18,21 @@ use sought::objectives::objective;
 pub fn is_small(limit: f64, x: f64) -> bool
     ensures { result ≡ small limit x }
 {
-    if -limit < x {
-        return x < limit;
+    -limit < x && x < limit
+}
+
+// What was worked out, or no root after this many evaluations.
+#[tactic(auto, unfolding(crate::specs::Brackets::counted))]
+pub fn counted<T>(worked: Result<T, Refusal>, evaluations: u32) -> Result<T, NoRoot>
+    ensures { result ≡ counted worked evaluations }
+{
+    match worked {
+        Ok(x) => Ok(x),
+        Err(refusal) => Err(NoRoot {
+            refusal,
+            evaluations,
+        }),
     }
-    false
 }
 
 impl Bracket {
@@ -37,36 +47,7 @@ impl Bracket {
     pub fn falls(self) -> bool
         ensures { result ≡ bracketed self }
     {
-        if self.at_lower >= 0.0 {
-            return self.at_upper <= 0.0;
-        }
-        false
-    }
-
-    // The bracket with another lower end.
-    fn from_lower(self, lower: f64, at_lower: f64, evaluations: u32) -> Bracket
-        ensures { result ≡ record { lower = lower; upper = self.upper; at_lower = at_lower; at_upper = self.at_upper; evaluations = evaluations } }
-    {
-        Bracket {
-            lower,
-            upper: self.upper,
-            at_lower,
-            at_upper: self.at_upper,
-            evaluations,
-        }
-    }
-
-    // The bracket with another upper end.
-    fn to_upper(self, upper: f64, at_upper: f64, evaluations: u32) -> Bracket
-        ensures { result ≡ record { lower = self.lower; upper = upper; at_lower = self.at_lower; at_upper = at_upper; evaluations = evaluations } }
-    {
-        Bracket {
-            lower: self.lower,
-            upper,
-            at_lower: self.at_lower,
-            at_upper,
-            evaluations,
-        }
+        self.at_lower >= 0.0 && self.at_upper <= 0.0
     }
 
     // An upper end whose objective is above 0 moves up.
@@ -85,18 +66,15 @@ impl Bracket {
         prices: &[f64],
         first: &mut [f64],
         second: &mut [f64],
-    ) -> Widened
+    ) -> Result<Widened, NoRoot>
         requires ready { Ready sought days.now amounts.now (tree_parts nodes.now probabilities.now counts.now spacings.now shifts.now cashflows.now marks.now prices.now) (length first.old) (length second.old) }
         requires evaluations_bound { self.evaluations < 1000 }
         ensures { result ≡ raised (sought_at sought days.now amounts.now (tree_parts nodes.now probabilities.now counts.now spacings.now shifts.now cashflows.now marks.now prices.now)) self }
     {
         if self.at_upper > 0.0 {
-            let a = mul_add_at(2.0, self.upper, 0.01, 0);
-            let Answer::Value(upper) = a else {
-                return Widened::Refused(refusal_of(a), self.evaluations);
-            };
+            let upper = counted(mul_add_at(2.0, self.upper, 0.01, 0), self.evaluations)?;
             let evaluations = self.evaluations + 1;
-            let y = objective(
+            let tried = objective(
                 sought,
                 days,
                 amounts,
@@ -112,12 +90,15 @@ impl Bracket {
                 second,
                 upper,
             );
-            let Answer::Value(at_upper) = y else {
-                return Widened::Refused(refusal_of(y), evaluations);
-            };
-            return Widened::Next(self.to_upper(upper, at_upper, evaluations));
+            let at_upper = counted(tried, evaluations)?;
+            return Ok(Widened::Next(Bracket {
+                upper,
+                at_upper,
+                evaluations,
+                ..self
+            }));
         }
-        Widened::Next(self)
+        Ok(Widened::Next(self))
     }
 
     // A lower end whose objective is below 0 moves down, then the upper end. Where it can't move, widening ends.
@@ -137,27 +118,21 @@ impl Bracket {
         first: &mut [f64],
         second: &mut [f64],
         lowest: f64,
-    ) -> Widened
+    ) -> Result<Widened, NoRoot>
         requires ready { Ready sought days.now amounts.now (tree_parts nodes.now probabilities.now counts.now spacings.now shifts.now cashflows.now marks.now prices.now) (length first.old) (length second.old) }
         requires evaluations_bound { self.evaluations < 999 }
         requires self_value { bracketed self ≡ false }
         requires plus_zero_value { lt self.at_lower plus_zero ≡ true }
         ensures { result ≡ widen (sought_at sought days.now amounts.now (tree_parts nodes.now probabilities.now counts.now spacings.now shifts.now cashflows.now marks.now prices.now)) lowest self }
     {
-        let a = mul_add_at(2.0, self.lower, -0.01, 0);
-        let Answer::Value(x) = a else {
-            return Widened::Refused(refusal_of(a), self.evaluations);
-        };
+        let x = counted(mul_add_at(2.0, self.lower, -0.01, 0), self.evaluations)?;
         let lower = greater(x, lowest);
-        let moved = lower - self.lower;
-        if not_finite(moved) {
-            return Widened::Refused(overflow_refusal(0), self.evaluations);
-        }
+        let moved = counted(tested(lower - self.lower, 0), self.evaluations)?;
         if is_small(Bracket::EPSILON, moved) {
-            return Widened::Last(self);
+            return Ok(Widened::Last(self));
         }
         let evaluations = self.evaluations + 1;
-        let y = objective(
+        let tried = objective(
             sought,
             days,
             amounts,
@@ -173,15 +148,12 @@ impl Bracket {
             second,
             lower,
         );
-        let Answer::Value(at_lower) = y else {
-            return Widened::Refused(refusal_of(y), evaluations);
-        };
+        let at_lower = counted(tried, evaluations)?;
         let next = Bracket {
             lower,
-            upper: self.upper,
             at_lower,
-            at_upper: self.at_upper,
             evaluations,
+            ..self
         };
         next.raise(
             sought,
@@ -217,13 +189,13 @@ impl Bracket {
         first: &mut [f64],
         second: &mut [f64],
         lowest: f64,
-    ) -> Widened
+    ) -> Result<Widened, NoRoot>
         requires ready { Ready sought days.now amounts.now (tree_parts nodes.now probabilities.now counts.now spacings.now shifts.now cashflows.now marks.now prices.now) (length first.old) (length second.old) }
         requires evaluations_bound { self.evaluations < 999 }
         ensures { result ≡ widen (sought_at sought days.now amounts.now (tree_parts nodes.now probabilities.now counts.now spacings.now shifts.now cashflows.now marks.now prices.now)) lowest self }
     {
         if self.falls() {
-            return Widened::Last(self);
+            return Ok(Widened::Last(self));
         }
         if self.at_lower < 0.0 {
             return self.lower(
@@ -276,17 +248,14 @@ impl Bracket {
         prices: &[f64],
         first: &mut [f64],
         second: &mut [f64],
-    ) -> Halved
+    ) -> Result<Halved, NoRoot>
         requires ready { Ready sought days.now amounts.now (tree_parts nodes.now probabilities.now counts.now spacings.now shifts.now cashflows.now marks.now prices.now) (length first.old) (length second.old) }
         requires evaluations_bound { self.evaluations < 1000 }
         ensures { result ≡ halve (sought_at sought days.now amounts.now (tree_parts nodes.now probabilities.now counts.now spacings.now shifts.now cashflows.now marks.now prices.now)) self }
     {
-        let a = midpoint_at(self.lower, self.upper, 0);
-        let Answer::Value(middle) = a else {
-            return Halved::Refused(refusal_of(a), self.evaluations);
-        };
+        let middle = counted(midpoint_at(self.lower, self.upper, 0), self.evaluations)?;
         let evaluations = self.evaluations + 1;
-        let y = objective(
+        let tried = objective(
             sought,
             days,
             amounts,
@@ -302,22 +271,33 @@ impl Bracket {
             second,
             middle,
         );
-        let Answer::Value(at_middle) = y else {
-            return Halved::Refused(refusal_of(y), evaluations);
-        };
+        let at_middle = counted(tried, evaluations)?;
         if is_small(Bracket::TOLERANCE, at_middle) {
-            return Halved::Found(middle, evaluations);
+            return Ok(Halved::Found(Root {
+                at: middle,
+                evaluations,
+            }));
         }
-        let width = self.upper - self.lower;
-        if not_finite(width) {
-            return Halved::Refused(overflow_refusal(0), evaluations);
-        }
+        let width = counted(tested(self.upper - self.lower, 0), evaluations)?;
         if is_small(Bracket::WIDTH, width) {
-            return Halved::Found(middle, evaluations);
+            return Ok(Halved::Found(Root {
+                at: middle,
+                evaluations,
+            }));
         }
         if at_middle > 0.0 {
-            return Halved::Next(self.from_lower(middle, at_middle, evaluations));
+            return Ok(Halved::Next(Bracket {
+                lower: middle,
+                at_lower: at_middle,
+                evaluations,
+                ..self
+            }));
         }
-        Halved::Next(self.to_upper(middle, at_middle, evaluations))
+        Ok(Halved::Next(Bracket {
+            upper: middle,
+            at_upper: at_middle,
+            evaluations,
+            ..self
+        }))
     }
 }

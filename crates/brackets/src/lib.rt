@@ -1,5 +1,5 @@
 // The bracket of bracketed_root: widening and halving, for whatever is priced.
-#![tactic(auto)]
+#![tactic(auto, unfolding(floats::specs::Answers::on_outcome))]
 
 use floats::Refusal;
 
@@ -15,25 +15,30 @@ pub struct Bracket {
     pub evaluations: u32,
 }
 
-// What one widening hands back: the next bracket, the one at which widening ends, or a refusal.
-#[derive(Drop)]
+// Where one widening leads: the next bracket, or the one at which widening ends.
+#[derive(Clone, Copy)]
 pub enum Widened {
     Next(Bracket),
     Last(Bracket),
-    Refused(Refusal, u32),
 }
 
-// What one halving hands back: the next bracket, the root, or a refusal.
-#[derive(Drop)]
+// Where one halving leads: the next bracket, or the root.
+#[derive(Clone, Copy)]
 pub enum Halved {
     Next(Bracket),
-    Found(f64, u32),
-    Refused(Refusal, u32),
+    Found(Root),
 }
 
-// A root, or a refusal, with the evaluations made.
-#[derive(Drop)]
-pub enum Root {
-    Found(f64, u32),
-    Refused(Refusal, u32),
+// A root, with the evaluations made.
+#[derive(Clone, Copy)]
+pub struct Root {
+    pub at: f64,
+    pub evaluations: u32,
+}
+
+// Why there is no root, with the evaluations made.
+#[derive(Clone, Copy)]
+pub struct NoRoot {
+    pub refusal: Refusal,
+    pub evaluations: u32,
 }

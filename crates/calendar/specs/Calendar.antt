@@ -1,10 +1,8 @@
 -- Definitions only. Dates of the proleptic Gregorian calendar, and their numbers: day 0 is 1 January 1900.
-use Rattle.std.specs.Prelude.{ℕ, zero, suc, ◌+◌, ◌-◌, ◌*◌, ◌%◌, min, Bool, cond, ◌&&◌, ◌||◌, eqb, leb, ltb}
+use Rattle.std.specs.Prelude.{ℕ, zero, suc, ◌+◌, ◌-◌, ◌*◌, ◌%◌, min, Bool, cond, ◌&&◌, ◌||◌, eqb, leb, ltb, Result, Ok, Err, Option, Some, None}
 use Rattle.calendar.specs.declared.Date.{Date}
-use Rattle.calendar.specs.declared.Dated.{Dated}
-use Rattle.calendar.specs.declared.Dated.TheVariants.{Day, NoSuchDate, OutOfRange}
-use Rattle.calendar.specs.declared.Dating.{Dating}
-use Rattle.calendar.specs.declared.Dating.TheVariants.{On, NoDay}
+use Rattle.calendar.specs.declared.DateError.{DateError}
+use Rattle.calendar.specs.declared.DateError.TheVariants.{NoSuchDate, OutOfRange}
 
 -- Every fourth year is a leap year; of the years that end a century, every fourth.
 unfoldable pub leap : ℕ → Bool
@@ -51,13 +49,13 @@ abbrev pub last_day : ℕ
 last_day = 200000
 
 -- Of the dates that exist, those from 1900 to the last day have a number.
-unfoldable pub dated : Date → Dated
+unfoldable pub dated : Date → Result ℕ DateError
 unfolding exists number_of
 dated d =
     cond
     (exists d)
-    (cond (ltb d.year 1900) OutOfRange (cond (ltb last_day (number_of d)) OutOfRange (Day (number_of d))))
-    NoSuchDate
+    (cond (ltb d.year 1900) (Err OutOfRange) (cond (ltb last_day (number_of d)) (Err OutOfRange) (Ok (number_of d))))
+    (Err NoSuchDate)
 
 -- The day after a date: the next of the month, or the first of the next month, or of the next year.
 unfoldable pub day_after : Date → Date
@@ -75,9 +73,9 @@ date_of zero = record { year = 1900; month = 1; day = 1 }
 date_of (suc n) = day_after (date_of n)
 
 -- The days up to the last have a date.
-unfoldable pub dating : ℕ → Dating
+unfoldable pub dating : ℕ → Option Date
 unfolding date_of
-dating n = cond (ltb last_day n) NoDay (On (date_of n))
+dating n = cond (ltb last_day n) None (Some (date_of n))
 
 -- The 30E number of a date (30E/360, ISDA 2006 4.16(g), Eurobond basis): 360 to a year and 30 to a month; a 31st counts as the 30th, February as it is.
 unfoldable pub thirty_days : Date → ℕ

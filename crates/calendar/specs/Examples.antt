@@ -1,29 +1,28 @@
 -- Dates and their numbers, computed by the checker.
-use Rattle.std.specs.Prelude.{◌+◌, ◌≡◌, refl}
-use Rattle.calendar.specs.declared.Dated.TheVariants.{Day, NoSuchDate, OutOfRange}
-use Rattle.calendar.specs.declared.Dating.TheVariants.{On, NoDay}
+use Rattle.std.specs.Prelude.{◌+◌, ◌≡◌, refl, Ok, Err, Some, None}
+use Rattle.calendar.specs.declared.DateError.TheVariants.{NoSuchDate, OutOfRange}
 use Rattle.calendar.specs.Calendar.{dated, dating, thirty_days, thirties}
 use Rattle.calendar.specs.laws.Days.{date}
 
 pub record Starred : Type 0 where
   -- Day 0, and the day on which the last one falls.
-  pub first : dated (date 1900 1 1) ≡ Day 0
-  pub last : dated (date 2447 8 1) ≡ Day 200000
+  pub first : dated (date 1900 1 1) ≡ Ok 0
+  pub last : dated (date 2447 8 1) ≡ Ok 200000
   -- 1900 is no leap year, and 2000 is one.
-  pub march_1900 : dated (date 1900 3 1) ≡ Day 59
-  pub no_february_1900 : dated (date 1900 2 29) ≡ NoSuchDate
-  pub february_2000 : dated (date 2000 2 29) ≡ Day 36583
-  pub november_2026 : dated (date 2026 11 15) ≡ Day 46339
+  pub march_1900 : dated (date 1900 3 1) ≡ Ok 59
+  pub no_february_1900 : dated (date 1900 2 29) ≡ Err NoSuchDate
+  pub february_2000 : dated (date 2000 2 29) ≡ Ok 36583
+  pub november_2026 : dated (date 2026 11 15) ≡ Ok 46339
   -- Dates that exist, a day too early and a day too late.
-  pub too_early : dated (date 1899 12 31) ≡ OutOfRange
-  pub too_late : dated (date 2447 8 2) ≡ OutOfRange
+  pub too_early : dated (date 1899 12 31) ≡ Err OutOfRange
+  pub too_late : dated (date 2447 8 2) ≡ Err OutOfRange
   -- Back from the numbers.
-  pub day_0 : dating 0 ≡ On (date 1900 1 1)
-  pub day_59 : dating 59 ≡ On (date 1900 3 1)
-  pub day_36583 : dating 36583 ≡ On (date 2000 2 29)
-  pub day_46339 : dating 46339 ≡ On (date 2026 11 15)
-  pub day_200000 : dating 200000 ≡ On (date 2447 8 1)
-  pub day_200001 : dating 200001 ≡ NoDay
+  pub day_0 : dating 0 ≡ Some (date 1900 1 1)
+  pub day_59 : dating 59 ≡ Some (date 1900 3 1)
+  pub day_36583 : dating 36583 ≡ Some (date 2000 2 29)
+  pub day_46339 : dating 46339 ≡ Some (date 2026 11 15)
+  pub day_200000 : dating 200000 ≡ Some (date 2447 8 1)
+  pub day_200001 : dating 200001 ≡ None
   -- 30E: no day from a 30th to its 31st, three over a common February's end, 31 from 29 February to 31 March, 30 from a 31st to the next.
   pub thirty_first : thirty_days (date 2026 1 31) ≡ thirty_days (date 2026 1 30) + 0
   pub february_28 : thirty_days (date 2025 3 1) ≡ thirty_days (date 2025 2 28) + 3

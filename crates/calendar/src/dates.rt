@@ -5,78 +5,69 @@ ghost use Rattle.calendar.specs.laws.Search.{InYear, InMonth};
 
 use crate::lengths::{month_length, year_length};
 use crate::numbers::days_of_years;
-use crate::{Date, Dating};
+use crate::{Date, FIRST_YEAR, LAST_DAY};
 
-// A year and the days of it that have passed, or a month and its days.
-#[derive(Drop)]
-struct Found {
-    which: u32,
-    passed: u32,
-}
-
-// The year that a day lies in, looked for from the year that it would lie in if all were leap years.
-fn year_of(day: u32) -> Found
+// The year that a day lies in and the days of it that have passed, looked for from the year that it would lie in if all
+// were leap years. Here and in month_of the next length says where to stop, so there is no range to go over.
+#[tactic(auto, using(crate::proofs::Passing::passing))]
+fn year_of(day: u32) -> (u32, u32)
     requires { day ≤ 200000 }
-    ensures { InYear day result.which result.passed }
+    ensures { InYear day result.0 result.1 }
 {
     let near = day / 366;
-    let mut year = 1900 + near;
+    let mut year = FIRST_YEAR + near;
     let mut rest = day - days_of_years(near);
-    let mut size = year_length(year);
-    while rest >= size {
-        rest -= size;
+    loop {
+        let length = year_length(year);
+        if rest < length {
+            return (year, rest);
+        }
+        rest -= length;
         year += 1;
-        size = year_length(year);
-    }
-    Found {
-        which: year,
-        passed: rest,
     }
 }
 
-// The month that a day of the year lies in.
-fn month_of(year: u32, day: u32) -> Found
+// The month that a day of the year lies in, and the days of it that have passed.
+#[tactic(auto, using(crate::proofs::Passing::passing))]
+fn month_of(year: u32, day: u32) -> (u32, u32)
     requires { day < year_length year }
-    ensures { InMonth year day result.which result.passed }
+    ensures { InMonth year day result.0 result.1 }
 {
     let mut month = 1;
     let mut rest = day;
-    let mut size = month_length(year, 1);
-    while rest >= size {
-        rest -= size;
+    loop {
+        let length = month_length(year, month);
+        if rest < length {
+            return (month, rest);
+        }
+        rest -= length;
         month += 1;
-        size = month_length(year, month);
-    }
-    Found {
-        which: month,
-        passed: rest,
     }
 }
 
 // The date of a day that is in range.
+#[tactic(auto, using(crate::specs::laws::Search::found))]
 pub(crate) fn date_within(day: u32) -> Date
     requires { day ≤ 200000 }
     ensures { result ≡ date_of day }
 {
-    let y = year_of(day);
-    let year = y.which;
-    let m = month_of(year, y.passed);
-    let month = m.which;
-    let first = m.passed + 1;
+    let (year, in_year) = year_of(day);
+    let (month, in_month) = month_of(year, in_year);
     Date {
         year,
         month,
-        day: first,
+        day: in_month + 1,
     }
 }
 
 // The date of a day number.
-pub fn date_of(day: u32) -> Dating
+#[tactic(auto, unfolding(crate::specs::Calendar::dating))]
+pub fn date_of(day: u32) -> Option<Date>
     ensures { result ≡ dating day }
 {
-    if day > 200000 {
-        return Dating::NoDay;
+    if day > LAST_DAY {
+        None
+    } else {
+        Some(date_within(day))
     }
-    let date = date_within(day);
-    Dating::On(date)
 }

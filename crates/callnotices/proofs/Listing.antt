@@ -1,4 +1,5 @@
 -- The loop that lists the notices that stand: what it knows after each series, one turn, and its end. Assumes nothing.
+use Rattle.std.specs.Prelude.{None}
 use Prim.Native.Nat.{ℕ, suc, ◌+◌, ◌-◌, ◌≤◌, ◌<◌}
 use borrow.Author.Rules.{rules}
 use native.Mathlib.Omega.{arith}
@@ -128,7 +129,7 @@ module _ (n : Notices) where
       (s count : ℕ) (starts ends : List ℕ) (strikes : List Float)
       → Listing n s count starts ends strikes
       → 64 ≤ s
-      → record { refusal = record { number = 0; place = 0 }; count = count; starts = starts; ends = ends; strikes = strikes } ≡ list_of n (entries n)
+      → record { refusal = None; count = count; starts = starts; ends = ends; strikes = strikes } ≡ list_of n (entries n)
   done s count starts ends strikes l h =
       let all : s ≡ 64 = omega (arith, l.within) in
       rw (l.counted, l.starts-listed, l.ends-listed, l.strikes-listed, all) refl

@@ -1,8 +1,8 @@
 -- Notices and their call lists, computed by the checker.
-use Rattle.std.specs.Prelude.{ℕ, ◌≡◌, refl, [], ◌∷◌, replicate}
+use Rattle.std.specs.Prelude.{ℕ, ◌≡◌, refl, None, [], ◌∷◌, replicate}
 use Rattle.std.specs.Float.{nan}
 use Rattle.std.specs.Float.Ieee as ieee
-use Rattle.floats.specs.declared.Refusal.{Refusal}
+use Rattle.floats.specs.declared.Reason.{Reason}
 use Rattle.floats.specs.Answers.{plus_zero}
 use Rattle.terms.specs.Numbers.{float}
 use Rattle.terms.specs.Checks.{on_check, first_of, lowest}
@@ -11,6 +11,7 @@ use Rattle.callnotices.specs.Notices.{Notices}
 use Rattle.callnotices.specs.Standing.{first_from, highest_from, entries_to}
 use Rattle.callnotices.specs.Checks.{notice_checks}
 use Rattle.callnotices.specs.Lists.{call_list, refused_list}
+use Rattle.floats.specs.declared.Reason.TheVariants as reason
 
 -- No notices.
 abbrev none : Notices
@@ -64,15 +65,19 @@ wrong series =
       strikes = float 99 ∷ plus_zero ∷ float 99 ∷ [];
     }
 
-abbrev refused_at : ℕ → ℕ → CallList
-refused_at number place = refused_list (record { number = number; place = place })
-
-abbrev accepted : Refusal
-accepted = record { number = 0; place = 0 }
+abbrev refused_at : Reason → ℕ → CallList
+refused_at why place = refused_list (record { reason = why; place = place })
 
 -- Accepted, with no entry.
 abbrev no_entry : CallList
-no_entry = refused_list accepted
+no_entry =
+    record {
+      refusal = None;
+      count = 0;
+      starts = replicate 64 0;
+      ends = replicate 64 0;
+      strikes = replicate 64 plus_zero;
+    }
 
 pub record Tried : Type 0 where
   -- No notices give an empty list, and a withdrawn highest version brings nothing back.
@@ -82,20 +87,20 @@ pub record Tried : Type 0 where
   pub listed :
       call_list (superseded 200)
       ≡ record {
-        refusal = accepted;
+        refusal = None;
         count = 2;
         starts = 100 ∷ 300 ∷ replicate 62 0;
         ends = 200 ∷ 300 ∷ replicate 62 0;
         strikes = float 100 ∷ float 101 ∷ replicate 62 plus_zero;
       }
   -- A superseded set is checked too.
-  pub bad_day : call_list (superseded 200001) ≡ refused_at 3 1
-  pub bad_order : call_list (superseded 251) ≡ refused_at 5 1
+  pub bad_day : call_list (superseded 200001) ≡ refused_at reason.Day 1
+  pub bad_order : call_list (superseded 251) ≡ refused_at reason.CallOrder 1
   -- The lowest index that repeats an earlier notice, whatever its action.
-  pub repeats : call_list repeated ≡ refused_at 43 2
+  pub repeats : call_list repeated ≡ refused_at reason.NoticeRepeated 2
   -- Number by number: 42 before 4, and 4 before 5.
-  pub range_first : call_list (wrong 0) ≡ refused_at 42 2
-  pub strike_first : call_list (wrong 3) ≡ refused_at 4 1
+  pub range_first : call_list (wrong 0) ≡ refused_at reason.NoticeRange 2
+  pub strike_first : call_list (wrong 3) ≡ refused_at reason.Number 1
 
 pub tried : Tried
 unfolding call_list on_check notice_checks first_of lowest first_from highest_from entries_to ieee.of_bits ieee.of_int ieee.lt ieee.le

@@ -1,5 +1,5 @@
 -- Definitions only. The call list that notices give: by value in 64 places, by series, rising; places past its last entry, or all after a refusal, are zero.
-use Rattle.std.specs.Prelude.{ℕ, ◌-◌, List, ◌++◌, map, length, replicate, take}
+use Rattle.std.specs.Prelude.{ℕ, ◌-◌, Some, None, List, ◌++◌, map, length, replicate, take}
 use Rattle.floats.specs.declared.Refusal.{Refusal}
 use Rattle.floats.specs.Answers.{plus_zero}
 use Rattle.terms.specs.Terms.{CallSchedule}
@@ -17,7 +17,7 @@ in_places none xs = xs ++ replicate (64 - length xs) none
 abbrev pub list_of : Notices → List ℕ → CallList
 list_of n is =
     record {
-      refusal = record { number = 0; place = 0 };
+      refusal = None;
       count = length is;
       starts = in_places 0 (map (start_at n) is);
       ends = in_places 0 (map (end_at n) is);
@@ -27,14 +27,14 @@ list_of n is =
 abbrev pub refused_list : Refusal → CallList
 refused_list r =
     record {
-      refusal = r;
+      refusal = Some r;
       count = 0;
       starts = replicate 64 0;
       ends = replicate 64 0;
       strikes = replicate 64 plus_zero;
     }
 
--- The entry: the checks, then the notices that stand. An accepted list has number and place 0.
+-- The entry: the checks, then the notices that stand. An accepted list has no refusal.
 unfoldable pub call_list : Notices → CallList
 unfolding notice_checks
 call_list n = on_check (notice_checks n) refused_list (list_of n (entries n))

@@ -1,6 +1,7 @@
 -- Definitions only. What is promised of the call list: notices in another order give the same list; its order is by series, rising; an accepted list passes the checks of calls.
 use Rattle.std.specs.Prelude.{ℕ, ◌<◌, ◌≤◌, ◌≡◌, get_or}
 use Rattle.floats.specs.Answers.{plus_zero}
+use Rattle.floats.specs.Reasons.{refusal_number}
 use Rattle.terms.specs.laws.Pairing.{Into, Taken}
 use Rattle.terms.specs.laws.Groups.{CallsPassed}
 use Rattle.callnotices.specs.declared.CallList.{CallList}
@@ -25,7 +26,7 @@ pub record OtherOrder (a b : Notices) : Type 0 where
 
 -- The same list, and the same number of a refusal; its place may be another.
 pub record SameList (x y : CallList) : Type 0 where
-  pub same_number : y.refusal.number ≡ x.refusal.number
+  pub same_number : refusal_number y.refusal ≡ refusal_number x.refusal
   pub same_count : y.count ≡ x.count
   pub same_starts : y.starts ≡ x.starts
   pub same_ends : y.ends ≡ x.ends
@@ -57,9 +58,9 @@ pub record BySeries (n : Notices) (l : CallList) : Type 0 where
   pub none-missing : (i : ℕ) → i < size n → action_at n i ≡ 0 → Highest n i → Taken notice l.count i
 
 abbrev pub RisingSeries : Type 0
-RisingSeries = (n : Notices) → (call_list n).refusal.number ≡ 0 → BySeries n (call_list n)
+RisingSeries = (n : Notices) → refusal_number (call_list n).refusal ≡ 0 → BySeries n (call_list n)
 
 -- ---- an accepted list passes 01's checks of calls: their count, days, strikes and order
 
 abbrev pub ListAccepted : Type 0
-ListAccepted = (n : Notices) → (call_list n).refusal.number ≡ 0 → CallsPassed (schedule_of (call_list n))
+ListAccepted = (n : Notices) → refusal_number (call_list n).refusal ≡ 0 → CallsPassed (schedule_of (call_list n))

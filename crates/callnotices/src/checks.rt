@@ -8,7 +8,7 @@ ghost use Rattle.callnotices.specs.laws.Stages.{Counted, notice_counts, notice_f
 
 use crate::ranges::{no_repeats, notice_count, notice_range, too_many};
 use crate::set::{set_days, set_order, set_strikes};
-use terms::Check;
+use floats::Refusal;
 
 // 2 and 41: unequal slices, and more than 256 notices.
 fn notice_counts(
@@ -18,46 +18,34 @@ fn notice_counts(
     starts: &[u32],
     ends: &[u32],
     strikes: &[f64],
-) -> Check
+) -> Result<(), Refusal>
     ensures { Tells result (notice_counts (notices_in series versions actions starts ends strikes)) (Counted (notices_in series versions actions starts ends strikes)) }
 {
-    let a = notice_count(series, versions, actions, starts, ends, strikes);
-    let Check::Passed = a else {
-        return a;
-    };
+    notice_count(series, versions, actions, starts, ends, strikes)?;
     too_many(series)
 }
 
 // 42 and 43: fields out of range, and repeats.
-fn notice_fields(series: &[u32], versions: &[u32], actions: &[u32]) -> Check
+fn notice_fields(series: &[u32], versions: &[u32], actions: &[u32]) -> Result<(), Refusal>
     requires series_len_bound { length series.now ≤ 256 }
     requires versions_len { length versions.now ≡ length series.now }
     requires actions_len { length actions.now ≡ length series.now }
     ensures { result ≡ notice_fields series.now versions.now actions.now }
 {
-    let a = notice_range(series, versions, actions);
-    let Check::Passed = a else {
-        return a;
-    };
+    notice_range(series, versions, actions)?;
     no_repeats(series, versions)
 }
 
 // 3, 4 and 5: the call fields of set notices.
-fn set_fields(actions: &[u32], starts: &[u32], ends: &[u32], strikes: &[f64]) -> Check
+fn set_fields(actions: &[u32], starts: &[u32], ends: &[u32], strikes: &[f64]) -> Result<(), Refusal>
     requires actions_len_bound { length actions.now ≤ 256 }
     requires starts_len { length starts.now ≡ length actions.now }
     requires ends_len { length ends.now ≡ length actions.now }
     requires strikes_len { length strikes.now ≡ length actions.now }
     ensures { result ≡ set_fields actions.now starts.now ends.now strikes.now }
 {
-    let a = set_days(actions, starts, ends);
-    let Check::Passed = a else {
-        return a;
-    };
-    let b = set_strikes(actions, strikes);
-    let Check::Passed = b else {
-        return b;
-    };
+    set_days(actions, starts, ends)?;
+    set_strikes(actions, strikes)?;
     set_order(actions, starts, ends)
 }
 
@@ -69,16 +57,10 @@ pub fn notice_checks(
     starts: &[u32],
     ends: &[u32],
     strikes: &[f64],
-) -> Check
+) -> Result<(), Refusal>
     ensures { result ≡ notice_checks (notices_in series versions actions starts ends strikes) }
 {
-    let a = notice_counts(series, versions, actions, starts, ends, strikes);
-    let Check::Passed = a else {
-        return a;
-    };
-    let b = notice_fields(series, versions, actions);
-    let Check::Passed = b else {
-        return b;
-    };
+    notice_counts(series, versions, actions, starts, ends, strikes)?;
+    notice_fields(series, versions, actions)?;
     set_fields(actions, starts, ends, strikes)
 }

@@ -9,22 +9,17 @@ use crate::checks::notice_checks;
 use crate::standing::standing_of;
 use crate::{CallList, Notices};
 use floats::Refusal;
-use terms::Check;
-use terms::lists::number_at;
 
 // A refusal beside a list that is all zero.
 fn refused_list(refusal: Refusal) -> CallList
     ensures { result ≡ refused_list refusal }
 {
-    let starts = [0u32; 64];
-    let ends = [0u32; 64];
-    let strikes = [0.0; 64];
     CallList {
-        refusal,
+        refusal: Some(refusal),
         count: 0,
-        starts,
-        ends,
-        strikes,
+        starts: [0; 64],
+        ends: [0; 64],
+        strikes: [0.0; 64],
     }
 }
 
@@ -32,10 +27,7 @@ fn refused_list(refusal: Refusal) -> CallList
 fn yields_at(actions: &[u32], i: usize) -> bool
     ensures { result ≡ yields actions.now i }
 {
-    if i < actions.len() {
-        return actions[i] == Notices::SET;
-    }
-    false
+    i < actions.len() && actions[i] == Notices::SET
 }
 
 // The list of the notices that stand.
@@ -54,22 +46,18 @@ fn listed(
     let mut call_ends = [0u32; 64];
     let mut call_strikes = [0.0; 64];
     let mut count: usize = 0;
-    let mut s: u32 = 0;
-    while s < Notices::LAST_SERIES {
-        s += 1;
-        let at = standing_of(series, versions, s);
-        if yields_at(actions, at) {
-            call_starts[count] = starts[at];
-            call_ends[count] = ends[at];
-            call_strikes[count] = number_at(strikes, at);
-            count += 1;
+    for before in 0..Notices::LAST_SERIES {
+        let at = standing_of(series, versions, before + 1);
+        if !yields_at(actions, at) {
+            continue;
         }
+        call_starts[count] = starts[at];
+        call_ends[count] = ends[at];
+        call_strikes[count] = strikes[at];
+        count += 1;
     }
     CallList {
-        refusal: Refusal {
-            number: 0,
-            place: 0,
-        },
+        refusal: None,
         count: count as u32,
         starts: call_starts,
         ends: call_ends,
@@ -88,9 +76,8 @@ pub fn call_list(
 ) -> CallList
     ensures { result ≡ call_list (notices_in series versions actions starts ends strikes) }
 {
-    let check = notice_checks(series, versions, actions, starts, ends, strikes);
-    match check {
-        Check::Passed => listed(series, versions, actions, starts, ends, strikes),
-        Check::Refused(refusal) => refused_list(refusal),
+    match notice_checks(series, versions, actions, starts, ends, strikes) {
+        Ok(()) => listed(series, versions, actions, starts, ends, strikes),
+        Err(refusal) => refused_list(refusal),
     }
 }

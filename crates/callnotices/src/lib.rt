@@ -1,5 +1,5 @@
 // Call notices: their checks, and the call list that those which stand give.
-#![tactic(auto)]
+#![tactic(auto, unfolding(floats::specs::Answers::on_outcome, terms::specs::Checks::on_check, terms::specs::Checks::first_of))]
 
 pub mod checks;
 pub mod entry;
@@ -29,10 +29,10 @@ impl Notices {
     pub const WITHDRAW: u32 = 1;
 }
 
-// The call list, zero past its last entry, or a refusal beside a list that is all zero. An accepted list has number and place 0.
+// The call list, zero past its last entry, or a refusal beside a list that is all zero.
 #[derive(Drop)]
 pub struct CallList {
-    pub refusal: Refusal,
+    pub refusal: Option<Refusal>,
     pub count: u32,
     pub starts: [u32; 64],
     pub ends: [u32; 64],

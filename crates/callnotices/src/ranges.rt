@@ -1,15 +1,13 @@
 // The checks of notices before their call fields: 2, 41, 42 and 43.
 
 ghost use Rattle.std.specs.Prelude.{◌≡◌, ◌<◌, ◌≤◌, length};
-ghost use Rattle.terms.specs.Checks.{outside};
 ghost use Rattle.callnotices.specs.Notices.{notices_in};
 ghost use Rattle.callnotices.specs.Checks.{unequal, notice_count, too_many, wrong_at, notice_range, no_repeats};
 
 use crate::Notices;
 use crate::standing::repeats_at;
-use floats::Refusal;
-use terms::Check;
-use terms::refusing::{refused_at, single};
+use floats::{Reason, Refusal};
+use terms::refusing::{refused_first, single};
 
 // Parallel slices of unequal length.
 fn lengths_differ(
@@ -22,19 +20,7 @@ fn lengths_differ(
 ) -> bool
     ensures { result ≡ unequal count versions actions starts ends strikes }
 {
-    if versions != count {
-        return true;
-    }
-    if actions != count {
-        return true;
-    }
-    if starts != count {
-        return true;
-    }
-    if ends != count {
-        return true;
-    }
-    strikes != count
+    versions != count || actions != count || starts != count || ends != count || strikes != count
 }
 
 // 2: unequal slices.
@@ -45,11 +31,11 @@ pub fn notice_count(
     starts: &[u32],
     ends: &[u32],
     strikes: &[f64],
-) -> Check
+) -> Result<(), Refusal>
     ensures { result ≡ notice_count (notices_in series versions actions starts ends strikes) }
 {
     single(
-        Refusal::COUNT,
+        Reason::Count,
         lengths_differ(
             series.len(),
             versions.len(),
@@ -62,20 +48,10 @@ pub fn notice_count(
 }
 
 // 41: more than 256 notices.
-pub fn too_many(series: &[u32]) -> Check
+pub fn too_many(series: &[u32]) -> Result<(), Refusal>
     ensures { result ≡ too_many series.now }
 {
-    single(Refusal::NOTICE_COUNT, Notices::MOST < series.len())
-}
-
-// Outside low..high.
-fn out_of_range(low: u32, high: u32, n: u32) -> bool
-    ensures { result ≡ outside low high n }
-{
-    if n < low {
-        return true;
-    }
-    high < n
+    single(Reason::NoticeCount, Notices::MOST < series.len())
 }
 
 // 42: a series, version or action out of range, at an index.
@@ -85,44 +61,30 @@ fn wrong_at(series: &[u32], versions: &[u32], actions: &[u32], i: usize) -> bool
     requires actions_len { length actions.now ≡ length series.now }
     ensures { result ≡ wrong_at series.now versions.now actions.now i }
 {
-    if out_of_range(Notices::FIRST_SERIES, Notices::LAST_SERIES, series[i]) {
-        return true;
-    }
-    if out_of_range(Notices::FIRST_VERSION, Notices::LAST_VERSION, versions[i]) {
-        return true;
-    }
-    Notices::WITHDRAW < actions[i]
+    !matches!(series[i], Notices::FIRST_SERIES..=Notices::LAST_SERIES)
+        || !matches!(versions[i], Notices::FIRST_VERSION..=Notices::LAST_VERSION)
+        || Notices::WITHDRAW < actions[i]
 }
 
 // 42: series, versions and actions.
-pub fn notice_range(series: &[u32], versions: &[u32], actions: &[u32]) -> Check
+pub fn notice_range(series: &[u32], versions: &[u32], actions: &[u32]) -> Result<(), Refusal>
     requires series_len_bound { length series.now ≤ 256 }
     requires versions_len { length versions.now ≡ length series.now }
     requires actions_len { length actions.now ≡ length series.now }
     ensures { result ≡ notice_range series.now versions.now actions.now }
 {
-    let mut i = 0;
-    while i < series.len() {
-        if wrong_at(series, versions, actions, i) {
-            return refused_at(Refusal::NOTICE_RANGE, i);
-        }
-        i += 1;
-    }
-    Check::Passed
+    refused_first(Reason::NoticeRange, series.len(), |i| {
+        wrong_at(series, versions, actions, i)
+    })
 }
 
 // 43: the same series and version twice.
-pub fn no_repeats(series: &[u32], versions: &[u32]) -> Check
+pub fn no_repeats(series: &[u32], versions: &[u32]) -> Result<(), Refusal>
     requires series_len_bound { length series.now ≤ 256 }
     requires versions_len { length versions.now ≡ length series.now }
     ensures { result ≡ no_repeats series.now versions.now }
 {
-    let mut i = 0;
-    while i < series.len() {
-        if repeats_at(series, versions, i) {
-            return refused_at(Refusal::NOTICE_REPEATED, i);
-        }
-        i += 1;
-    }
-    Check::Passed
+    refused_first(Reason::NoticeRepeated, series.len(), |i| {
+        repeats_at(series, versions, i)
+    })
 }

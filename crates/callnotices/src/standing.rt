@@ -10,24 +10,20 @@ fn is_version(series: &[u32], versions: &[u32], s: u32, version: u32, i: usize) 
     requires versions_len { length versions.now ≡ length series.now }
     ensures { result ≡ is_version series.now versions.now s version i }
 {
-    if series[i] == s {
-        return versions[i] == version;
-    }
-    false
+    series[i] == s && versions[i] == version
 }
 
 // The lowest index below count of a notice of the series with the version; count where there is none.
+#[tactic(auto, using(crate::proofs::Looking::looking))]
 fn first_version(series: &[u32], versions: &[u32], s: u32, version: u32, count: usize) -> usize
     requires count_in_bounds { count ≤ length series.now }
     requires versions_len { length versions.now ≡ length series.now }
     ensures { result ≡ first (is_version series.now versions.now s version) count }
 {
-    let mut i = 0;
-    while i < count {
+    for i in 0..count {
         if is_version(series, versions, s, version, i) {
             return i;
         }
-        i += 1;
     }
     count
 }
@@ -47,25 +43,22 @@ fn higher_at(series: &[u32], versions: &[u32], s: u32, so_far: u32, i: usize) ->
     requires versions_len { length versions.now ≡ length series.now }
     ensures { result ≡ higher series.now versions.now s so_far i }
 {
-    if series[i] == s {
-        if so_far < versions[i] {
-            return versions[i];
-        }
-        return so_far;
+    if series[i] == s && so_far < versions[i] {
+        versions[i]
+    } else {
+        so_far
     }
-    so_far
 }
 
 // The highest version of a series, 0 without one.
+#[tactic(auto, using(crate::proofs::Climbing::climbing))]
 fn highest_version(series: &[u32], versions: &[u32], s: u32) -> u32
     requires { length versions.now ≡ length series.now }
     ensures { result ≡ highest series.now versions.now s }
 {
     let mut so_far = 0;
-    let mut i = 0;
-    while i < series.len() {
+    for i in 0..series.len() {
         so_far = higher_at(series, versions, s, so_far, i);
-        i += 1;
     }
     so_far
 }

@@ -1,3 +1,1 @@
-pub mod Copying
-pub mod Printing
 pub mod Sheets

@@ -1,29 +1,29 @@
 -- Definitions only. A value in 16 columns of the closing sheet.
+use Rattle.std.specs.Option.{option_map_or}
 use Rattle.std.specs.Prelude.{true, false, cond, ltb, take, replicate, Float}
 use Rattle.decimal.specs.declared.Rounded.{Rounded}
-use Rattle.decimal.specs.declared.Decimals.{Decimals}
-use Rattle.decimal.specs.declared.Decimals.TheVariants.{Shown, Beyond}
+use Rattle.std.specs.Prelude.{Option, Some, None}
 use Rattle.decimal.specs.Writing.{decimals_of}
 use Rattle.bondreport.specs.Columns.{blank_line}
-use Rattle.bondreport.specs.Figures.{before, decimals_left, on_decimals}
+use Rattle.bondreport.specs.Figures.{before, decimals_left}
 use Rattle.closingsheet.specs.declared.ValueCell.{ValueCell}
 
 -- Nothing beyond ±999,999,999,999.99 after rounding is printed.
-abbrev pub fitting : Rounded → Decimals
-fitting shown = cond (ltb 999999999999 shown.whole) Beyond (Shown shown)
+abbrev pub fitting : Rounded → Option Rounded
+fitting shown = cond (ltb 999999999999 shown.whole) None (Some shown)
 
 -- A value is rounded as the report rounds to two decimals: from the exact value of the double, an exact half going to the even cent. An infinity or a NaN has none.
-unfoldable pub printed_of : Float → Decimals
-unfolding on_decimals decimals_of
-printed_of x = on_decimals (decimals_of 2 x) Beyond fitting
+unfoldable pub printed_of : Float → Option Rounded
+unfolding decimals_of
+printed_of x = option_map_or fitting (decimals_of 2 x) None
 
 -- Two decimals, right-justified in 16 columns, without a sign on a zero. Where the value is too wide, the columns are blank.
-abbrev pub cell_of : Decimals → ValueCell
+abbrev pub cell_of : Option Rounded → ValueCell
 cell_of value =
-    on_decimals
+    option_map_or
+    (λ shown. record { wide = false; cell = take 16 (decimals_left (before blank_line 16) 2 shown).line })
     value
     (record { wide = true; cell = replicate 16 32 })
-    λ shown. record { wide = false; cell = take 16 (decimals_left (before blank_line 16) 2 shown).line }
 
 abbrev pub value_cell : Float → ValueCell
 value_cell x = cell_of (printed_of x)

@@ -1,5 +1,5 @@
 -- Lines of the closing sheet as they are printed, computed by the checker.
-use Rattle.std.specs.Prelude.{ℕ, ◌≡◌, refl, true, false, [], ◌∷◌, ◌++◌, replicate, Float}
+use Rattle.std.specs.Prelude.{ℕ, ◌≡◌, refl, true, false, [], ◌∷◌, ◌++◌, replicate, Float, Option, Some, None, Ok, Err}
 use Prim.Native.String.{String}
 use Rattle.std.specs.Float.{nan, inf, binary64}
 use Rattle.std.specs.Float.Ieee.{of_bits}
@@ -7,16 +7,17 @@ use Rattle.std.specs.Float.Ieee as ieee
 use Rattle.decimal.specs.Examples.{bytes}
 use Rattle.bondreport.specs.Columns.{put_at}
 use Rattle.bondreport.specs.Numbers.{byte_left, digits_left, width_of, whole_left}
-use Rattle.bondreport.specs.Figures.{on_decimals, point_left, minus_left}
-use Rattle.treebasedbondpricer.specs.declared.TreeValue.TheVariants.{Value, Refused}
+use Rattle.bondreport.specs.Figures.{point_left, minus_left}
+use Rattle.floats.specs.declared.Refusal.{Refusal}
 use Rattle.closingsheet.specs.declared.ValueCell.{ValueCell}
 use Rattle.closingsheet.specs.declared.ClosingLine.{ClosingLine}
 use Rattle.closingsheet.specs.Cells.{printed_of, value_cell}
 use Rattle.closingsheet.specs.Sheet.{at, answer_sheet, sheet_by, sheet_of}
+use Rattle.floats.specs.declared.Reason.TheVariants as reason
 
 -- A line of 34 columns and the newline.
-abbrev printed : ℕ → ℕ → String → ClosingLine
-printed number place text = record { refusal = at number place; line = bytes text ++ (10 ∷ []) }
+abbrev printed : Option Refusal → String → ClosingLine
+printed refused text = record { refusal = refused; line = bytes text ++ (10 ∷ []) }
 
 abbrev shows : ℕ → ValueCell
 shows bits = value_cell (of_bits binary64 bits)
@@ -32,13 +33,13 @@ abbrev ninety_nine : Float
 ninety_nine = of_bits binary64 0x4058_c000_0000_0000
 
 abbrev zeros : ClosingLine
-zeros = record { refusal = at 31 0; line = replicate 35 0 }
+zeros = record { refusal = Some (at reason.BondNumber 0); line = replicate 35 0 }
 
 pub record Starred : Type 0 where
   -- The last example of 01 with a value, as bond 1: 99.00 ends in column 22, and 2 in column 30.
-  pub window : sheet_of 1 (Value ninety_nine 2) ≡ printed 0 0 "     1           99.00       2    "
+  pub window : sheet_of 1 (Ok (record { value = ninety_nine; nodes = 2 })) ≡ printed None "     1           99.00       2    "
   -- Every column in use, but for the refusal's.
-  pub widest : sheet_of 999999 (Value (of_bits binary64 0xc26d_1a94_a1ff_ffae) 99999999) ≡ printed 0 0 "999999-999999999999.9999999999    "
+  pub widest : sheet_of 999999 (Ok (record { value = (of_bits binary64 0xc26d_1a94_a1ff_ffae); nodes = 99999999 })) ≡ printed None "999999-999999999999.9999999999    "
   -- 0.125, 0.375 and -0.125 are exact halves, and go to the even cent.
   pub half : shows 0x3fc0_0000_0000_0000 ≡ cell "            0.12"
   pub half_up : shows 0x3fd8_0000_0000_0000 ≡ cell "            0.38"
@@ -61,17 +62,17 @@ pub record Starred : Type 0 where
   pub no_infinity : value_cell (inf true) ≡ wide
   pub no_nan : value_cell nan ≡ wide
   -- 31 stands for a value and for a refusal.
-  pub no_bond : sheet_of 0 (Value ninety_nine 2) ≡ zeros
-  pub beyond : sheet_of 1000000 (Refused (at 4 7)) ≡ zeros
+  pub no_bond : sheet_of 0 (Ok (record { value = ninety_nine; nodes = 2 })) ≡ zeros
+  pub beyond : sheet_of 1000000 (Err (at reason.Number 7)) ≡ zeros
   -- 32 by the value and by the count.
-  pub too_wide : sheet_of 7 (Value (of_bits binary64 0x426d_1a94_a200_0000) 2) ≡ printed 32 0 "     7                          32"
-  pub too_many : sheet_of 999999 (Value ninety_nine 100000000) ≡ printed 32 0 "999999                          32"
+  pub too_wide : sheet_of 7 (Ok (record { value = (of_bits binary64 0x426d_1a94_a200_0000); nodes = 2 })) ≡ printed (Some (at reason.TooWide 0)) "     7                          32"
+  pub too_many : sheet_of 999999 (Ok (record { value = ninety_nine; nodes = 100000000 })) ≡ printed (Some (at reason.TooWide 0)) "999999                          32"
   -- A refusal's number is printed, and its place handed up.
-  pub refused : sheet_of 12 (Refused (at 4 7)) ≡ printed 4 7 "    12                           4"
-  pub refused_27 : sheet_of 12 (Refused (at 27 0)) ≡ printed 27 0 "    12                          27"
+  pub refused : sheet_of 12 (Err (at reason.Number 7)) ≡ printed (Some (at reason.Number 7)) "    12                           4"
+  pub refused_27 : sheet_of 12 (Err (at reason.NotFinite 0)) ≡ printed (Some (at reason.NotFinite 0)) "    12                          27"
 
 pub starred : Starred
-unfolding put_at byte_left digits_left width_of whole_left on_decimals point_left minus_left printed_of answer_sheet sheet_by ieee.of_bits
+unfolding put_at byte_left digits_left width_of whole_left point_left minus_left printed_of answer_sheet sheet_by ieee.of_bits
 starred =
     record {
       window = refl;

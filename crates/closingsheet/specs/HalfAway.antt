@@ -2,11 +2,12 @@
 use Rattle.std.specs.Prelude.{ℕ, ◌+◌, ◌*◌, ◌/◌, ◌≡◌, Bool, cond, ltb, take, drop, Float}
 use Rattle.std.specs.Float.{nan, inf, fin}
 use Rattle.std.specs.Float.Ieee.{up, down}
-use Rattle.decimal.specs.declared.Decimals.{Decimals}
-use Rattle.decimal.specs.declared.Decimals.TheVariants.{Shown, Beyond}
+use Rattle.std.specs.Prelude.{Option, Some, None}
+use Rattle.decimal.specs.declared.Rounded.{Rounded}
 use Rattle.decimal.specs.Writing.{in_units}
 use Rattle.terms.specs.Terms.{CallSchedule, Market}
 use Rattle.treebasedbondpricer.specs.declared.TreeValue.{TreeValue}
+use Rattle.floats.specs.Answers.{Outcome}
 use Rattle.treebasedbondpricer.specs.Tree.{tree_value, Lent, room_of, lent_after}
 use Rattle.closingsheet.specs.declared.ValueCell.{ValueCell}
 use Rattle.closingsheet.specs.declared.ClosingLine.{ClosingLine}
@@ -18,20 +19,20 @@ abbrev pub half_away : ℕ → ℕ → ℕ
 half_away a c = (2 * a + c) / (2 * c)
 
 -- Nothing beyond ±999,999,999,999.99 after rounding is printed.
-unfoldable pub in_cents : Bool → ℕ → Decimals
-in_cents negative cents = cond (ltb 99999999999999 cents) Beyond (Shown (in_units negative 2 cents))
+unfoldable pub in_cents : Bool → ℕ → Option Rounded
+in_cents negative cents = cond (ltb 99999999999999 cents) None (Some (in_units negative 2 cents))
 
 -- A value is rounded to cents from the exact value of the double; an infinity or a NaN has none.
-unfoldable pub printed_away : Float → Decimals
+unfoldable pub printed_away : Float → Option Rounded
 unfolding in_cents
-printed_away nan = Beyond
-printed_away (inf s) = Beyond
+printed_away nan = None
+printed_away (inf s) = None
 printed_away (fin s m e) = in_cents s (half_away (100 * (m * up e)) (down e))
 
 abbrev pub away_cell : Float → ValueCell
 away_cell x = cell_of (printed_away x)
 
-abbrev pub away_sheet : ℕ → TreeValue → ClosingLine
+abbrev pub away_sheet : ℕ → Outcome TreeValue → ClosingLine
 away_sheet bond answer = sheet_by away_cell bond answer
 
 -- What the entry promised then.

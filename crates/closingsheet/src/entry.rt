@@ -10,6 +10,7 @@ use terms::Settlement;
 use treevalue::tree::tree_value;
 
 // A bond's line of the closing sheet.
+#[tactic(auto, using(crate::proofs::Sheets::filed))]
 pub fn closing_line(
     bond: u32,
     settlement: Settlement,

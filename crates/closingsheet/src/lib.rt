@@ -1,5 +1,5 @@
 // The closing sheet: a line of 35 bytes for a bond.
-#![tactic(auto)]
+#![tactic(auto, unfolding(floats::specs::Answers::on_outcome))]
 
 use floats::Refusal;
 
@@ -15,10 +15,10 @@ pub struct ValueCell {
     pub cell: [u8; 16],
 }
 
-// A bond's line, and why it has no value; a line with a value has refusal 0.
+// A bond's line, and why it has no value.
 #[derive(Drop)]
 pub struct ClosingLine {
-    pub refusal: Refusal,
+    pub refusal: Option<Refusal>,
     pub line: [u8; 35],
 }
 

@@ -1,43 +1,43 @@
 // The line of a bond, by what the tree value answers.
-ghost use Rattle.std.specs.Prelude.{◌≡◌, take};
+ghost use Rattle.std.specs.Prelude.{◌≡◌};
 ghost use Rattle.closingsheet.specs.Cells.{value_cell};
-ghost use Rattle.closingsheet.specs.Sheet.{numbered, refused_on, no_sheet, value_sheet, sheet_of};
+ghost use Rattle.closingsheet.specs.Sheet.{numbered, number_line, refused_on, no_sheet, value_sheet, sheet_of};
 
 use crate::ClosingLine;
-use crate::cell::value_cell;
+use crate::cell::{first_columns, value_cell};
+use bondreport::Line;
 use bondreport::columns::{blank, put};
 use bondreport::figures::put_whole;
-use floats::Refusal;
+use floats::{Reason, Refusal};
 use treebasedbondpricer::TreeValue;
 
-// The first 35 columns of a line.
-fn sheet_columns(line: [u8; 80]) -> [u8; 35]
-    ensures { result ≡ take 35 line }
-{
-    let mut columns = [32u8; 35];
-    let mut i = 0;
-    while i < 35 {
-        columns[i] = line[i];
-        i += 1;
-    }
-    columns
-}
-
 // The bond number, and the newline.
-fn numbered(bond: u32) -> [u8; 80]
+fn numbered(bond: u32) -> Line
     ensures { result ≡ numbered bond }
 {
     put(put_whole(blank(), 6, bond as u64), 34, b"\n")
 }
 
 // A refusal's number in its columns.
-fn refused_on(line: [u8; 80], refusal: Refusal) -> ClosingLine
+fn number_line(line: Line, number: u32) -> [u8; 35]
+    ensures { result ≡ number_line line number }
+{
+    first_columns(put_whole(line, 34, number as u64))
+}
+
+// A bond's line with the number of a refusal, whatever numbers refusals have.
+pub fn refused_line(bond: u32, number: u32) -> [u8; 35]
+    ensures { result ≡ number_line (numbered bond) number }
+{
+    number_line(numbered(bond), number)
+}
+
+fn refused_on(line: Line, refusal: Refusal) -> ClosingLine
     ensures { result ≡ refused_on line refusal }
 {
-    let columns = sheet_columns(put_whole(line, 34, refusal.number as u64));
     ClosingLine {
-        refusal,
-        line: columns,
+        refusal: Some(refusal),
+        line: number_line(line, refusal.reason.number()),
     }
 }
 
@@ -46,52 +46,45 @@ fn value_sheet(bond: u32, x: f64, count: u64) -> ClosingLine
     ensures { result ≡ value_sheet bond (value_cell x) count }
 {
     let start = numbered(bond);
-    let counted = put_whole(start, 30, count);
-    let too_wide = Refusal {
-        number: Refusal::TOO_WIDE,
-        place: 0,
-    };
     let value = value_cell(x);
-    let wide = value.wide;
-    if wide {
-        return refused_on(start, too_wide);
-    }
-    if count <= ClosingLine::MOST_NODES {
-        let cell = value.cell;
-        let line = sheet_columns(put(counted, 6, &cell));
-        let refusal = Refusal {
-            number: 0,
+    if value.wide || count > ClosingLine::MOST_NODES {
+        let too_wide = Refusal {
+            reason: Reason::TooWide,
             place: 0,
         };
-        return ClosingLine { refusal, line };
+        return refused_on(start, too_wide);
     }
-    refused_on(start, too_wide)
+    let counted = put_whole(start, 30, count);
+    ClosingLine {
+        refusal: None,
+        line: first_columns(put(counted, 6, &value.cell)),
+    }
 }
 
 // A bond number out of range: 31, and a line of zeros.
 fn no_sheet() -> ClosingLine
     ensures { result ≡ no_sheet }
 {
-    let line = [0u8; 35];
     let refusal = Refusal {
-        number: Refusal::BOND_NUMBER,
+        reason: Reason::BondNumber,
         place: 0,
     };
-    ClosingLine { refusal, line }
+    ClosingLine {
+        refusal: Some(refusal),
+        line: [0; 35],
+    }
 }
 
 // The bond number first, then the answer.
-pub fn line_of(bond: u32, answer: TreeValue) -> ClosingLine
+#[tactic(auto, unfolding(crate::specs::Sheet::sheet_by, crate::specs::Sheet::answer_sheet))]
+pub fn line_of(bond: u32, answer: Result<TreeValue, Refusal>) -> ClosingLine
     ensures { result ≡ sheet_of bond answer }
 {
-    if bond < ClosingLine::FIRST_BOND {
-        return no_sheet();
-    }
-    if bond > ClosingLine::LAST_BOND {
+    if bond < ClosingLine::FIRST_BOND || bond > ClosingLine::LAST_BOND {
         return no_sheet();
     }
     match answer {
-        TreeValue::Value(x, count) => value_sheet(bond, x, count),
-        TreeValue::Refused(refusal) => refused_on(numbered(bond), refusal),
+        Ok(TreeValue { value, nodes }) => value_sheet(bond, value, nodes),
+        Err(refusal) => refused_on(numbered(bond), refusal),
     }
 }

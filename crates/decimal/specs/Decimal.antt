@@ -1,12 +1,10 @@
 -- Definitions only. A word that is a decimal number: perhaps a minus, digits, and perhaps a point with digits behind it. Its value is the double nearest to it.
-use Rattle.std.specs.Prelude.{ℕ, ◌+◌, ◌-◌, ◌*◌, ◌^◌, Bool, true, false, cond, List, [], ◌∷◌, eqb, leb, ltb}
+use Rattle.std.specs.Prelude.{ℕ, ◌+◌, ◌-◌, ◌*◌, ◌^◌, Bool, true, false, cond, List, [], ◌∷◌, eqb, leb, ltb, Float, Result, Ok, Err}
 use Rattle.std.specs.Float.{binary64}
 use Rattle.std.specs.Float.Ieee as ieee
-use Rattle.decimal.specs.declared.ReadDecimal.{ReadDecimal}
-use Rattle.decimal.specs.declared.ReadDecimal.TheVariants.{Number, Malformed, TooLong}
+use Rattle.decimal.specs.declared.ReadError.{ReadError}
+use Rattle.decimal.specs.declared.ReadError.TheVariants.{Malformed, TooLong}
 use Rattle.decimal.specs.declared.reading.Reading.{Reading}
-use Rattle.decimal.specs.declared.reading.Step.{Step}
-use Rattle.decimal.specs.declared.reading.Step.TheVariants.{Taken, Unfit, Full}
 
 -- The bytes that a number is written with.
 abbrev pub minus : ℕ
@@ -36,44 +34,44 @@ abbrev pub fresh : Reading
 fresh = reading 0 0 false false
 
 -- A point stands behind a digit, and once.
-unfoldable pub with_point : Reading → Step
-with_point s = cond s.pointed Unfit (cond s.ready (Taken (reading s.digits s.places true false)) Unfit)
+unfoldable pub with_point : Reading → ℕ → Result Reading ReadError
+with_point s column = cond s.pointed (Err (Malformed column)) (cond s.ready (Ok (reading s.digits s.places true false)) (Err (Malformed column)))
 
 -- No digit follows 17 significant ones, nor 22 decimals.
-unfoldable pub with_digit : Reading → ℕ → Step
-with_digit s digit =
+unfoldable pub with_digit : Reading → ℕ → ℕ → Result Reading ReadError
+with_digit s digit column =
     cond
     (leb seventeen_digits s.digits)
-    Full
+    (Err (TooLong column))
     (cond
     s.pointed
-    (cond (leb most_places s.places) Full (Taken (reading (s.digits * 10 + digit) (s.places + 1) true true)))
-    (Taken (reading (s.digits * 10 + digit) s.places false true)))
+    (cond (leb most_places s.places) (Err (TooLong column)) (Ok (reading (s.digits * 10 + digit) (s.places + 1) true true)))
+    (Ok (reading (s.digits * 10 + digit) s.places false true)))
 
--- One byte more: the point, or a digit from 0 to 9.
-unfoldable pub step : Reading → ℕ → Step
+-- One byte more: the point, or a digit from 0 to 9. A byte that doesn't fit, and a digit too many, are refused where they stand.
+unfoldable pub step : Reading → ℕ → ℕ → Result Reading ReadError
 unfolding with_point with_digit
-step s byte = cond (eqb byte point) (with_point s) (cond (ltb byte nought) Unfit (cond (ltb nine byte) Unfit (with_digit s (byte - nought))))
+step s byte column =
+    cond (eqb byte point) (with_point s column) (cond (ltb byte nought) (Err (Malformed column)) (cond (ltb nine byte) (Err (Malformed column)) (with_digit s (byte - nought) column)))
 
 -- A number ends with a digit. It is the digits over a power of ten, rounded once.
-unfoldable pub finish : Bool → Reading → ℕ → ReadDecimal
+unfoldable pub finish : Bool → Reading → ℕ → Result Float ReadError
 unfolding ieee.round
-finish negative s column = cond s.ready (Number (ieee.round binary64 negative s.digits (10 ^ s.places))) (Malformed column)
+finish negative s column = cond s.ready (Ok (ieee.round binary64 negative s.digits (10 ^ s.places))) (Err (Malformed column))
 
--- A byte that doesn't fit, and a digit too many, are refused where they stand.
-unfoldable pub on_step : Step → ℕ → (Reading → ReadDecimal) → ReadDecimal
-on_step (Taken s) column next = next s
-on_step Unfit column next = Malformed column
-on_step Full column next = TooLong column
+-- On with what has been read, unless a byte was refused.
+unfoldable pub on_step : Result Reading ReadError → (Reading → Result Float ReadError) → Result Float ReadError
+on_step (Ok s) next = next s
+on_step (Err e) next = Err e
 
 -- From a column on, byte by byte.
-unfoldable pub read_from : Bool → Reading → ℕ → List ℕ → ReadDecimal
+unfoldable pub read_from : Bool → Reading → ℕ → List ℕ → Result Float ReadError
 unfolding on_step step finish
 read_from negative s column [] = finish negative s column
-read_from negative s column (byte ∷ bytes) = on_step (step s byte) column λ s. read_from negative s (column + 1) bytes
+read_from negative s column (byte ∷ bytes) = on_step (step s byte column) λ s. read_from negative s (column + 1) bytes
 
 -- A word is read behind its sign.
-unfoldable pub read_decimal : List ℕ → ReadDecimal
+unfoldable pub read_decimal : List ℕ → Result Float ReadError
 unfolding read_from
-read_decimal [] = Malformed 0
+read_decimal [] = Err (Malformed 0)
 read_decimal (byte ∷ bytes) = cond (eqb byte minus) (read_from true fresh 1 bytes) (read_from false fresh 0 (byte ∷ bytes))

@@ -1,15 +1,14 @@
 -- Words as they are read and numbers as they are shown, computed by the checker.
-use Rattle.std.specs.Prelude.{ℕ, ◌≡◌, refl, Bool, true, false, List, [], ◌∷◌}
+use Rattle.std.specs.Prelude.{ℕ, ◌≡◌, refl, Bool, true, false, List, [], ◌∷◌, Float, Result, Ok, Err, Option, Some, None}
 use Prim.Native.Char.{code}
 use Prim.Native.String.{String}
 use Prim.Native.String as text
 use Rattle.std.specs.Float.{nan, inf, binary64}
 use Rattle.std.specs.Float.Ieee.{of_bits}
 use Rattle.std.specs.Float.Ieee as ieee
-use Rattle.decimal.specs.declared.ReadDecimal.{ReadDecimal}
-use Rattle.decimal.specs.declared.ReadDecimal.TheVariants.{Number, Malformed, TooLong}
-use Rattle.decimal.specs.declared.Decimals.{Decimals}
-use Rattle.decimal.specs.declared.Decimals.TheVariants.{Shown, Beyond}
+use Rattle.decimal.specs.declared.ReadError.{ReadError}
+use Rattle.decimal.specs.declared.ReadError.TheVariants.{Malformed, TooLong}
+use Rattle.decimal.specs.declared.Rounded.{Rounded}
 use Rattle.decimal.specs.Decimal.{read_decimal}
 use Rattle.decimal.specs.Writing.{decimals_of, hex_digits}
 
@@ -18,17 +17,17 @@ abbrev pub bytes : String → List ℕ
 bytes text.String.[] = []
 bytes (text.String.◌∷◌ c s) = code c ∷ bytes s
 
-abbrev reads : String → ReadDecimal
+abbrev reads : String → Result Float ReadError
 reads word = read_decimal (bytes word)
 
-abbrev bits : ℕ → ReadDecimal
-bits n = Number (of_bits binary64 n)
+abbrev bits : ℕ → Result Float ReadError
+bits n = Ok (of_bits binary64 n)
 
-abbrev shows : ℕ → ℕ → Decimals
+abbrev shows : ℕ → ℕ → Option Rounded
 shows places n = decimals_of places (of_bits binary64 n)
 
-abbrev parts : Bool → ℕ → ℕ → Decimals
-parts negative whole part = Shown (record { negative = negative; whole = whole; part = part })
+abbrev parts : Bool → ℕ → ℕ → Option Rounded
+parts negative whole part = Some (record { negative = negative; whole = whole; part = part })
 
 pub record Starred : Type 0 where
   pub tenth : reads "0.1" ≡ bits 0x3fb9_9999_9999_999a
@@ -41,19 +40,19 @@ pub record Starred : Type 0 where
   pub next_to_0·3 : reads "0.30000000000000004" ≡ bits 0x3fd3_3333_3333_3334
   pub halfway : reads "9007199254740993" ≡ bits 0x4340_0000_0000_0000
   -- The first byte that no number has there.
-  pub empty : reads "" ≡ Malformed 0
-  pub sign-alone : reads "-" ≡ Malformed 1
-  pub no_whole_part : reads ".5" ≡ Malformed 0
-  pub no_decimals : reads "1." ≡ Malformed 2
-  pub two_points : reads "1.2.3" ≡ Malformed 3
-  pub two_signs : reads "--1" ≡ Malformed 1
-  pub plus : reads "+1" ≡ Malformed 0
-  pub exponent : reads "1e5" ≡ Malformed 1
-  pub not_a_number : reads "nan" ≡ Malformed 0
-  pub infinity : reads "inf" ≡ Malformed 0
+  pub empty : reads "" ≡ Err (Malformed 0)
+  pub sign-alone : reads "-" ≡ Err (Malformed 1)
+  pub no_whole_part : reads ".5" ≡ Err (Malformed 0)
+  pub no_decimals : reads "1." ≡ Err (Malformed 2)
+  pub two_points : reads "1.2.3" ≡ Err (Malformed 3)
+  pub two_signs : reads "--1" ≡ Err (Malformed 1)
+  pub plus : reads "+1" ≡ Err (Malformed 0)
+  pub exponent : reads "1e5" ≡ Err (Malformed 1)
+  pub not_a_number : reads "nan" ≡ Err (Malformed 0)
+  pub infinity : reads "inf" ≡ Err (Malformed 0)
   -- The eighteenth digit, and the twenty-third decimal.
-  pub too_long : reads "100000000000000000" ≡ TooLong 17
-  pub too_fine : reads "0.00000000000000000000001" ≡ TooLong 24
+  pub too_long : reads "100000000000000000" ≡ Err (TooLong 17)
+  pub too_fine : reads "0.00000000000000000000001" ≡ Err (TooLong 24)
   -- 101.5, 2.675, which is less than it says, and -0.005, which is more.
   pub shown : shows 2 0x4059_6000_0000_0000 ≡ parts false 101 50
   pub under : shows 2 0x4005_6666_6666_6666 ≡ parts false 2 67
@@ -78,11 +77,11 @@ pub record Starred : Type 0 where
   pub shown-zero : shows 2 0x8000_0000_0000_0000 ≡ parts true 0 0
   pub last_shown : shows 4 0x42ff_ffff_ffff_ffff ≡ parts false 562949953421311 9375
   pub last_of-six : shows 6 0x427f_ffff_ffff_ffff ≡ parts false 2199023255551 999756
-  pub too_large : shows 2 0xc300_0000_0000_0000 ≡ Beyond
-  pub too_large_for_five : shows 5 0x4280_0000_0000_0000 ≡ Beyond
-  pub too_many : shows 7 0x4059_6000_0000_0000 ≡ Beyond
-  pub no_infinity : decimals_of 2 (inf true) ≡ Beyond
-  pub no_nan : decimals_of 2 nan ≡ Beyond
+  pub too_large : shows 2 0xc300_0000_0000_0000 ≡ None
+  pub too_large_for_five : shows 5 0x4280_0000_0000_0000 ≡ None
+  pub too_many : shows 7 0x4059_6000_0000_0000 ≡ None
+  pub no_infinity : decimals_of 2 (inf true) ≡ None
+  pub no_nan : decimals_of 2 nan ≡ None
   pub digits : hex_digits 0x3fb9_9999_9999_999a ≡ bytes "3fb999999999999a"
 
 pub starred : Starred

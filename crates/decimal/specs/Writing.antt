@@ -1,11 +1,9 @@
 -- Definitions only. A number to at most six decimals, and the hexadecimal digits of its bits.
-use Rattle.std.specs.Prelude.{ℕ, zero, suc, ◌+◌, ◌*◌, ◌/◌, ◌%◌, ◌^◌, Bool, cond, ◌||◌, List, [], ◌∷◌, leb, ltb, Float}
+use Rattle.std.specs.Prelude.{ℕ, zero, suc, ◌+◌, ◌*◌, ◌/◌, ◌%◌, ◌^◌, Bool, cond, ◌||◌, List, [], ◌∷◌, leb, ltb, Float, Option, Some, None}
 use Rattle.std.specs.Float.{nan, inf, fin}
 use Rattle.std.specs.Float.Ieee.{up, down}
 use Rattle.std.specs.Float.Ieee.Nearest.{closest}
 use Rattle.decimal.specs.declared.Rounded.{Rounded}
-use Rattle.decimal.specs.declared.Decimals.{Decimals}
-use Rattle.decimal.specs.declared.Decimals.TheVariants.{Shown, Beyond}
 
 -- Units of the last decimal by their sign, their whole part and what is left.
 abbrev pub in_units : Bool → ℕ → ℕ → Rounded
@@ -16,14 +14,14 @@ abbrev pub whole_digits : ℕ → ℕ
 whole_digits places = cond (ltb 4 places) 41 49
 
 -- It is shown as the nearest units of the last decimal to its exact value, a tie going to the even one; to six decimals at most.
-unfoldable pub decimals_of : ℕ → Float → Decimals
-decimals_of places nan = Beyond
-decimals_of places (inf s) = Beyond
+unfoldable pub decimals_of : ℕ → Float → Option Rounded
+decimals_of places nan = None
+decimals_of places (inf s) = None
 decimals_of places (fin s m e) =
     cond
     (ltb 6 places || leb (2 ^ whole_digits places * down e) (m * up e))
-    Beyond
-    (Shown (in_units s places (closest (10 ^ places * (m * up e)) (down e))))
+    None
+    (Some (in_units s places (closest (10 ^ places * (m * up e)) (down e))))
 
 -- 0 to 9, then a to f.
 unfoldable pub hex_digit : ℕ → ℕ

@@ -7,28 +7,24 @@ ghost use Rattle.decimal.specs.laws.Division.{Divided};
 use rounded::pack::{pack, sticky};
 
 // A quotient with its rest, after a number of doublings.
-#[derive(Drop)]
+#[derive(Clone, Copy)]
 struct Quotient {
     whole: u64,
     rest: u64,
     doublings: u32,
 }
 
-// A power of five.
-pub fn power_of_five(places: u32) -> u64
-    requires { places ≤ 22 }
-    ensures { result ≡ 5 ^ places }
-{
-    let mut power: u64 = 1;
-    let mut i = 0;
-    while i < places {
-        power *= 5;
-        i += 1;
-    }
-    power
-}
+// The least number that has 63 binary digits.
+const LONG: u64 = 1 << 62;
 
-// digits / divisor, doubled until the quotient has 63 binary digits.
+// Zero's exponent, in which nothing is packed.
+const LEAST_EXPONENT: u32 = 64;
+
+// The exponent of a whole number, counted from that of the smallest doubles, in which the quotient is packed.
+const ONE_EXPONENT: u32 = 2336;
+
+// digits / divisor, doubled until the quotient has 63 binary digits. The doublings are counted because they are answered,
+// and there is no count to stop at.
 fn divide(digits: u64, divisor: u64) -> Quotient
     requires { (1 ≤ digits) × (1 ≤ divisor) × (divisor < 2 ^ 52) }
     ensures { Divided digits divisor result.whole result.rest result.doublings }
@@ -36,7 +32,7 @@ fn divide(digits: u64, divisor: u64) -> Quotient
     let mut whole = digits / divisor;
     let mut rest = digits % divisor;
     let mut doublings = 0;
-    while whole < 4611686018427387904 {
+    while whole < LONG {
         let twice = 2 * rest;
         whole = 2 * whole + twice / divisor;
         rest = twice % divisor;
@@ -50,14 +46,15 @@ fn divide(digits: u64, divisor: u64) -> Quotient
 }
 
 // The double nearest to digits / 10^places, with the sign.
+#[tactic(auto, using(crate::proofs::division::Rounding::quotients))]
 pub fn nearest(negative: bool, digits: u64, places: u32) -> f64
     requires { places ≤ 22 }
     ensures { result ≡ round binary64 negative digits (10 ^ places) }
 {
     if digits == 0 {
-        return pack(negative, 0, 64);
+        return pack(negative, 0, LEAST_EXPONENT);
     }
-    let q = divide(digits, power_of_five(places));
+    let q = divide(digits, 5u64.pow(places));
     let w = sticky(q.whole, q.rest);
-    pack(negative, w, 2336 - q.doublings - places)
+    pack(negative, w, ONE_EXPONENT - q.doublings - places)
 }

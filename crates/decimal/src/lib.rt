@@ -6,26 +6,18 @@ pub mod division;
 pub mod reading;
 pub mod writing;
 
-// What a word reads as. A refusal has the column, counted from 0, of the first byte that no number has there, or the
-// word's length where it ends too soon.
-#[derive(Drop)]
-pub enum ReadDecimal {
-    Number(f64),
+// Why a word is no number. Malformed has the column, counted from 0, of the first byte that no number has there, or the
+// word's length where it ends too soon; TooLong that of the first digit too many.
+#[derive(Clone, Copy, Debug, PartialEq, Eq)]
+pub enum ReadError {
     Malformed(usize),
     TooLong(usize),
 }
 
 // A number to some decimals: its sign, its whole part, and what is left in units of the last decimal.
-#[derive(Drop)]
+#[derive(Clone, Copy, Debug, PartialEq, Eq)]
 pub struct Rounded {
     pub negative: bool,
     pub whole: u64,
     pub part: u64,
-}
-
-// Beyond: not finite, of 2^49 in size or more, of 2^41 or more to five or six decimals, or to more than six.
-#[derive(Drop)]
-pub enum Decimals {
-    Shown(Rounded),
-    Beyond,
 }

@@ -1,12 +1,17 @@
 // A decimal number from a word's bytes.
-ghost use Rattle.std.specs.Prelude.{◌≡◌, ◌≤◌, length, drop};
+ghost use Rattle.std.specs.Prelude.{◌≡◌, ◌≤◌};
 ghost use Rattle.decimal.specs.Decimal.{fresh, with_point, with_digit, step, finish, read_from, read_decimal};
 
-use crate::ReadDecimal;
+use crate::ReadError;
 use crate::division::nearest;
 
+// The least number that has seventeen digits, and the most decimals.
+const SEVENTEEN_DIGITS: u64 = 10_000_000_000_000_000;
+
+const MOST_PLACES: u32 = 22;
+
 // What has been read: the digits as one number, how many of them are decimals, whether the point stood, and whether a digit came last.
-#[derive(Drop)]
+#[derive(Clone, Copy)]
 struct Reading {
     digits: u64,
     places: u32,
@@ -14,126 +19,91 @@ struct Reading {
     ready: bool,
 }
 
-// One byte more.
-#[derive(Drop)]
-enum Step {
-    Taken(Reading),
-    Unfit,
-    Full,
-}
+const FRESH: Reading = Reading {
+    digits: 0,
+    places: 0,
+    pointed: false,
+    ready: false,
+};
 
 // A point more.
-fn with_point(s: Reading) -> Step
-    ensures { result ≡ with_point s }
+#[tactic(auto, unfolding(crate::specs::Decimal::with_point))]
+fn with_point(s: Reading, column: usize) -> Result<Reading, ReadError>
+    ensures { result ≡ with_point s column }
 {
-    if s.pointed {
-        return Step::Unfit;
+    if s.pointed || !s.ready {
+        return Err(ReadError::Malformed(column));
     }
-    if s.ready {
-        return Step::Taken(Reading {
-            digits: s.digits,
-            places: s.places,
-            pointed: true,
-            ready: false,
-        });
-    }
-    Step::Unfit
+    Ok(Reading {
+        pointed: true,
+        ready: false,
+        ..s
+    })
 }
 
 // A digit more.
-fn with_digit(s: Reading, digit: u64) -> Step
+#[tactic(auto, unfolding(crate::specs::Decimal::with_digit))]
+fn with_digit(s: Reading, digit: u64, column: usize) -> Result<Reading, ReadError>
     requires { digit ≤ 9 }
-    ensures { result ≡ with_digit s digit }
+    ensures { result ≡ with_digit s digit column }
 {
-    if s.digits >= 10000000000000000 {
-        return Step::Full;
+    if s.digits >= SEVENTEEN_DIGITS || s.pointed && s.places >= MOST_PLACES {
+        return Err(ReadError::TooLong(column));
     }
-    let digits = s.digits * 10 + digit;
-    if s.pointed {
-        if s.places >= 22 {
-            return Step::Full;
-        }
-        return Step::Taken(Reading {
-            digits,
-            places: s.places + 1,
-            pointed: true,
-            ready: true,
-        });
-    }
-    Step::Taken(Reading {
-        digits,
-        places: s.places,
-        pointed: false,
+    Ok(Reading {
+        digits: s.digits * 10 + digit,
+        places: if s.pointed { s.places + 1 } else { s.places },
         ready: true,
+        ..s
     })
 }
 
 // A byte more.
-fn stepped(s: Reading, byte: u8) -> Step
-    ensures { result ≡ step s byte }
+#[tactic(auto, unfolding(crate::specs::Decimal::step))]
+fn stepped(s: Reading, byte: u8, column: usize) -> Result<Reading, ReadError>
+    ensures { result ≡ step s byte column }
 {
-    if byte == 46 {
-        return with_point(s);
+    match byte {
+        b'.' => with_point(s, column),
+        b'0'..=b'9' => with_digit(s, u64::from(byte - b'0'), column),
+        _ => Err(ReadError::Malformed(column)),
     }
-    if byte < 48 {
-        return Step::Unfit;
-    }
-    if byte > 57 {
-        return Step::Unfit;
-    }
-    with_digit(s, byte as u64 - 48)
 }
 
 // The end of the word.
-fn finished(negative: bool, s: Reading, column: usize) -> ReadDecimal
+#[tactic(auto, unfolding(crate::specs::Decimal::finish))]
+fn finished(negative: bool, s: Reading, column: usize) -> Result<f64, ReadError>
     requires { s.places ≤ 22 }
     ensures { result ≡ finish negative s column }
 {
     if s.ready {
-        return ReadDecimal::Number(nearest(negative, s.digits, s.places));
+        Ok(nearest(negative, s.digits, s.places))
+    } else {
+        Err(ReadError::Malformed(column))
     }
-    ReadDecimal::Malformed(column)
 }
 
-// The bytes behind the sign.
-fn read_from(text: &[u8], negative: bool, start: usize) -> ReadDecimal
-    requires { start ≤ length text.now }
-    ensures { result ≡ read_from negative fresh start (drop start text.now) }
+// The bytes behind the sign, the first of which stands at a column.
+#[tactic(auto, using(crate::proofs::reading::Steps::steps))]
+fn read_from(text: &[u8], negative: bool, start: usize) -> Result<f64, ReadError>
+    requires { start ≤ 1 }
+    ensures { result ≡ read_from negative fresh start text.now }
 {
-    let mut s = Reading {
-        digits: 0,
-        places: 0,
-        pointed: false,
-        ready: false,
-    };
-    let mut i = start;
-    while i < text.len() {
-        let next = stepped(s, text[i]);
-        match next {
-            Step::Unfit => {
-                return ReadDecimal::Malformed(i);
-            }
-            Step::Full => {
-                return ReadDecimal::TooLong(i);
-            }
-            Step::Taken(t) => {
-                s = t;
-                i += 1;
-            }
-        }
+    let mut s = FRESH;
+    for (i, byte) in text.iter().enumerate() {
+        s = stepped(s, *byte, start + i)?;
     }
-    finished(negative, s, i)
+    finished(negative, s, start + text.len())
 }
 
 // A word as a decimal number.
-pub fn read(text: &[u8]) -> ReadDecimal
+#[tactic(auto, using(crate::proofs::reading::Steps::steps))]
+pub fn read(text: &[u8]) -> Result<f64, ReadError>
     ensures { result ≡ read_decimal text.now }
 {
-    if text.len() == 0 {
-        return ReadDecimal::Malformed(0);
+    match text {
+        [] => Err(ReadError::Malformed(0)),
+        [b'-', rest @ ..] => read_from(rest, true, 1),
+        _ => read_from(text, false, 0),
     }
-    if text[0] == 45 {
-        return read_from(text, true, 1);
-    }
-    read_from(text, false, 0)
 }

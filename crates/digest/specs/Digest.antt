@@ -14,13 +14,17 @@ unfolding mixed
 mixed_up_to h f zero = h
 mixed_up_to h f (suc n) = mixed (mixed_up_to h f n) (f n)
 
+-- The items of a list, each of which counts by a number; the item beside them is read nowhere.
+abbrev pub digest_by : {A : Type 0} → (A → ℕ) → A → ℕ → List A → ℕ
+digest_by counted d h xs = mixed_up_to h (λ i. counted (get_or xs i d)) (length xs)
+
 -- Whole numbers as they are.
 abbrev pub wholes_digest : ℕ → List ℕ → ℕ
-wholes_digest h xs = mixed_up_to h (λ i. get_or xs i 0) (length xs)
+wholes_digest h xs = digest_by (λ x. x) 0 h xs
 
 -- A number counts by its 64 bits; a NaN, which doesn't equal itself, as 0.
 unfoldable pub bits_of : Float → ℕ
 bits_of x = cond (eq x x) (to_bits binary64 x) 0
 
 abbrev pub numbers_digest : ℕ → List Float → ℕ
-numbers_digest h xs = mixed_up_to h (λ i. bits_of (get_or xs i plus_zero)) (length xs)
+numbers_digest h xs = digest_by bits_of plus_zero h xs

@@ -1,11 +1,10 @@
 -- Definitions only. exp and exp_m1, operation by operation, each result tested.
-use Rattle.std.specs.Prelude.{ℕ, zero, suc, ◌+◌, ◌<◌, ◌≡◌, Bool, cond, true, false, ◌&&◌, List, length, get_or, pos, Float}
+use Rattle.std.specs.Prelude.{ℕ, zero, suc, ◌+◌, ◌<◌, ◌≡◌, Bool, cond, true, false, ◌&&◌, List, length, get_or, pos, Float, Ok}
 use Rattle.std.specs.Float.{nan, fin, binary64}
 use Rattle.std.specs.Float.Ieee.{of_bits, of_int, to_signed, add, sub, mul, div, neg, lt}
-use Rattle.floats.specs.declared.Answer.{Answer}
-use Rattle.floats.specs.declared.Answer.TheVariants.{Value}
-use Rattle.floats.specs.Answers.{refusal, and_then, one, plus_zero, tested, when_finite, when_given}
+use Rattle.floats.specs.Answers.{Answer, refusal, follow, one, plus_zero, tested, when_finite, when_given}
 use Rattle.floats.specs.Whole.{round_at}
+use Rattle.floats.specs.declared.Reason.TheVariants as reason
 
 -- 1/ln 2, and ln 2 in two parts, hi and lo.
 abbrev pub inverse_ln2 : Float
@@ -31,8 +30,8 @@ term n r p place =
 
 -- p after the terms n = low + count down to low + 1.
 unfoldable pub series : ℕ → ℕ → Float → Float → ℕ → Answer
-series low zero r p place = Value p
-series low (suc count) r p place = and_then (term (low + suc count) r p place) λ p. series low count r p place
+series low zero r p place = Ok p
+series low (suc count) r p place = follow (term (low + suc count) r p place) λ p. series low count r p place
 
 -- r = (x − k × hi) − k × lo.
 abbrev pub remainder : Float → Float → ℕ → Answer
@@ -50,16 +49,16 @@ unfoldable pub exp_reduced : Float → ℕ → Answer
 unfolding series
 exp_reduced x place =
     when_finite (mul binary64 x inverse_ln2) place λ y.
-    and_then (round_at y place) λ k.
-    and_then (remainder x k place) λ r.
-    and_then (series 0 13 r one place) λ p. tested (mul binary64 p (power_of_two k)) place
+    follow (round_at y place) λ k.
+    follow (remainder x k place) λ r.
+    follow (series 0 13 r one place) λ p. tested (mul binary64 p (power_of_two k)) place
 
 -- exp(x): above 700 refused with 26; below −700 gives +0.
 unfoldable pub exp_at : Float → ℕ → Answer
 unfolding exp_reduced
 exp_at x place =
     when_finite x place λ x.
-    cond (lt seven_hundred x) (refusal 26 place) (cond (lt x (neg seven_hundred)) (Value plus_zero) (exp_reduced x place))
+    cond (lt seven_hundred x) (refusal reason.Outside place) (cond (lt x (neg seven_hundred)) (Ok plus_zero) (exp_reduced x place))
 
 -- exp_m1(x): for |x| < 0.5, x × p with n from 13 down to 2 and r = x; else exp(x) − 1.
 unfoldable pub exp_m1_at : Float → ℕ → Answer
@@ -68,8 +67,8 @@ exp_m1_at x place =
     when_finite x place λ x.
     cond
     (lt (neg half) x && lt x half)
-    (and_then (series 1 12 x one place) λ p. tested (mul binary64 x p) place)
-    (and_then (exp_at x place) λ e. tested (sub binary64 e one) place)
+    (follow (series 1 12 x one place) λ p. tested (mul binary64 x p) place)
+    (follow (exp_at x place) λ e. tested (sub binary64 e one) place)
 
 abbrev pub exp_alone : Float → Answer
 exp_alone x = when_given x (exp_at x 0)
@@ -79,4 +78,4 @@ exp_m1_alone x = when_given x (exp_m1_at x 0)
 
 -- exp of each number of a row, at any place, where the answer is yes; else nothing.
 pub record ExpRow (good : Bool) (xs ys : List Float) : Type 0 where
-  pub values : good ≡ true → (i place : ℕ) → i < length xs → exp_at (get_or xs i nan) place ≡ Value (get_or ys i nan)
+  pub values : good ≡ true → (i place : ℕ) → i < length xs → exp_at (get_or xs i nan) place ≡ Ok (get_or ys i nan)

@@ -1,11 +1,10 @@
 -- Definitions only. ln, operation by operation, each result tested.
-use Rattle.std.specs.Prelude.{ℕ, zero, suc, ◌+◌, ◌-◌, ◌*◌, ◌^◌, cond, false, leb, pos, ◌+ℤ◌, Float}
+use Rattle.std.specs.Prelude.{ℕ, zero, suc, ◌+◌, ◌-◌, ◌*◌, ◌^◌, cond, false, leb, pos, ◌+ℤ◌, Float, Ok}
 use Rattle.std.specs.Float.{nan, inf, fin, binary64}
 use Rattle.std.specs.Float.Ieee.{of_bits, of_int, size, minus, add, sub, mul, div, lt}
-use Rattle.floats.specs.declared.Answer.{Answer}
-use Rattle.floats.specs.declared.Answer.TheVariants.{Value}
-use Rattle.floats.specs.Answers.{refusal, and_then, one, two, tested, when_finite, when_given}
+use Rattle.floats.specs.Answers.{Answer, refusal, follow, one, two, tested, when_finite, when_given}
 use Rattle.elementary.specs.Exponential.{ln2_high, ln2_low}
+use Rattle.floats.specs.declared.Reason.TheVariants as reason
 
 -- 2^−1022
 abbrev pub smallest_normal : Float
@@ -37,8 +36,8 @@ log_term j z q place =
 
 -- q after the terms j = count − 1 down to 0.
 unfoldable pub log_series : ℕ → Float → Float → ℕ → Answer
-log_series zero z q place = Value q
-log_series (suc j) z q place = and_then (log_term j z q place) λ q. log_series j z q place
+log_series zero z q place = Ok q
+log_series (suc j) z q place = follow (log_term j z q place) λ q. log_series j z q place
 
 -- s = (m − 1)/(m + 1).
 abbrev pub ratio : Float → ℕ → Answer
@@ -59,15 +58,15 @@ log_sum k s q place =
 unfoldable pub ln_of : Float → Float → ℕ → Answer
 unfolding log_series
 ln_of m k place =
-    and_then (ratio m place) λ s.
+    follow (ratio m place) λ s.
     when_finite (mul binary64 s s) place λ z.
     when_finite (div binary64 one (of_int binary64 (pos 21))) place λ q.
-    and_then (log_series 10 z q place) λ q. log_sum k s q place
+    follow (log_series 10 z q place) λ q. log_sum k s q place
 
 -- ln(x), finite x ≥ 2^−1022, else refused with 26.
 unfoldable pub ln_at : Float → ℕ → Answer
 unfolding ln_of fraction exponent
-ln_at x place = when_finite x place λ x. cond (lt x smallest_normal) (refusal 26 place) (ln_of (fraction x) (exponent x) place)
+ln_at x place = when_finite x place λ x. cond (lt x smallest_normal) (refusal reason.Outside place) (ln_of (fraction x) (exponent x) place)
 
 abbrev pub ln_alone : Float → Answer
 ln_alone x = when_given x (ln_at x 0)

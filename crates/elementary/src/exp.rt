@@ -6,13 +6,11 @@ ghost use Rattle.elementary.specs.Exponential.{power_of_two, exp_at, exp_alone};
 ghost use Rattle.elementary.specs.laws.Exponential.{plain_series, plain_exp, steps};
 ghost use Rattle.elementary.specs.laws.Steps.{Step, Reducible};
 
-use floats::finite::not_finite;
-use floats::refusals::overflow;
+use floats::fields::FIELD_ONE;
+use floats::finite::{given, tested};
 use floats::round::near;
-use floats::{Answer, Refusal};
-
-// 1/ln 2: the bits 3FF71547652B82FE.
-pub(crate) const INVERSE_LN2: f64 = 1.4426950408889634;
+use floats::{Reason, Refusal};
+use std::f64::consts::LOG2_E;
 
 // ln 2 in two parts, hi and lo: the bits 3FE62E42FEE00000 and 3DEA39EF35793C76.
 pub(crate) const LN2_HIGH: f64 = 0.6931471803691238;
@@ -24,10 +22,8 @@ pub(crate) fn terms(r: f64, start: f64, high: u32, low: u32) -> f64
     ensures { result ≡ plain_series low (high - low) r start }
 {
     let mut p = start;
-    let mut n = high;
-    while n > low {
-        p = 1.0 + (r * p) / (n as f64);
-        n -= 1;
+    for n in (low..high).rev() {
+        p = 1.0 + r * p / (n + 1) as f64;
     }
     p
 }
@@ -45,7 +41,7 @@ pub(crate) fn power_of_two(k: f64) -> f64
     ensures { result ≡ power_of_two k }
 {
     let field = (k + 1023.0) as u32;
-    f64::from_bits(field as u64 * 4503599627370496)
+    f64::from_bits(field as u64 * FIELD_ONE)
 }
 
 // exp of a number from −700 to 700, with no test: what isn't finite on the way isn't finite at the end.
@@ -53,43 +49,31 @@ fn reduced(x: f64) -> f64
     requires { Reducible x }
     ensures { result ≡ plain_exp x (steps x) }
 {
-    let k = near(x * INVERSE_LN2);
+    let k = near(x * LOG2_E);
     let r = (x - k * LN2_HIGH) - k * LN2_LOW;
     series(r, 0) * power_of_two(k)
 }
 
 // exp met on the way, at a place.
-pub fn exp_at(x: f64, place: u32) -> Answer
+pub fn exp_at(x: f64, place: u32) -> Result<f64, Refusal>
     ensures { result ≡ exp_at x place }
 {
-    if not_finite(x) {
-        return overflow(place);
-    }
+    let x = tested(x, place)?;
     if x > 700.0 {
-        return Answer::Refused(Refusal {
-            number: Refusal::OUTSIDE,
+        return Err(Refusal {
+            reason: Reason::Outside,
             place,
         });
     }
     if x < -700.0 {
-        return Answer::Value(0.0);
+        return Ok(0.0);
     }
-    let y = reduced(x);
-    if not_finite(y) {
-        return overflow(place);
-    }
-    Answer::Value(y)
+    tested(reduced(x), place)
 }
 
 // exp called alone.
-pub fn exp(x: f64) -> Answer
+pub fn exp(x: f64) -> Result<f64, Refusal>
     ensures { result ≡ exp_alone x }
 {
-    if not_finite(x) {
-        return Answer::Refused(Refusal {
-            number: Refusal::NUMBER,
-            place: 0,
-        });
-    }
-    exp_at(x, 0)
+    exp_at(given(x)?, 0)
 }

@@ -5,8 +5,9 @@ ghost use Rattle.elementary.specs.Exponential.{ExpRow};
 ghost use Rattle.elementary.specs.laws.Steps.{Reducible};
 ghost use Rattle.elementary.specs.laws.Rows.{Filled, Parted, Raised, StepRow, SeriesRow, SmallRow, first_terms, last_terms};
 
-use crate::exp::{INVERSE_LN2, LN2_HIGH, LN2_LOW, power_of_two, terms};
+use crate::exp::{LN2_HIGH, LN2_LOW, power_of_two, terms};
 use floats::round::near;
+use std::f64::consts::LOG2_E;
 
 // Whether a number lies from −700 to 700: no for a NaN.
 fn within(x: f64) -> bool
@@ -20,16 +21,14 @@ fn reduce_row(xs: &[f64], ks: &mut [f64], rs: &mut [f64]) -> bool
     requires { (length ks.old ≡ length xs.now) × (length rs.old ≡ length xs.now) }
     ensures { result ≡ true → Parted xs.now ks.new rs.new }
 {
-    let mut i = 0;
-    while i < xs.len() {
+    for i in 0..xs.len() {
         let x = xs[i];
         if !within(x) {
             return false;
         }
-        let k = near(x * INVERSE_LN2);
+        let k = near(x * LOG2_E);
         ks[i] = k;
         rs[i] = (x - k * LN2_HIGH) - k * LN2_LOW;
-        i += 1;
     }
     true
 }
@@ -39,10 +38,8 @@ fn first_terms(rs: &[f64], ys: &mut [f64])
     requires { length ys.old ≡ length rs.now }
     ensures { Filled (first_terms rs.now) ys.old ys.new (length rs.now) }
 {
-    let mut i = 0;
-    while i < rs.len() {
+    for i in 0..rs.len() {
         ys[i] = terms(rs[i], 1.0, 13, 6);
-        i += 1;
     }
 }
 
@@ -51,10 +48,8 @@ fn last_terms(rs: &[f64], ys: &mut [f64])
     requires { length ys.old ≡ length rs.now }
     ensures { Filled (last_terms rs.now ys.old) ys.old ys.new (length rs.now) }
 {
-    let mut i = 0;
-    while i < rs.len() {
+    for i in 0..rs.len() {
         ys[i] = terms(rs[i], ys[i], 6, 0);
-        i += 1;
     }
 }
 
@@ -73,12 +68,10 @@ fn raise_row(ks: &[f64], ys: &mut [f64]) -> bool
     ensures { Raised result ks.now ys.old ys.new }
 {
     let mut good = true;
-    let mut i = 0;
-    while i < ks.len() {
+    for i in 0..ks.len() {
         let y = ys[i] * power_of_two(ks[i]);
         ys[i] = y;
         good = good & (y - y == 0.0);
-        i += 1;
     }
     good
 }
@@ -88,11 +81,8 @@ fn small_row(xs: &[f64]) -> bool
     ensures { result ≡ true → SmallRow xs.now }
 {
     let mut good = true;
-    let mut i = 0;
-    while i < xs.len() {
-        let x = xs[i];
-        good = good & (x <= 0.34) & (-0.34 <= x);
-        i += 1;
+    for x in xs {
+        good = good & (*x <= 0.34) & (-0.34 <= *x);
     }
     good
 }

@@ -8,22 +8,20 @@ ghost use Rattle.elementary.specs.laws.Logarithm.{plain_log_series, plain_ln, lo
 ghost use Rattle.elementary.specs.laws.Normal.{Normal, Loggable};
 
 use crate::exp::{LN2_HIGH, LN2_LOW};
-use floats::finite::not_finite;
-use floats::refusals::overflow;
-use floats::{Answer, Refusal};
+use floats::fields::FIELD_ONE;
+use floats::finite::{given, tested};
+use floats::{Reason, Refusal};
 
-// 2^−1022
-const SMALLEST_NORMAL: f64 = 2.2250738585072014e-308;
+// The digit after the leading one: it says whether a number is 1.5 or more.
+const HALF_DIGIT: u64 = FIELD_ONE / 2;
 
 // q from 1/21, becoming q × z + 1/(2j+1) for j from 9 down to 0.
 fn series(z: f64) -> f64
     ensures { result ≡ plain_log_series 10 z log_start }
 {
     let mut q = 1.0 / 21.0;
-    let mut j: u32 = 10;
-    while j > 0 {
-        j -= 1;
-        q = q * z + 1.0 / ((2 * j + 1) as f64);
+    for j in (0..10u32).rev() {
+        q = q * z + 1.0 / (2 * j + 1) as f64;
     }
     q
 }
@@ -33,9 +31,9 @@ fn fraction_of(bits: u64) -> f64
     requires { Normal bits }
     ensures { result ≡ fraction (of_bits binary64 bits) }
 {
-    let digits = bits % 4503599627370496;
-    let up = digits / 2251799813685248;
-    f64::from_bits((1023 - up) * 4503599627370496 + digits)
+    let digits = bits % FIELD_ONE;
+    let up = digits / HALF_DIGIT;
+    f64::from_bits((1023 - up) * FIELD_ONE + digits)
 }
 
 // The k of x = m × 2^k.
@@ -43,8 +41,8 @@ fn exponent_of(bits: u64) -> f64
     requires { Normal bits }
     ensures { result ≡ exponent (of_bits binary64 bits) }
 {
-    let up = bits % 4503599627370496 / 2251799813685248;
-    let field = bits / 4503599627370496 + up;
+    let up = bits % FIELD_ONE / HALF_DIGIT;
+    let field = bits / FIELD_ONE + up;
     field as f64 - 1023.0
 }
 
@@ -62,34 +60,22 @@ fn straight(x: f64) -> f64
 }
 
 // ln met on the way, at a place.
-pub fn ln_at(x: f64, place: u32) -> Answer
+pub fn ln_at(x: f64, place: u32) -> Result<f64, Refusal>
     ensures { result ≡ ln_at x place }
 {
-    if not_finite(x) {
-        return overflow(place);
-    }
-    if x < SMALLEST_NORMAL {
-        return Answer::Refused(Refusal {
-            number: Refusal::OUTSIDE,
+    let x = tested(x, place)?;
+    if x < f64::MIN_POSITIVE {
+        return Err(Refusal {
+            reason: Reason::Outside,
             place,
         });
     }
-    let y = straight(x);
-    if not_finite(y) {
-        return overflow(place);
-    }
-    Answer::Value(y)
+    tested(straight(x), place)
 }
 
 // ln called alone.
-pub fn ln(x: f64) -> Answer
+pub fn ln(x: f64) -> Result<f64, Refusal>
     ensures { result ≡ ln_alone x }
 {
-    if not_finite(x) {
-        return Answer::Refused(Refusal {
-            number: Refusal::NUMBER,
-            place: 0,
-        });
-    }
-    ln_at(x, 0)
+    ln_at(given(x)?, 0)
 }

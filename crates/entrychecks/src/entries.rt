@@ -11,10 +11,11 @@ use crate::late_stages::late_checks;
 use crate::straight_stages::{straight_counts, straight_days, straight_numbers, straight_orders};
 use crate::tree_stages::{tree_counts, tree_days, tree_numbers, tree_orders};
 use crate::yield_stages::{yield_counts, yield_days, yield_numbers};
+use floats::Refusal;
+use terms::Settlement;
 use terms::cashflows::any_paid;
 use terms::counts::put_most;
 use terms::limits::{Spread, Target, Yields};
-use terms::{Check, Settlement};
 
 // What the grid checks.
 pub fn grid_checks(
@@ -31,13 +32,13 @@ pub fn grid_checks(
     put_strikes: &[f64],
     yearly: u32,
     maximum: u32,
-) -> Check
+) -> Result<(), Refusal>
     ensures { result ≡ grid_checks settlement
         (record { leg = leg_in days kinds amounts; units = units; puts = calls_in put_starts put_ends put_strikes })
         (calls_in starts ends strikes)
         (record { per_year = yearly; maximum = maximum }) }
 {
-    let a = grid_counts(
+    grid_counts(
         yearly,
         maximum,
         settlement.code,
@@ -50,15 +51,9 @@ pub fn grid_checks(
         put_starts,
         put_ends,
         put_strikes,
-    );
-    let Check::Passed = a else {
-        return a;
-    };
-    let b = put_most(put_starts);
-    let Check::Passed = b else {
-        return b;
-    };
-    let c = grid_days(
+    )?;
+    put_most(put_starts)?;
+    grid_days(
         settlement.day,
         days,
         kinds,
@@ -66,14 +61,8 @@ pub fn grid_checks(
         ends,
         put_starts,
         put_ends,
-    );
-    let Check::Passed = c else {
-        return c;
-    };
-    let d = grid_numbers(units, amounts, strikes, put_strikes);
-    let Check::Passed = d else {
-        return d;
-    };
+    )?;
+    grid_numbers(units, amounts, strikes, put_strikes)?;
     grid_orders(settlement, days, starts, ends, put_starts, put_ends)
 }
 
@@ -87,22 +76,13 @@ pub fn straight_checks(
     pillars: &[u32],
     factors: &[f64],
     curve_times: &[f64],
-) -> Check
+) -> Result<(), Refusal>
     requires { CurveTimes settlement pillars.now curve_times.now }
     ensures { result ≡ straight_checks settlement (leg_in days kinds amounts) spread (pillars_in pillars factors) }
 {
-    let a = straight_counts(settlement.code, days, kinds, amounts, pillars, factors);
-    let Check::Passed = a else {
-        return a;
-    };
-    let b = straight_days(settlement.day, days, kinds, pillars);
-    let Check::Passed = b else {
-        return b;
-    };
-    let c = straight_numbers(spread, amounts, factors);
-    let Check::Passed = c else {
-        return c;
-    };
+    straight_counts(settlement.code, days, kinds, amounts, pillars, factors)?;
+    straight_days(settlement.day, days, kinds, pillars)?;
+    straight_numbers(spread, amounts, factors)?;
     straight_orders(settlement, days, pillars, curve_times, factors)
 }
 
@@ -114,26 +94,14 @@ fn yield_checks(
     kinds: &[u8],
     amounts: &[f64],
     x: f64,
-    rate: Check,
-) -> Check
+    rate: Result<(), Refusal>,
+) -> Result<(), Refusal>
     ensures { result ≡ yield_checks limit settlement (leg_in days kinds amounts) x rate }
 {
-    let a = yield_counts(settlement.code, days, kinds, amounts);
-    let Check::Passed = a else {
-        return a;
-    };
-    let b = yield_days(settlement.day, days, kinds);
-    let Check::Passed = b else {
-        return b;
-    };
-    let c = yield_numbers(limit, x, amounts);
-    let Check::Passed = c else {
-        return c;
-    };
-    let d = any_paid(settlement.day, days);
-    let Check::Passed = d else {
-        return d;
-    };
+    yield_counts(settlement.code, days, kinds, amounts)?;
+    yield_days(settlement.day, days, kinds)?;
+    yield_numbers(limit, x, amounts)?;
+    any_paid(settlement.day, days)?;
     rate
 }
 
@@ -144,8 +112,8 @@ pub fn price_checks(
     kinds: &[u8],
     amounts: &[f64],
     given: f64,
-    rate: Check,
-) -> Check
+    rate: Result<(), Refusal>,
+) -> Result<(), Refusal>
     ensures { result ≡ price_checks settlement (leg_in days kinds amounts) given rate }
 {
     yield_checks(Yields::GIVEN, settlement, days, kinds, amounts, given, rate)
@@ -158,8 +126,8 @@ pub fn target_checks(
     kinds: &[u8],
     amounts: &[f64],
     target: f64,
-    rate: Check,
-) -> Check
+    rate: Result<(), Refusal>,
+) -> Result<(), Refusal>
     ensures { result ≡ target_checks settlement (leg_in days kinds amounts) target rate }
 {
     yield_checks(Target::MOST, settlement, days, kinds, amounts, target, rate)
@@ -188,13 +156,13 @@ fn market_checks(
     pillars: &[u32],
     factors: &[f64],
     curve_times: &[f64],
-) -> Check
+) -> Result<(), Refusal>
     requires { CurveTimes settlement pillars.now curve_times.now }
     ensures { result ≡ market_checks limit
         (market_in settlement (leg_in days kinds amounts) units (calls_in put_starts put_ends put_strikes) yearly maximum alpha (sigma_in times sigmas) x (pillars_in pillars factors))
         (calls_in starts ends strikes) }
 {
-    let a = tree_counts(
+    tree_counts(
         yearly,
         maximum,
         settlement.code,
@@ -211,15 +179,9 @@ fn market_checks(
         sigmas,
         pillars,
         factors,
-    );
-    let Check::Passed = a else {
-        return a;
-    };
-    let b = put_most(put_starts);
-    let Check::Passed = b else {
-        return b;
-    };
-    let c = tree_days(
+    )?;
+    put_most(put_starts)?;
+    tree_days(
         settlement.day,
         days,
         kinds,
@@ -228,11 +190,8 @@ fn market_checks(
         put_starts,
         put_ends,
         pillars,
-    );
-    let Check::Passed = c else {
-        return c;
-    };
-    let d = tree_numbers(
+    )?;
+    tree_numbers(
         limit,
         units,
         alpha,
@@ -243,11 +202,8 @@ fn market_checks(
         times,
         sigmas,
         factors,
-    );
-    let Check::Passed = d else {
-        return d;
-    };
-    let e = tree_orders(
+    )?;
+    tree_orders(
         settlement.day,
         days,
         starts,
@@ -255,10 +211,7 @@ fn market_checks(
         put_starts,
         put_ends,
         times,
-    );
-    let Check::Passed = e else {
-        return e;
-    };
+    )?;
     late_checks(settlement, days, pillars, curve_times, factors)
 }
 
@@ -284,7 +237,7 @@ pub fn tree_checks(
     pillars: &[u32],
     factors: &[f64],
     curve_times: &[f64],
-) -> Check
+) -> Result<(), Refusal>
     requires { CurveTimes settlement pillars.now curve_times.now }
     ensures { result ≡ tree_checks
         (market_in settlement (leg_in days kinds amounts) units (calls_in put_starts put_ends put_strikes) yearly maximum alpha (sigma_in times sigmas) spread (pillars_in pillars factors))
@@ -337,7 +290,7 @@ pub fn spread_checks(
     pillars: &[u32],
     factors: &[f64],
     curve_times: &[f64],
-) -> Check
+) -> Result<(), Refusal>
     requires { CurveTimes settlement pillars.now curve_times.now }
     ensures { result ≡ spread_checks
         (market_in settlement (leg_in days kinds amounts) units (calls_in put_starts put_ends put_strikes) yearly maximum alpha (sigma_in times sigmas) target (pillars_in pillars factors))

@@ -10,13 +10,14 @@ ghost use Rattle.terms.specs.laws.CallChecks.{CallCounted};
 ghost use Rattle.terms.specs.CallLists.{Entries};
 ghost use Rattle.terms.specs.Slices.{leg_in, calls_in};
 
+use floats::Refusal;
+use terms::Settlement;
 use terms::calls::{call_days, call_order, strike_range};
 use terms::cashflows::{any_paid, leg_days, maturity_apart};
 use terms::counts::{call_count, leg_count, put_count};
 use terms::fields::{day_count, settings, settlement_day, units_range};
 use terms::limits::Cashflows;
 use terms::numbers::all_within;
-use terms::{Check, Settlement};
 
 // 1, 33 and 2: settings, day count and counts.
 pub fn grid_counts(
@@ -32,28 +33,16 @@ pub fn grid_counts(
     put_starts: &[u32],
     put_ends: &[u32],
     put_strikes: &[f64],
-) -> Check
+) -> Result<(), Refusal>
     ensures { Tells result
         (first_of (setting_checks (record { per_year = yearly; maximum = maximum }) code ++
         grid_counts (leg_in days kinds amounts) (calls_in starts ends strikes) (calls_in put_starts put_ends put_strikes)))
         (LegCounted (leg_in days kinds amounts) × CallCounted (calls_in starts ends strikes) × Entries (calls_in put_starts put_ends put_strikes)) }
 {
-    let a = settings(yearly, maximum);
-    let Check::Passed = a else {
-        return a;
-    };
-    let b = day_count(code);
-    let Check::Passed = b else {
-        return b;
-    };
-    let c = leg_count(days, kinds, amounts);
-    let Check::Passed = c else {
-        return c;
-    };
-    let d = call_count(starts, ends, strikes);
-    let Check::Passed = d else {
-        return d;
-    };
+    settings(yearly, maximum)?;
+    day_count(code)?;
+    leg_count(days, kinds, amounts)?;
+    call_count(starts, ends, strikes)?;
     put_count(put_starts, put_ends, put_strikes)
 }
 
@@ -66,7 +55,7 @@ pub fn grid_days(
     ends: &[u32],
     put_starts: &[u32],
     put_ends: &[u32],
-) -> Check
+) -> Result<(), Refusal>
     requires days_len_bound { length days.now ≤ 256 }
     requires starts_len_bound { length starts.now ≤ 64 }
     requires put_starts_len_bound { length put_starts.now ≤ 64 }
@@ -78,23 +67,14 @@ pub fn grid_days(
         (record { starts = starts.entry.now; ends = ends.now; strikes = [] })
         (record { starts = put_starts.now; ends = put_ends.now; strikes = [] })) }
 {
-    let a = settlement_day(settlement);
-    let Check::Passed = a else {
-        return a;
-    };
-    let b = leg_days(days, kinds);
-    let Check::Passed = b else {
-        return b;
-    };
-    let c = call_days(starts, ends);
-    let Check::Passed = c else {
-        return c;
-    };
+    settlement_day(settlement)?;
+    leg_days(days, kinds)?;
+    call_days(starts, ends)?;
     call_days(put_starts, put_ends)
 }
 
 // 4: the numbers of the lists and their ranges.
-pub fn list_numbers(amounts: &[f64], strikes: &[f64], put_strikes: &[f64]) -> Check
+pub fn list_numbers(amounts: &[f64], strikes: &[f64], put_strikes: &[f64]) -> Result<(), Refusal>
     requires amounts_len_bound { length amounts.now ≤ 256 }
     requires strikes_len_bound { length strikes.now ≤ 64 }
     requires put_strikes_len_bound { length put_strikes.now ≤ 64 }
@@ -102,19 +82,18 @@ pub fn list_numbers(amounts: &[f64], strikes: &[f64], put_strikes: &[f64]) -> Ch
         (list_numbers (record { days = []; kinds = []; amounts = amounts.now }) (record { starts = []; ends = []; strikes = strikes.now })
         (record { starts = []; ends = []; strikes = put_strikes.now })) }
 {
-    let a = all_within(Cashflows::AMOUNT, amounts);
-    let Check::Passed = a else {
-        return a;
-    };
-    let b = strike_range(strikes);
-    let Check::Passed = b else {
-        return b;
-    };
+    all_within(Cashflows::AMOUNT, amounts)?;
+    strike_range(strikes)?;
     strike_range(put_strikes)
 }
 
 // 4: numbers and their ranges.
-pub fn grid_numbers(units: f64, amounts: &[f64], strikes: &[f64], put_strikes: &[f64]) -> Check
+pub fn grid_numbers(
+    units: f64,
+    amounts: &[f64],
+    strikes: &[f64],
+    put_strikes: &[f64],
+) -> Result<(), Refusal>
     requires amounts_len_bound { length amounts.now ≤ 256 }
     requires strikes_len_bound { length strikes.now ≤ 64 }
     requires put_strikes_len_bound { length put_strikes.now ≤ 64 }
@@ -122,10 +101,7 @@ pub fn grid_numbers(units: f64, amounts: &[f64], strikes: &[f64], put_strikes: &
         (grid_numbers units (record { days = []; kinds = []; amounts = amounts.now }) (record { starts = []; ends = []; strikes = strikes.now })
         (record { starts = []; ends = []; strikes = put_strikes.now })) }
 {
-    let a = units_range(units);
-    let Check::Passed = a else {
-        return a;
-    };
+    units_range(units)?;
     list_numbers(amounts, strikes, put_strikes)
 }
 
@@ -137,7 +113,7 @@ pub fn grid_orders(
     ends: &[u32],
     put_starts: &[u32],
     put_ends: &[u32],
-) -> Check
+) -> Result<(), Refusal>
     requires starts_len_bound { length starts.now ≤ 64 }
     requires ends_len { length ends.now ≡ length starts.now }
     requires put_starts_len_bound { length put_starts.now ≤ 64 }
@@ -147,17 +123,8 @@ pub fn grid_orders(
         (record { starts = starts.entry.now; ends = ends.now; strikes = [] })
         (record { starts = put_starts.now; ends = put_ends.now; strikes = [] })) }
 {
-    let a = call_order(starts, ends);
-    let Check::Passed = a else {
-        return a;
-    };
-    let b = call_order(put_starts, put_ends);
-    let Check::Passed = b else {
-        return b;
-    };
-    let c = any_paid(settlement.day, days);
-    let Check::Passed = c else {
-        return c;
-    };
+    call_order(starts, ends)?;
+    call_order(put_starts, put_ends)?;
+    any_paid(settlement.day, days)?;
     maturity_apart(settlement, days)
 }

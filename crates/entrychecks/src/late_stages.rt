@@ -7,9 +7,10 @@ ghost use Rattle.terms.specs.Curve.{pillar_times};
 ghost use Rattle.terms.specs.Entries.{curve_orders, late_checks};
 ghost use Rattle.terms.specs.Slices.{pillars_in};
 
+use floats::Refusal;
+use terms::Settlement;
 use terms::cashflows::maturity_apart;
 use terms::pillars::{pillars_to_maturity, positive_factors, same_times};
-use terms::{Check, Settlement};
 
 // 8 and 34: the pillars' days, then their times.
 pub fn curve_orders(
@@ -17,16 +18,13 @@ pub fn curve_orders(
     days: &[u32],
     pillars: &[u32],
     curve_times: &[f64],
-) -> Check
+) -> Result<(), Refusal>
     requires pillars_len_bound { length pillars.now ≤ 256 }
     requires curve_times_value { curve_times.now ≡ pillar_times settlement pillars.now }
     ensures { result ≡ first_of
         (curve_orders settlement (record { days = days.entry.now; kinds = []; amounts = [] }) (record { days = pillars.now; factors = [] })) }
 {
-    let a = pillars_to_maturity(settlement.day, days, pillars);
-    let Check::Passed = a else {
-        return a;
-    };
+    pillars_to_maturity(settlement.day, days, pillars)?;
     same_times(curve_times)
 }
 
@@ -37,20 +35,14 @@ pub fn late_checks(
     pillars: &[u32],
     curve_times: &[f64],
     factors: &[f64],
-) -> Check
+) -> Result<(), Refusal>
     requires pillars_len_bound { length pillars.now ≤ 256 }
     requires factors_len_bound { length factors.now ≤ 256 }
     requires curve_times_value { curve_times.now ≡ pillar_times settlement pillars.now }
     ensures { result ≡ first_of
         (late_checks settlement (record { days = days.entry.now; kinds = []; amounts = [] }) (pillars_in pillars factors)) }
 {
-    let a = curve_orders(settlement, days, pillars, curve_times);
-    let Check::Passed = a else {
-        return a;
-    };
-    let b = maturity_apart(settlement, days);
-    let Check::Passed = b else {
-        return b;
-    };
+    curve_orders(settlement, days, pillars, curve_times)?;
+    maturity_apart(settlement, days)?;
     positive_factors(factors)
 }

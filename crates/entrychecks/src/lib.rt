@@ -1,5 +1,5 @@
 // The input checks of each entry, in number order.
-#![tactic(auto)]
+#![tactic(auto, unfolding(floats::specs::Answers::on_outcome, terms::specs::Checks::on_check, terms::specs::Checks::first_of))]
 
 pub mod entries;
 pub mod grid_stages;

@@ -10,13 +10,14 @@ ghost use Rattle.terms.specs.laws.TermChecks.{LegCounted, PillarsCounted};
 ghost use Rattle.terms.specs.Slices.{leg_in, pillars_in};
 
 use crate::late_stages::curve_orders;
+use floats::Refusal;
+use terms::Settlement;
 use terms::cashflows::{any_paid, leg_days};
 use terms::counts::{leg_count, pillar_count};
 use terms::fields::{day_count, settlement_day, spread_range};
 use terms::limits::Cashflows;
 use terms::numbers::all_within;
 use terms::pillars::{factor_range, pillar_days, positive_factors};
-use terms::{Check, Settlement};
 
 // 33 and 2: day count and counts.
 pub fn straight_counts(
@@ -26,56 +27,43 @@ pub fn straight_counts(
     amounts: &[f64],
     pillars: &[u32],
     factors: &[f64],
-) -> Check
+) -> Result<(), Refusal>
     ensures { Tells result
         (first_of (straight_counts code (leg_in days kinds amounts) (pillars_in pillars factors)))
         (LegCounted (leg_in days kinds amounts) × PillarsCounted (pillars_in pillars factors)) }
 {
-    let a = day_count(code);
-    let Check::Passed = a else {
-        return a;
-    };
-    let b = leg_count(days, kinds, amounts);
-    let Check::Passed = b else {
-        return b;
-    };
+    day_count(code)?;
+    leg_count(days, kinds, amounts)?;
     pillar_count(pillars, factors)
 }
 
 // 3: days and kinds.
-pub fn straight_days(settlement: u32, days: &[u32], kinds: &[u8], pillars: &[u32]) -> Check
+pub fn straight_days(
+    settlement: u32,
+    days: &[u32],
+    kinds: &[u8],
+    pillars: &[u32],
+) -> Result<(), Refusal>
     requires days_len_bound { length days.now ≤ 256 }
     requires pillars_len_bound { length pillars.now ≤ 256 }
     requires kinds_len { length kinds.now ≡ length days.now }
     ensures { result ≡ first_of
         (straight_days settlement (record { days = days.entry.now; kinds = kinds.now; amounts = [] }) (record { days = pillars.now; factors = [] })) }
 {
-    let a = settlement_day(settlement);
-    let Check::Passed = a else {
-        return a;
-    };
-    let b = leg_days(days, kinds);
-    let Check::Passed = b else {
-        return b;
-    };
+    settlement_day(settlement)?;
+    leg_days(days, kinds)?;
     pillar_days(pillars)
 }
 
 // 4: numbers and their ranges.
-pub fn straight_numbers(spread: f64, amounts: &[f64], factors: &[f64]) -> Check
+pub fn straight_numbers(spread: f64, amounts: &[f64], factors: &[f64]) -> Result<(), Refusal>
     requires amounts_len_bound { length amounts.now ≤ 256 }
     requires factors_len_bound { length factors.now ≤ 256 }
     ensures { result ≡ first_of
         (straight_numbers spread (record { days = []; kinds = []; amounts = amounts.now }) (record { days = []; factors = factors.now })) }
 {
-    let a = spread_range(spread);
-    let Check::Passed = a else {
-        return a;
-    };
-    let b = all_within(Cashflows::AMOUNT, amounts);
-    let Check::Passed = b else {
-        return b;
-    };
+    spread_range(spread)?;
+    all_within(Cashflows::AMOUNT, amounts)?;
     factor_range(factors)
 }
 
@@ -86,20 +74,14 @@ pub fn straight_orders(
     pillars: &[u32],
     curve_times: &[f64],
     factors: &[f64],
-) -> Check
+) -> Result<(), Refusal>
     requires pillars_len_bound { length pillars.now ≤ 256 }
     requires factors_len_bound { length factors.now ≤ 256 }
     requires curve_times_value { curve_times.now ≡ pillar_times settlement pillars.now }
     ensures { result ≡ first_of
         (straight_orders settlement (record { days = days.entry.now; kinds = []; amounts = [] }) (pillars_in pillars factors)) }
 {
-    let a = any_paid(settlement.day, days);
-    let Check::Passed = a else {
-        return a;
-    };
-    let b = curve_orders(settlement, days, pillars, curve_times);
-    let Check::Passed = b else {
-        return b;
-    };
+    any_paid(settlement.day, days)?;
+    curve_orders(settlement, days, pillars, curve_times)?;
     positive_factors(factors)
 }

@@ -11,7 +11,7 @@ ghost use Rattle.terms.specs.CallLists.{Entries};
 ghost use Rattle.terms.specs.Slices.{leg_in, calls_in, sigma_in, pillars_in};
 
 use crate::grid_stages::{grid_counts, grid_days, list_numbers};
-use terms::Check;
+use floats::Refusal;
 use terms::calls::call_order;
 use terms::cashflows::any_paid;
 use terms::counts::{pillar_count, sigma_count};
@@ -20,15 +20,17 @@ use terms::pillars::{factor_range, pillar_days};
 use terms::sigma::{sigma_order, sigma_range};
 
 // 2: the counts of sigma and pillars.
-fn model_counts(times: &[f64], sigmas: &[f64], pillars: &[u32], factors: &[f64]) -> Check
+fn model_counts(
+    times: &[f64],
+    sigmas: &[f64],
+    pillars: &[u32],
+    factors: &[f64],
+) -> Result<(), Refusal>
     ensures { Tells result
         (first_of (model_counts (sigma_in times sigmas) (pillars_in pillars factors)))
         (SigmaCounted (sigma_in times sigmas) × PillarsCounted (pillars_in pillars factors)) }
 {
-    let a = sigma_count(times, sigmas);
-    let Check::Passed = a else {
-        return a;
-    };
+    sigma_count(times, sigmas)?;
     pillar_count(pillars, factors)
 }
 
@@ -50,14 +52,14 @@ pub fn tree_counts(
     sigmas: &[f64],
     pillars: &[u32],
     factors: &[f64],
-) -> Check
+) -> Result<(), Refusal>
     ensures { Tells result
         (first_of (setting_checks (record { per_year = yearly; maximum = maximum }) code ++
         tree_counts (leg_in days kinds amounts) (calls_in starts ends strikes) (calls_in put_starts put_ends put_strikes) (sigma_in times sigmas) (pillars_in pillars factors)))
         ((LegCounted (leg_in days kinds amounts) × CallCounted (calls_in starts ends strikes) × Entries (calls_in put_starts put_ends put_strikes)) ×
         (SigmaCounted (sigma_in times sigmas) × PillarsCounted (pillars_in pillars factors))) }
 {
-    let a = grid_counts(
+    grid_counts(
         yearly,
         maximum,
         code,
@@ -70,10 +72,7 @@ pub fn tree_counts(
         put_starts,
         put_ends,
         put_strikes,
-    );
-    let Check::Passed = a else {
-        return a;
-    };
+    )?;
     model_counts(times, sigmas, pillars, factors)
 }
 
@@ -87,7 +86,7 @@ pub fn tree_days(
     put_starts: &[u32],
     put_ends: &[u32],
     pillars: &[u32],
-) -> Check
+) -> Result<(), Refusal>
     requires days_len_bound { length days.now ≤ 256 }
     requires starts_len_bound { length starts.now ≤ 64 }
     requires put_starts_len_bound { length put_starts.now ≤ 64 }
@@ -101,25 +100,16 @@ pub fn tree_days(
         (record { starts = put_starts.now; ends = put_ends.now; strikes = [] })
         (record { days = pillars.now; factors = [] })) }
 {
-    let a = grid_days(settlement, days, kinds, starts, ends, put_starts, put_ends);
-    let Check::Passed = a else {
-        return a;
-    };
+    grid_days(settlement, days, kinds, starts, ends, put_starts, put_ends)?;
     pillar_days(pillars)
 }
 
 // 4: single numbers and their ranges; the last is the spread or the target, with its limit.
-fn tree_fields(limit: f64, units: f64, alpha: f64, x: f64) -> Check
+fn tree_fields(limit: f64, units: f64, alpha: f64, x: f64) -> Result<(), Refusal>
     ensures { result ≡ first_of (tree_fields limit units alpha x) }
 {
-    let a = units_range(units);
-    let Check::Passed = a else {
-        return a;
-    };
-    let b = alpha_range(alpha);
-    let Check::Passed = b else {
-        return b;
-    };
+    units_range(units)?;
+    alpha_range(alpha)?;
     within(limit, x)
 }
 
@@ -135,7 +125,7 @@ pub fn tree_numbers(
     times: &[f64],
     sigmas: &[f64],
     factors: &[f64],
-) -> Check
+) -> Result<(), Refusal>
     requires amounts_len_bound { length amounts.now ≤ 256 }
     requires strikes_len_bound { length strikes.now ≤ 64 }
     requires put_strikes_len_bound { length put_strikes.now ≤ 64 }
@@ -148,18 +138,9 @@ pub fn tree_numbers(
         (record { starts = []; ends = []; strikes = put_strikes.now }) (sigma_in times sigmas)
         (record { days = []; factors = factors.now })) }
 {
-    let a = tree_fields(limit, units, alpha, x);
-    let Check::Passed = a else {
-        return a;
-    };
-    let b = list_numbers(amounts, strikes, put_strikes);
-    let Check::Passed = b else {
-        return b;
-    };
-    let c = sigma_range(times, sigmas);
-    let Check::Passed = c else {
-        return c;
-    };
+    tree_fields(limit, units, alpha, x)?;
+    list_numbers(amounts, strikes, put_strikes)?;
+    sigma_range(times, sigmas)?;
     factor_range(factors)
 }
 
@@ -172,7 +153,7 @@ pub fn tree_orders(
     put_starts: &[u32],
     put_ends: &[u32],
     times: &[f64],
-) -> Check
+) -> Result<(), Refusal>
     requires starts_len_bound { length starts.now ≤ 64 }
     requires put_starts_len_bound { length put_starts.now ≤ 64 }
     requires times_len_bound { length times.now ≤ 64 }
@@ -184,17 +165,8 @@ pub fn tree_orders(
         (record { starts = put_starts.now; ends = put_ends.now; strikes = [] })
         (record { times = times.entry.now; sigmas = [] })) }
 {
-    let a = call_order(starts, ends);
-    let Check::Passed = a else {
-        return a;
-    };
-    let b = call_order(put_starts, put_ends);
-    let Check::Passed = b else {
-        return b;
-    };
-    let c = sigma_order(times);
-    let Check::Passed = c else {
-        return c;
-    };
+    call_order(starts, ends)?;
+    call_order(put_starts, put_ends)?;
+    sigma_order(times)?;
     any_paid(settlement, days)
 }

@@ -1,22 +1,11 @@
 // Calls and puts of each step side by side, and 38.
 
-ghost use Rattle.std.specs.Prelude.{◌≡◌, ◌≤◌};
-ghost use Rattle.terms.specs.declared.Check.TheVariants.{Refused};
+ghost use Rattle.std.specs.Prelude.{◌≡◌, ◌≤◌, Err};
 ghost use Rattle.bondevents.specs.Calls.{joined, put_above, puts_below};
-ghost use Rattle.bondevents.specs.Parts.{no_calls};
+ghost use Rattle.floats.specs.declared.Reason.TheVariants as reason;
 
-use bondevents::{CallStep, CallsAnswer, Exercise};
-use floats::Refusal;
-use terms::Check;
-
-// No price at any step, beside a refusal.
-pub fn no_calls(check: Check) -> CallsAnswer
-    ensures { result ≡ record { check = check; calls = no_calls } }
-{
-    let none = CallStep::new();
-    let calls = [none; 513];
-    CallsAnswer { check, calls }
-}
+use bondevents::{CallStep, Exercise};
+use floats::{Reason, Refusal};
 
 // The call and the put of each step.
 pub fn joined_steps(calls: [Exercise; 513], puts: [Exercise; 513]) -> [CallStep; 513]
@@ -51,18 +40,18 @@ fn put_above(step: CallStep) -> bool
 }
 
 // 38 at a step.
-fn above_at(step: usize) -> Check
+fn above_at(step: usize) -> Result<(), Refusal>
     requires { step ≤ 512 }
-    ensures { result ≡ Refused (record { number = 38; place = step }) }
+    ensures { result ≡ Err (record { reason = reason.PutAbove; place = step }) }
 {
-    Check::Refused(Refusal {
-        number: Refusal::PUT_ABOVE,
+    Err(Refusal {
+        reason: Reason::PutAbove,
         place: step as u32,
     })
 }
 
 // 38: a put above the call at a step, the lowest step its place.
-pub fn puts_below(steps: [CallStep; 513]) -> Check
+pub fn puts_below(steps: [CallStep; 513]) -> Result<(), Refusal>
     ensures { result ≡ puts_below steps }
 {
     let mut i: usize = 0;
@@ -73,5 +62,5 @@ pub fn puts_below(steps: [CallStep; 513]) -> Check
         }
         i += 1;
     }
-    Check::Passed
+    Ok(())
 }

@@ -1,100 +1,104 @@
 // The first thing wrong with a file.
-ghost use Rattle.std.specs.Prelude.{◌≡◌, length};
+ghost use Rattle.std.specs.Prelude.{◌≡◌, ◌<◌, Ok};
+ghost use Rattle.bondfile.specs.Entries.{number_of};
 ghost use Rattle.bondfile.specs.Checks.{once, at_most, verdict_of, missing, file_check};
 
+use bondfile::FileError;
 use bondfile::entries::kind_of;
-use bondfile::{FileCheck, Verdict};
-use bondline::Entry;
-use bondline::lines::{line_entry, next_line};
+use bondfile::file::Lines;
+use bondline::{Entry, Kind};
+
+// The most bytes of a file.
+const MOST_BYTES: usize = 65536;
+
+// How many kinds of entries there are, with lines that say nothing.
+const KINDS: usize = 12;
 
 // At most one entry of a kind.
-fn only_one(kind: usize, line: usize, count: usize) -> Verdict
+fn only_one(kind: Kind, line: usize, count: usize) -> Result<usize, FileError>
     ensures { result ≡ once kind line count }
 {
     if count < 1 {
-        return Verdict::Counted(count + 1);
+        Ok(count + 1)
+    } else {
+        Err(FileError::Twice(line, kind))
     }
-    Verdict::Stopped(FileCheck::Twice(line, kind))
 }
 
 // At most so many entries of a kind.
-fn at_most(limit: usize, kind: usize, line: usize, count: usize) -> Verdict
+fn at_most(limit: usize, kind: Kind, line: usize, count: usize) -> Result<usize, FileError>
     ensures { result ≡ at_most limit kind line count }
 {
     if count < limit {
-        return Verdict::Counted(count + 1);
+        Ok(count + 1)
+    } else {
+        Err(FileError::TooMany(line, kind))
     }
-    Verdict::Stopped(FileCheck::TooMany(line, kind))
 }
 
-// What a line adds.
-fn verdict(e: Entry, line: usize, count: usize) -> Verdict
-    ensures { result ≡ verdict_of e line count }
+// What a line adds: how many entries of its kind there are now.
+#[tactic(auto, unfolding(bondfile::specs::Checks::verdict_of))]
+fn verdict(e: Entry, line: usize, count: usize) -> Result<usize, FileError>
+    ensures { result ≡ verdict_of (Ok e) line count }
 {
     match e {
-        Entry::Blank => Verdict::Counted(0),
-        Entry::Settlement(_) => only_one(1, line, count),
-        Entry::Units(_) => only_one(2, line, count),
-        Entry::Steps(_, _) => only_one(3, line, count),
-        Entry::Alpha(_) => only_one(4, line, count),
-        Entry::Spread(_) => only_one(5, line, count),
-        Entry::Cashflow(_, _, _) => at_most(256, 6, line, count),
-        Entry::Call(_, _, _) => at_most(64, 7, line, count),
-        Entry::Sigma(_, _) => at_most(64, 8, line, count),
-        Entry::Pillar(_, _) => at_most(256, 9, line, count),
-        Entry::Yield(_, _, _) => only_one(10, line, count),
-        Entry::Quote(_) => only_one(11, line, count),
-        Entry::Refused(q) => Verdict::Stopped(FileCheck::Wrong(line, q)),
+        Entry::Blank => Ok(0),
+        Entry::Settlement(_) => only_one(Kind::Settlement, line, count),
+        Entry::Units(_) => only_one(Kind::Units, line, count),
+        Entry::Steps(_, _) => only_one(Kind::Steps, line, count),
+        Entry::Alpha(_) => only_one(Kind::Alpha, line, count),
+        Entry::Spread(_) => only_one(Kind::Spread, line, count),
+        Entry::Cashflow(_, _, _) => at_most(256, Kind::Cashflow, line, count),
+        Entry::Call(_, _, _) => at_most(64, Kind::Call, line, count),
+        Entry::Sigma(_, _) => at_most(64, Kind::Sigma, line, count),
+        Entry::Pillar(_, _) => at_most(256, Kind::Pillar, line, count),
+        Entry::Yield(_, _, _) => only_one(Kind::Yield, line, count),
+        Entry::Quote(_) => only_one(Kind::Quote, line, count),
     }
 }
 
-// The first field that is missing.
-fn missing_field(counts: &[usize]) -> FileCheck
-    requires { length counts.now ≡ 13 }
+// A kind's place among the counts.
+fn place(kind: Kind) -> usize
+    ensures number { result ≡ number_of kind }
+    ensures within { result < 12 }
+{
+    kind as usize
+}
+
+// That no field is missing.
+#[tactic(auto, unfolding(bondfile::specs::Checks::missing))]
+fn all_there(counts: &[usize; KINDS]) -> Result<(), FileError>
     ensures { result ≡ missing counts.now }
 {
-    if counts[1] == 0 {
-        return FileCheck::Missing(1);
+    for kind in [
+        Kind::Settlement,
+        Kind::Units,
+        Kind::Steps,
+        Kind::Alpha,
+        Kind::Spread,
+    ] {
+        if counts[place(kind)] == 0 {
+            return Err(FileError::Missing(kind));
+        }
     }
-    if counts[2] == 0 {
-        return FileCheck::Missing(2);
-    }
-    if counts[3] == 0 {
-        return FileCheck::Missing(3);
-    }
-    if counts[4] == 0 {
-        return FileCheck::Missing(4);
-    }
-    if counts[5] == 0 {
-        return FileCheck::Missing(5);
-    }
-    FileCheck::Good
+    Ok(())
 }
 
 // The first thing wrong with a file.
-pub fn checked(text: &[u8]) -> FileCheck
+pub fn checked(text: &[u8]) -> Result<(), FileError>
     ensures { result ≡ file_check text.now }
 {
-    if 65536 < text.len() {
-        return FileCheck::TooLarge;
+    if text.len() > MOST_BYTES {
+        return Err(FileError::TooLarge);
     }
-    let mut counts = [0usize; 13];
-    let mut at = 0;
-    let mut line = 1;
-    while at < text.len() {
-        let e = line_entry(text, at);
-        let k = kind_of(e);
-        let next = next_line(text, at);
-        match verdict(e, line, counts[k]) {
-            Verdict::Stopped(c) => {
-                return c;
-            }
-            Verdict::Counted(n) => {
-                counts[k] = n;
-                at = next;
-                line += 1;
-            }
-        }
+    let mut counts = [0; KINDS];
+    for (line, said) in Lines::new(text) {
+        let entry = match said {
+            Ok(entry) => entry,
+            Err(fault) => return Err(FileError::Wrong(line, fault)),
+        };
+        let kind = place(kind_of(entry));
+        counts[kind] = verdict(entry, line, counts[kind])?;
     }
-    missing_field(&counts)
+    all_there(&counts)
 }

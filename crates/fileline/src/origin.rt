@@ -5,13 +5,12 @@ ghost use Rattle.places.specs.Places.{whose_number};
 ghost use Rattle.places.specs.Blame.{blamed_day, blamed_number, blamed};
 ghost use Rattle.fileline.specs.Lines.{line_behind};
 
-use crate::lines::{
-    ALPHA, CALL, CASHFLOW, PILLAR, SETTLEMENT, SIGMA, SPREAD, STEPS, UNITS, line_of,
-};
+use crate::lines::line_of;
 use bondfile::singles::fields_of;
 use bondfile::stored::{calls_of, cashflows_of, sigmas_of};
+use bondline::Kind;
 use filebond::parts::{bytes_of, days_of, numbers_of};
-use floats::Refusal;
+use floats::{Reason, Refusal};
 use places::Whose;
 use places::days::whose_day;
 use places::numbers::{whose_field, whose_number};
@@ -90,16 +89,15 @@ fn of_number(text: &[u8], place: usize) -> Whose
 }
 
 // Whose entry it is.
-pub fn whose(text: &[u8], number: u32, place: usize) -> Whose
-    ensures { result ≡ blamed (market_of text.now) (calls_of text.now) (record { number = number; place = place }) }
+pub fn whose(text: &[u8], refusal: Refusal) -> Whose
+    ensures { result ≡ blamed (market_of text.now) (calls_of text.now) refusal }
 {
-    if number == Refusal::DAY {
-        return of_day(text, place);
+    let place = refusal.place as usize;
+    match refusal.reason {
+        Reason::Day => of_day(text, place),
+        Reason::Number => of_number(text, place),
+        other => whose_order(other),
     }
-    if number == Refusal::NUMBER {
-        return of_number(text, place);
-    }
-    whose_order(number)
 }
 
 // The line, or 0 where the refusal is about no line.
@@ -107,16 +105,16 @@ pub fn line_behind(text: &[u8], q: Refusal) -> usize
     ensures { result ≡ line_behind text.now q }
 {
     let place = q.place as usize;
-    match whose(text, q.number, place) {
+    match whose(text, q) {
         Whose::Nobody => 0,
-        Whose::Steps => line_of(text, STEPS, 0),
-        Whose::Settlement => line_of(text, SETTLEMENT, 0),
-        Whose::Units => line_of(text, UNITS, 0),
-        Whose::Alpha => line_of(text, ALPHA, 0),
-        Whose::Spread => line_of(text, SPREAD, 0),
-        Whose::Cashflow => line_of(text, CASHFLOW, place),
-        Whose::Call => line_of(text, CALL, place),
-        Whose::Sigma => line_of(text, SIGMA, place),
-        Whose::Pillar => line_of(text, PILLAR, place),
+        Whose::Steps => line_of(text, Kind::Steps, 0),
+        Whose::Settlement => line_of(text, Kind::Settlement, 0),
+        Whose::Units => line_of(text, Kind::Units, 0),
+        Whose::Alpha => line_of(text, Kind::Alpha, 0),
+        Whose::Spread => line_of(text, Kind::Spread, 0),
+        Whose::Cashflow => line_of(text, Kind::Cashflow, place),
+        Whose::Call => line_of(text, Kind::Call, place),
+        Whose::Sigma => line_of(text, Kind::Sigma, place),
+        Whose::Pillar => line_of(text, Kind::Pillar, place),
     }
 }

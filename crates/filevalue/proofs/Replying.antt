@@ -1,13 +1,12 @@
 -- What an entry answers of fields that were read is the reply. Assumes nothing.
+use Rattle.std.specs.Prelude.{Ok, Err}
 use mathlib.Core.Path.{◌≡◌, refl, ap, ◌∙◌}
 use mathlib.Core.List.{List}
 use Prim.Native.Nat.{ℕ}
 use lib.ListN.{length, length-replicate}
 use lib.IntN.{pos}
 use lib.Ieee.{Float}
-use Rattle.floats.specs.Answers.{plus_zero}
-use Rattle.terms.specs.declared.Check.{Check}
-use Rattle.terms.specs.declared.Check.TheVariants as check
+use Rattle.floats.specs.Answers.{plus_zero, Check, Outcome}
 use Rattle.terms.specs.Checks.{on_check}
 use Rattle.terms.specs.Entries.{tree_checks}
 use Rattle.terms.specs.Terms.{Leg, CallSchedule, SigmaSchedule, Pillars, Market}
@@ -17,6 +16,7 @@ use Rattle.treebasedbondpricer.specs.declared.TreeValue.{TreeValue}
 use Rattle.treebasedbondpricer.specs.Tree.{tree_value, Lent, room_of, zeroed, lent_after}
 use Rattle.treebasedbondpricer.specs.Entry.{Entered}
 use Rattle.brackets.specs.declared.Root.{Root}
+use Rattle.brackets.specs.Brackets.{Searched}
 use Rattle.spreads.specs.Spreads.{quoting, Solved}
 use Rattle.filevalue.specs.declared.Ask.{Ask}
 use Rattle.filevalue.specs.declared.Ask.TheVariants as ask
@@ -24,13 +24,13 @@ use Rattle.filevalue.specs.declared.Reply.{Reply}
 use Rattle.filevalue.specs.laws.Fields.{market_at}
 use Rattle.filevalue.specs.Values.{of_value, of_root, no_calls, worth_of_calls, reply_to, left_by, market_with, Replied}
 
-pub valued : {asked : Ask} {text : List ℕ} {f : Fields} {leg : Leg} {sigma : SigmaSchedule} {pillars : Pillars} {calls : CallSchedule} {a : TreeValue} {r : Reply} {before after : Lent} → asked ≡ ask.Value → FieldsRead text f → Entered (market_at f leg sigma pillars f.spread) calls a before after → r ≡ of_value a → Replied asked (market_with text leg sigma pillars) calls r before after
+pub valued : {asked : Ask} {text : List ℕ} {f : Fields} {leg : Leg} {sigma : SigmaSchedule} {pillars : Pillars} {calls : CallSchedule} {a : Outcome TreeValue} {r : Outcome Reply} {before after : Lent} → asked ≡ ask.Value → FieldsRead text f → Entered (market_at f leg sigma pillars f.spread) calls a before after → r ≡ of_value a → Replied asked (market_with text leg sigma pillars) calls r before after
 unfolding reply_to left_by
 valued e h v q =
     rw (e, ← h.settled, ← h.in_units_lem, ← h.per_year_lem, ← h.at_most, ← h.with_alpha, ← h.with_spread_lem)
     (record { reply = q ∙ ap of_value v.value; slices = v.slices })
 
-pub solved : {asked : Ask} {text : List ℕ} {f : Fields} {leg : Leg} {sigma : SigmaSchedule} {pillars : Pillars} {calls : CallSchedule} {target : Float} {a : Root} {r : Reply} {before after : Lent} → asked ≡ ask.Spread target → FieldsRead text f → Solved (quoting (market_at f leg sigma pillars f.spread) target) calls a before after → r ≡ of_root a → Replied asked (market_with text leg sigma pillars) calls r before after
+pub solved : {asked : Ask} {text : List ℕ} {f : Fields} {leg : Leg} {sigma : SigmaSchedule} {pillars : Pillars} {calls : CallSchedule} {target : Float} {a : Searched Root} {r : Outcome Reply} {before after : Lent} → asked ≡ ask.Spread target → FieldsRead text f → Solved (quoting (market_at f leg sigma pillars f.spread) target) calls a before after → r ≡ of_root a → Replied asked (market_with text leg sigma pillars) calls r before after
 unfolding reply_to left_by
 solved e h v q =
     rw (e, ← h.settled, ← h.in_units_lem, ← h.per_year_lem, ← h.at_most, ← h.with_alpha)
@@ -44,20 +44,20 @@ unfolding lent_after on_check
 room-kept m calls l = on (tree_checks m calls)
   where
     on : (c : Check) → room_of (on_check c (λ r. l) (zeroed l)) ≡ room_of l
-    on check.Passed =
+    on (Ok tt) =
         rw (length-replicate (length l.nodes) (pos 0), length-replicate (length l.probabilities) plus_zero, length-replicate (length l.first) plus_zero, length-replicate (length l.second) plus_zero)
         refl
-    on (check.Refused r) = refl
+    on (Err r) = refl
 
-pub worth : {m : Market} {calls none : CallSchedule} {a b : TreeValue} {r : Reply} {before between after : Lent} → none ≡ no_calls → Entered m calls a before between → Entered m none b between after → r ≡ worth_of_calls a b → Replied ask.Calls m calls r before after
+pub worth : {m : Market} {calls none : CallSchedule} {a b : Outcome TreeValue} {r : Outcome Reply} {before between after : Lent} → none ≡ no_calls → Entered m calls a before between → Entered m none b between after → r ≡ worth_of_calls a b → Replied ask.Calls m calls r before after
 unfolding reply_to left_by
 worth {m} {calls} {none} {a} {b} {r} {before} {between} {after} e p q w =
     let kept : room_of between ≡ room_of before = ap room_of p.slices ∙ room-kept m calls before in
     let bare : b ≡ tree_value m no_calls (room_of before) = q.value ∙ ap (λ (z : CallSchedule). tree_value m z (room_of between)) e ∙ ap (tree_value m no_calls) kept in
     record {
-      reply = w ∙ ap (λ (v : TreeValue). worth_of_calls v b) p.value ∙ ap (worth_of_calls (tree_value m calls (room_of before))) bare;
+      reply = w ∙ ap (λ (v : Outcome TreeValue). worth_of_calls v b) p.value ∙ ap (worth_of_calls (tree_value m calls (room_of before))) bare;
       slices = q.slices ∙ ap (λ (z : CallSchedule). lent_after m z between) e ∙ ap (lent_after m no_calls) p.slices;
     }
 
-pub called : {asked : Ask} {text : List ℕ} {f : Fields} {leg : Leg} {sigma : SigmaSchedule} {pillars : Pillars} {calls : CallSchedule} {r : Reply} {before after : Lent} → asked ≡ ask.Calls → FieldsRead text f → Replied ask.Calls (market_at f leg sigma pillars f.spread) calls r before after → Replied asked (market_with text leg sigma pillars) calls r before after
+pub called : {asked : Ask} {text : List ℕ} {f : Fields} {leg : Leg} {sigma : SigmaSchedule} {pillars : Pillars} {calls : CallSchedule} {r : Outcome Reply} {before after : Lent} → asked ≡ ask.Calls → FieldsRead text f → Replied ask.Calls (market_at f leg sigma pillars f.spread) calls r before after → Replied asked (market_with text leg sigma pillars) calls r before after
 called e h v = rw (e, ← h.settled, ← h.in_units_lem, ← h.per_year_lem, ← h.at_most, ← h.with_alpha, ← h.with_spread_lem) v

@@ -1,8 +1,6 @@
 // What a bond file is worth: the straight value, the yield, the tree value and the spread behind a quote.
 #![tactic(auto)]
 
-use floats::Refusal;
-
 pub mod pricing;
 pub mod tree;
 pub mod worth;
@@ -16,8 +14,8 @@ pub enum Ask {
 }
 
 // A value or what calls are worth, and its nodes; or a spread and its tries.
-#[derive(Clone, Copy)]
-pub enum Reply {
-    Found(f64, u64),
-    Refused(Refusal),
+#[derive(Clone, Copy, Debug, PartialEq)]
+pub struct Reply {
+    pub found: f64,
+    pub count: u64,
 }

@@ -6,13 +6,13 @@ use bondanalytics::yields::yield_from_price;
 use bondfile::singles::fields_of;
 use bondfile::stored::{cashflows_of, pillars_of};
 use bondpricer::straight_value;
-use brackets::Root;
+use brackets::{NoRoot, Root};
 use filebond::parts::{bytes_of, days_of, numbers_of};
-use floats::Answer;
+use floats::Refusal;
 use terms::Settlement;
 
 // What the bond is worth without its calls.
-pub fn straight(text: &[u8]) -> Answer
+pub fn straight(text: &[u8]) -> Result<f64, Refusal>
     ensures { result ≡ straight_of text.now }
 {
     let mut days = [0u32; 256];
@@ -39,7 +39,7 @@ pub fn straight(text: &[u8]) -> Answer
 }
 
 // The yield at a price.
-pub fn yielded(text: &[u8], price: f64, compounding: u32, frequency: u32) -> Root
+pub fn yielded(text: &[u8], price: f64, compounding: u32, frequency: u32) -> Result<Root, NoRoot>
     ensures { result ≡ yield_of text.now compounding frequency price }
 {
     let mut days = [0u32; 256];

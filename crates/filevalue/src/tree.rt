@@ -9,28 +9,34 @@ use crate::worth::of_calls;
 use crate::{Ask, Reply};
 use bondfile::singles::fields_of;
 use bondfile::stored::{calls_of, cashflows_of, pillars_of, sigmas_of};
-use brackets::Root;
+use brackets::{NoRoot, Root};
 use filebond::parts::{bytes_of, days_of, numbers_of};
+use floats::Refusal;
 use spreads::spreads::spread_from_price;
 use terms::Settlement;
 use treebasedbondpricer::TreeValue;
 use treevalue::tree::tree_value;
 
-fn of_value(v: TreeValue) -> Reply
+#[tactic(auto, unfolding(crate::specs::Values::of_value))]
+fn of_value(v: Result<TreeValue, Refusal>) -> Result<Reply, Refusal>
     ensures { result ≡ of_value v }
 {
     match v {
-        TreeValue::Value(x, n) => Reply::Found(x, n),
-        TreeValue::Refused(q) => Reply::Refused(q),
+        Ok(TreeValue { value: x, nodes: n }) => Ok(Reply { found: x, count: n }),
+        Err(q) => Err(q),
     }
 }
 
-fn of_spread(s: Root) -> Reply
+#[tactic(auto, unfolding(crate::specs::Values::of_root))]
+fn of_spread(s: Result<Root, NoRoot>) -> Result<Reply, Refusal>
     ensures { result ≡ of_root s }
 {
     match s {
-        Root::Found(x, n) => Reply::Found(x, n as u64),
-        Root::Refused(q, _) => Reply::Refused(q),
+        Ok(root) => Ok(Reply {
+            found: root.at,
+            count: root.evaluations as u64,
+        }),
+        Err(none) => Err(none.refusal),
     }
 }
 
@@ -52,7 +58,7 @@ fn answered(
     probabilities: &mut [f64],
     first: &mut [f64],
     second: &mut [f64],
-) -> Reply
+) -> Result<Reply, Refusal>
     ensures { Replied ask
         (market_with text.now (leg_in days kinds amounts) (sigma_in times sigmas) (pillars_in pillars factors))
         (calls_in starts ends strikes)
@@ -152,7 +158,7 @@ fn with_market(
     probabilities: &mut [f64],
     first: &mut [f64],
     second: &mut [f64],
-) -> Reply
+) -> Result<Reply, Refusal>
     ensures { Replied ask
         (market_with text.now (leg_in days kinds amounts) (sigma_of text.now) (pillars_of text.now))
         (calls_in starts ends strikes)
@@ -198,7 +204,7 @@ fn with_calls(
     probabilities: &mut [f64],
     first: &mut [f64],
     second: &mut [f64],
-) -> Reply
+) -> Result<Reply, Refusal>
     ensures { Replied ask
         (market_with text.now (leg_in days kinds amounts) (sigma_of text.now) (pillars_of text.now))
         (calls_of text.now)
@@ -235,7 +241,7 @@ pub fn with_flows(
     probabilities: &mut [f64],
     first: &mut [f64],
     second: &mut [f64],
-) -> Reply
+) -> Result<Reply, Refusal>
     ensures { Replied ask
         (market_of text.now)
         (calls_of text.now)

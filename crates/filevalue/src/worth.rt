@@ -9,6 +9,7 @@ ghost use Rattle.treebasedbondpricer.specs.Slices.{lent_in, lent_out};
 use crate::Reply;
 use bondfile::Fields;
 use filebond::parts::{days_of, numbers_of};
+use floats::Refusal;
 use floats::finite::not_finite;
 use floats::refusals::overflow_refusal;
 use terms::Settlement;
@@ -16,24 +17,31 @@ use treebasedbondpricer::TreeValue;
 use treevalue::tree::tree_value;
 
 // A difference, and the nodes that stand beside it.
-fn difference(y: f64, x: f64, nodes: u64) -> Reply
+fn difference(y: f64, x: f64, nodes: u64) -> Result<Reply, Refusal>
     ensures { result ≡ less y x nodes }
 {
     let d = y - x;
     if not_finite(d) {
-        return Reply::Refused(overflow_refusal(0));
+        return Err(overflow_refusal(0));
     }
-    Reply::Found(d, nodes)
+    Ok(Reply {
+        found: d,
+        count: nodes,
+    })
 }
 
-fn worth_of_calls(called: TreeValue, uncalled: TreeValue) -> Reply
+#[tactic(auto, unfolding(crate::specs::Values::worth_of_calls))]
+fn worth_of_calls(
+    called: Result<TreeValue, Refusal>,
+    uncalled: Result<TreeValue, Refusal>,
+) -> Result<Reply, Refusal>
     ensures { result ≡ worth_of_calls called uncalled }
 {
     match called {
-        TreeValue::Refused(q) => Reply::Refused(q),
-        TreeValue::Value(x, n) => match uncalled {
-            TreeValue::Refused(q) => Reply::Refused(q),
-            TreeValue::Value(y, _) => difference(y, x, n),
+        Err(q) => Err(q),
+        Ok(TreeValue { value: x, nodes: n }) => match uncalled {
+            Err(q) => Err(q),
+            Ok(TreeValue { value: y, .. }) => difference(y, x, n),
         },
     }
 }
@@ -55,7 +63,7 @@ pub fn of_calls(
     probabilities: &mut [f64],
     first: &mut [f64],
     second: &mut [f64],
-) -> Reply
+) -> Result<Reply, Refusal>
     ensures { Replied Calls
         (market_at f (leg_in days kinds amounts) (sigma_in times sigmas) (pillars_in pillars factors) f.spread)
         (calls_in starts ends strikes)

@@ -1,5 +1,6 @@
 -- Laws in the shape that `search` wants, and the set `answers` of them: what a test, a tested operation and an answer that was taken apart say of a definition.
 -- Each concludes `r ≡ ..` at what the definition does next, so that one need of a straight function is one `search answers`. Assumes nothing.
+use Rattle.std.specs.Prelude.{Ok, Err}
 use Prim.Native.Nat.{ℕ, ◌≤◌, ◌<◌, ◌^◌}
 use mathlib.Core.Path.{◌≡◌, sym, ap, subst, ◌∙◌}
 use mathlib.Core.Bool.{Bool, true, false, cond, not, ◌&&◌}
@@ -11,9 +12,7 @@ use lib.IntN.{pos}
 use lib.Ieee.{Float, nan, inf, fin, binary64, is_nan, lt, le, eq, in_float}
 use lib.Ieee.Scale.{finite}
 use Rattle.floats.specs.declared.Refusal.{Refusal}
-use Rattle.floats.specs.declared.Answer.{Answer}
-use Rattle.floats.specs.declared.Answer.TheVariants.{Value, Refused}
-use Rattle.floats.specs.Answers.{on_answer, not_finite}
+use Rattle.floats.specs.Answers.{Outcome, on_outcome, not_finite}
 
 -- ---- a test of the definition, by the flag that the code went by
 
@@ -82,13 +81,13 @@ left_eq a b x y h p = left (eqb a b) x y (ne_eqb a b h) p
 
 -- ---- an answer s that a call gave, which ensures that it is a, taken apart
 
-pub valued : {A : Type 0} {s : Answer} (a : Answer) {x : Float} {r : A} (f : Refusal → A) (g : Float → A) → s ≡ a → s ≡ Value x → r ≡ g x → r ≡ on_answer a f g
-unfolding on_answer
-valued a f g e v p = p ∙ ap (λ (z : Answer). on_answer z f g) (sym v ∙ e)
+pub valued : {B : Type 0} {A : Type 0} {s : Outcome B} (a : Outcome B) {x : B} {r : A} (f : Refusal → A) (g : B → A) → s ≡ a → s ≡ Ok x → r ≡ g x → r ≡ on_outcome a f g
+unfolding on_outcome
+valued {B} a f g e v p = p ∙ ap (λ (z : Outcome B). on_outcome z f g) (sym v ∙ e)
 
-pub refused : {A : Type 0} {s : Answer} (a : Answer) {q : Refusal} {r : A} (f : Refusal → A) (g : Float → A) → s ≡ a → s ≡ Refused q → r ≡ f q → r ≡ on_answer a f g
-unfolding on_answer
-refused a f g e v p = p ∙ ap (λ (z : Answer). on_answer z f g) (sym v ∙ e)
+pub refused : {B : Type 0} {A : Type 0} {s : Outcome B} (a : Outcome B) {q : Refusal} {r : A} (f : Refusal → A) (g : B → A) → s ≡ a → s ≡ Err q → r ≡ f q → r ≡ on_outcome a f g
+unfolding on_outcome
+refused {B} a f g e v p = p ∙ ap (λ (z : Outcome B). on_outcome z f g) (sym v ∙ e)
 
 -- ---- a number that passed the test
 

@@ -1,9 +1,7 @@
 -- Definitions only. max and min: the greater and the lesser of two floats, the first where they are equal.
-use Rattle.std.specs.Prelude.{ℕ, cond, Float}
+use Rattle.std.specs.Prelude.{ℕ, cond, Float, Ok}
 use Rattle.std.specs.Float.Ieee.{lt}
-use Rattle.floats.specs.declared.Answer.{Answer}
-use Rattle.floats.specs.declared.Answer.TheVariants.{Value}
-use Rattle.floats.specs.Answers.{when_finite, when_given}
+use Rattle.floats.specs.Answers.{Answer, when_finite, when_given}
 
 -- b where it is below a, and a otherwise
 unfoldable pub min_of : Float → Float → Float
@@ -14,10 +12,10 @@ unfoldable pub max_of : Float → Float → Float
 max_of a b = cond (lt a b) b a
 
 abbrev pub max_at : Float → Float → ℕ → Answer
-max_at a b place = when_finite a place λ a. when_finite b place λ b. Value (max_of a b)
+max_at a b place = when_finite a place λ a. when_finite b place λ b. Ok (max_of a b)
 
 abbrev pub min_at : Float → Float → ℕ → Answer
-min_at a b place = when_finite a place λ a. when_finite b place λ b. Value (min_of a b)
+min_at a b place = when_finite a place λ a. when_finite b place λ b. Ok (min_of a b)
 
 abbrev pub max_alone : Float → Float → Answer
 max_alone a b = when_given a (when_given b (max_at a b 0))

@@ -2,8 +2,7 @@
 use Rattle.std.specs.Prelude.{ℕ, Float}
 use Rattle.std.specs.Float.{binary64}
 use Rattle.std.specs.Float.Ieee.{add, div}
-use Rattle.floats.specs.declared.Answer.{Answer}
-use Rattle.floats.specs.Answers.{two, tested, when_finite, when_given}
+use Rattle.floats.specs.Answers.{Answer, two, tested, when_finite, when_given}
 
 abbrev pub midpoint_at : Float → Float → ℕ → Answer
 midpoint_at a b place = when_finite (add binary64 a b) place λ s. tested (div binary64 s two) place

@@ -1,10 +1,9 @@
 -- Definitions only. round: half away from zero. ceil: upwards. A zero from round or ceil is +0.
-use Rattle.std.specs.Prelude.{ℕ, ◌+◌, ◌-◌, ◌*◌, ◌/◌, Bool, cond, eqb, ℤ, Float}
+use Rattle.std.specs.Prelude.{ℕ, ◌+◌, ◌-◌, ◌*◌, ◌/◌, Bool, cond, eqb, Float}
 use Rattle.std.specs.Float.{nan, inf, fin, binary64}
 use Rattle.std.specs.Float.Ieee.{up, down}
 use Rattle.std.specs.Float.Ieee as ieee
-use Rattle.floats.specs.declared.Answer.{Answer}
-use Rattle.floats.specs.Answers.{plus_zero, tested, when_finite, when_given}
+use Rattle.floats.specs.Answers.{Answer, plus_zero, tested, when_finite, when_given}
 
 -- The whole number n with the sign s, and +0 for 0.
 unfoldable pub whole_of : Bool → ℕ → Float

@@ -16,3 +16,4 @@ pub mod Patterns
 pub mod Finite
 pub mod SameNumber
 pub mod Cases
+pub mod Reasons

@@ -5,10 +5,10 @@ ghost use Rattle.std.specs.Float.Ieee.Scale.{finite};
 ghost use Rattle.floats.specs.Answers.{plus_zero, one};
 ghost use Rattle.floats.specs.Whole.{ceiled, ceil_at, ceil_alone};
 
-use crate::finite::not_finite;
-use crate::refusals::overflow;
+use crate::Refusal;
+use crate::fields::{FIELD_ONE, SIGN_BIT};
+use crate::finite::{given, tested};
 use crate::sign::signed;
-use crate::{Answer, Refusal};
 
 // digits / 2^places, a part of a unit counting as one.
 fn part_up(digits: u64, places: u64) -> u64
@@ -23,13 +23,11 @@ fn part_up(digits: u64, places: u64) -> u64
 fn small_up(bits: u64) -> f64
     ensures { result ≡ cond (leb 9223372036854775808 bits) plus_zero (cond (eqb bits 0) plus_zero one) }
 {
-    if bits >= 0x8000_0000_0000_0000 {
-        return 0.0;
+    if bits >= SIGN_BIT || bits == 0 {
+        0.0
+    } else {
+        1.0
     }
-    if bits == 0 {
-        return 0.0;
-    }
-    1.0
 }
 
 // The lowest whole number that is not below a finite number. By the exponent's field it lies below 1 in size, or is whole,
@@ -39,40 +37,31 @@ fn upwards(x: f64) -> f64
     ensures { result ≡ ceiled x }
 {
     let bits = f64::to_bits(x);
-    let field = bits % 0x8000_0000_0000_0000 / 0x10_0000_0000_0000;
+    let field = bits % SIGN_BIT / FIELD_ONE;
     if field < 1023 {
         return small_up(bits);
     }
     if field > 1074 {
         return x;
     }
-    let digits = bits % 0x10_0000_0000_0000 + 0x10_0000_0000_0000;
+    let digits = bits % FIELD_ONE + FIELD_ONE;
     let places = 1075 - field;
-    if bits >= 0x8000_0000_0000_0000 {
+    if bits >= SIGN_BIT {
         return signed(true, digits >> places);
     }
     signed(false, part_up(digits, places))
 }
 
 // ceil of a finite number, met on the way at a place.
-pub fn ceil_at(x: f64, place: u32) -> Answer
+pub fn ceil_at(x: f64, place: u32) -> Result<f64, Refusal>
     ensures { result ≡ ceil_at x place }
 {
-    if not_finite(x) {
-        return overflow(place);
-    }
-    Answer::Value(upwards(x))
+    Ok(upwards(tested(x, place)?))
 }
 
 // ceil called alone.
-pub fn ceil(x: f64) -> Answer
+pub fn ceil(x: f64) -> Result<f64, Refusal>
     ensures { result ≡ ceil_alone x }
 {
-    if not_finite(x) {
-        return Answer::Refused(Refusal {
-            number: Refusal::NUMBER,
-            place: 0,
-        });
-    }
-    ceil_at(x, 0)
+    ceil_at(given(x)?, 0)
 }

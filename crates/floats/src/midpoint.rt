@@ -3,40 +3,20 @@
 ghost use Rattle.std.specs.Prelude.{◌≡◌};
 ghost use Rattle.floats.specs.Middle.{midpoint_at, midpoint_alone};
 
-use crate::finite::not_finite;
-use crate::refusals::overflow;
-use crate::{Answer, Refusal};
+use crate::Refusal;
+use crate::finite::{given, tested};
 
 // midpoint of two finite numbers, met on the way at a place.
-pub fn midpoint_at(a: f64, b: f64, place: u32) -> Answer
+pub fn midpoint_at(a: f64, b: f64, place: u32) -> Result<f64, Refusal>
     ensures { result ≡ midpoint_at a b place }
 {
-    let s = a + b;
-    if not_finite(s) {
-        return overflow(place);
-    }
-    let m = s / 2.0;
-    if not_finite(m) {
-        return overflow(place);
-    }
-    Answer::Value(m)
+    let s = tested(a + b, place)?;
+    tested(s / 2.0, place)
 }
 
 // midpoint called alone.
-pub fn midpoint(a: f64, b: f64) -> Answer
+pub fn midpoint(a: f64, b: f64) -> Result<f64, Refusal>
     ensures { result ≡ midpoint_alone a b }
 {
-    if not_finite(a) {
-        return Answer::Refused(Refusal {
-            number: Refusal::NUMBER,
-            place: 0,
-        });
-    }
-    if not_finite(b) {
-        return Answer::Refused(Refusal {
-            number: Refusal::NUMBER,
-            place: 0,
-        });
-    }
-    midpoint_at(a, b, 0)
+    midpoint_at(given(a)?, given(b)?, 0)
 }

@@ -3,48 +3,28 @@
 ghost use Rattle.std.specs.Prelude.{◌≡◌};
 ghost use Rattle.floats.specs.Extremes.{min_of, min_at, min_alone};
 
-use crate::finite::not_finite;
-use crate::refusals::overflow;
-use crate::{Answer, Refusal};
+use crate::Refusal;
+use crate::finite::{given, tested};
 
 // The lesser of two floats, whatever they are.
+#[inline]
+#[tactic(auto, unfolding(crate::specs::Extremes::min_of))]
 pub fn lesser(a: f64, b: f64) -> f64
     ensures { result ≡ min_of a b }
 {
-    if b < a {
-        return b;
-    }
-    a
+    if b < a { b } else { a }
 }
 
 // min of two finite numbers, met on the way at a place.
-pub fn min_at(a: f64, b: f64, place: u32) -> Answer
+pub fn min_at(a: f64, b: f64, place: u32) -> Result<f64, Refusal>
     ensures { result ≡ min_at a b place }
 {
-    if not_finite(a) {
-        return overflow(place);
-    }
-    if not_finite(b) {
-        return overflow(place);
-    }
-    Answer::Value(lesser(a, b))
+    Ok(lesser(tested(a, place)?, tested(b, place)?))
 }
 
 // min called alone.
-pub fn min(a: f64, b: f64) -> Answer
+pub fn min(a: f64, b: f64) -> Result<f64, Refusal>
     ensures { result ≡ min_alone a b }
 {
-    if not_finite(a) {
-        return Answer::Refused(Refusal {
-            number: Refusal::NUMBER,
-            place: 0,
-        });
-    }
-    if not_finite(b) {
-        return Answer::Refused(Refusal {
-            number: Refusal::NUMBER,
-            place: 0,
-        });
-    }
-    min_at(a, b, 0)
+    min_at(given(a)?, given(b)?, 0)
 }

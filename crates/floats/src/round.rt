@@ -4,10 +4,10 @@ ghost use Rattle.std.specs.Prelude.{◌≡◌, ◌+◌, ◌*◌, ◌/◌, ◌^�
 ghost use Rattle.std.specs.Float.Ieee.Scale.{finite};
 ghost use Rattle.floats.specs.Whole.{rounded, round_at, round_alone};
 
-use crate::finite::not_finite;
-use crate::refusals::overflow;
+use crate::Refusal;
+use crate::fields::{FIELD_ONE, SIGN_BIT};
+use crate::finite::{given, tested};
 use crate::sign::signed;
-use crate::{Answer, Refusal};
 
 // The whole number nearest to digits / 2^places, a half going up.
 fn half_up(digits: u64, places: u64) -> u64
@@ -25,37 +25,28 @@ pub fn near(x: f64) -> f64
     ensures { result ≡ rounded x }
 {
     let bits = f64::to_bits(x);
-    let field = bits % 0x8000_0000_0000_0000 / 0x10_0000_0000_0000;
+    let field = bits % SIGN_BIT / FIELD_ONE;
     if field < 1022 {
         return 0.0;
     }
     if field > 1074 {
         return x;
     }
-    let digits = bits % 0x10_0000_0000_0000 + 0x10_0000_0000_0000;
+    let digits = bits % FIELD_ONE + FIELD_ONE;
     let q = half_up(digits, 1075 - field);
-    signed(bits >= 0x8000_0000_0000_0000, q)
+    signed(bits >= SIGN_BIT, q)
 }
 
 // round of a finite number, met on the way at a place.
-pub fn round_at(x: f64, place: u32) -> Answer
+pub fn round_at(x: f64, place: u32) -> Result<f64, Refusal>
     ensures { result ≡ round_at x place }
 {
-    if not_finite(x) {
-        return overflow(place);
-    }
-    Answer::Value(near(x))
+    Ok(near(tested(x, place)?))
 }
 
 // round called alone.
-pub fn round(x: f64) -> Answer
+pub fn round(x: f64) -> Result<f64, Refusal>
     ensures { result ≡ round_alone x }
 {
-    if not_finite(x) {
-        return Answer::Refused(Refusal {
-            number: Refusal::NUMBER,
-            place: 0,
-        });
-    }
-    round_at(x, 0)
+    round_at(given(x)?, 0)
 }

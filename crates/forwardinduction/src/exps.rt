@@ -11,10 +11,7 @@ use elementary::exps::exp_row;
 fn part_of(left: usize) -> usize
     ensures { result ≡ min left 64 }
 {
-    if left < 64 {
-        return left;
-    }
-    64
+    left.min(64)
 }
 
 // exp of each number of a part, where it says true.

@@ -1,8 +1,7 @@
 // Fitting the tree to the curve, one layer: the weighted sum of state prices, the shift, and the state prices of the next layer.
 
-ghost use Rattle.std.specs.Prelude.{◌≡◌, true, ◌*◌, ◌+◌, ◌^◌, ◌<◌, ◌≤◌, length};
-ghost use Rattle.floats.specs.declared.Answer.TheVariants.{Value};
-ghost use Rattle.floats.specs.Answers.{plus_zero, tested};
+ghost use Rattle.std.specs.Prelude.{◌≡◌, true, ◌*◌, ◌+◌, ◌^◌, ◌<◌, ◌≤◌, length, Ok};
+ghost use Rattle.floats.specs.Answers.{plus_zero};
 ghost use Rattle.elementary.specs.Exponential.{exp_at};
 ghost use Rattle.forwardinduction.specs.Fit.{weighted};
 ghost use Rattle.lattice.specs.laws.Stored.{numbers_in, row_of};
@@ -14,23 +13,9 @@ ghost use Rattle.forwardinduction.specs.laws.FitSteps.{weigh_one, shift_from, di
 use crate::exps::{discounts, weights};
 use elementary::exp::exp_at;
 use elementary::ln::ln_at;
-use floats::finite::not_finite;
-use floats::refusals::overflow;
-use floats::{Answer, Refusal};
+use floats::finite::tested;
+use floats::{Reason, Refusal};
 use lattice::reach::{nothing_below, reached};
-use lattice::refusals::row_overflow;
-use terms::Check;
-use terms::refusing::refused_by;
-
-// The result of an operation, tested.
-fn finite_answer(x: f64, place: u32) -> Answer
-    ensures { result ≡ tested x place }
-{
-    if not_finite(x) {
-        return overflow(place);
-    }
-    Answer::Value(x)
-}
 
 // One more price in the sum: price × exp(spacing × (−node × time_step)), added. Where `known` says so, e is the exp.
 fn weigh(
@@ -42,22 +27,25 @@ fn weigh(
     spacing: f64,
     dt: f64,
     place: u32,
-) -> Answer
-    requires { known ≡ true → exp_at (weight_argument spacing dt node) place ≡ Value e }
+) -> Result<f64, Refusal>
+    requires { known ≡ true → exp_at (weight_argument spacing dt node) place ≡ Ok e }
     ensures { result ≡ weigh_one spacing dt place node price total }
 {
     if known {
-        return finite_answer(total + price * e, place);
+        return tested(total + price * e, place);
     }
-    let a = exp_at(spacing * (-node * dt), place);
-    let Answer::Value(discount) = a else {
-        return a;
-    };
-    finite_answer(total + price * discount, place)
+    let discount = exp_at(spacing * (-node * dt), place)?;
+    tested(total + price * discount, place)
 }
 
 // The weighted sum of a layer's state prices, nodes rising.
-pub fn weighted_sum(nodes: &[i32], row: &[f64], spacing: f64, dt: f64, place: u32) -> Answer
+pub fn weighted_sum(
+    nodes: &[i32],
+    row: &[f64],
+    spacing: f64,
+    dt: f64,
+    place: u32,
+) -> Result<f64, Refusal>
     requires { length nodes.now ≡ length row.now * 2 }
     ensures { result ≡ weighted spacing dt place (row_of (numbers_in nodes.now) row.now) plus_zero }
 {
@@ -69,39 +57,26 @@ pub fn weighted_sum(nodes: &[i32], row: &[f64], spacing: f64, dt: f64, place: u3
         good = weights(nodes, row.len(), i, good, spacing, dt, &mut es);
         let node = nodes[i * 2];
         let e = es[i % 64];
-        let sum = weigh(good, e, total, node as f64, row[i], spacing, dt, place);
-        let Answer::Value(t) = sum else {
-            return sum;
-        };
-        total = t;
+        total = weigh(good, e, total, node as f64, row[i], spacing, dt, place)?;
         i += 1;
     }
-    Answer::Value(total)
+    Ok(total)
 }
 
 // The shift from the sum and the curve's factor: ln(sum/factor)/time_step.
-pub fn shift_from(sum: f64, factor: f64, dt: f64, place: u32) -> Answer
+#[tactic(auto, unfolding(floats::specs::Answers::on_outcome, crate::specs::laws::FitSteps::shift_from))]
+pub fn shift_from(sum: f64, factor: f64, dt: f64, place: u32) -> Result<f64, Refusal>
     ensures { result ≡ shift_from dt place sum factor }
 {
     if factor <= 0.0 {
-        return Answer::Refused(Refusal {
-            number: Refusal::FACTOR,
+        return Err(Refusal {
+            reason: Reason::Factor,
             place,
         });
     }
-    let quotient = sum / factor;
-    if not_finite(quotient) {
-        return overflow(place);
-    }
-    let l = ln_at(quotient, place);
-    let Answer::Value(log) = l else {
-        return l;
-    };
-    let shift = log / dt;
-    if not_finite(shift) {
-        return overflow(place);
-    }
-    Answer::Value(shift)
+    let quotient = tested(sum / factor, place)?;
+    let log = ln_at(quotient, place)?;
+    tested(log / dt, place)
 }
 
 // A node's state price discounted over the step: exp((shift + spacing × node) × −time_step) × price. Where `known` says so, e is the exp.
@@ -114,18 +89,15 @@ fn discounted(
     dt: f64,
     shift: f64,
     place: u32,
-) -> Answer
-    requires { known ≡ true → exp_at (rate_argument spacing dt shift node) place ≡ Value e }
+) -> Result<f64, Refusal>
+    requires { known ≡ true → exp_at (rate_argument spacing dt shift node) place ≡ Ok e }
     ensures { result ≡ discounted_of spacing dt shift place node price }
 {
     if known {
-        return finite_answer(price * e, place);
+        return tested(price * e, place);
     }
-    let a = exp_at((shift + spacing * node) * -dt, place);
-    let Answer::Value(discount) = a else {
-        return a;
-    };
-    finite_answer(price * discount, place)
+    let discount = exp_at((shift + spacing * node) * -dt, place)?;
+    tested(price * discount, place)
 }
 
 // The position of a destination, `back` before the count that is reached.
@@ -133,10 +105,7 @@ pub fn spot(flat: bool, count: usize, back: usize) -> usize
     requires { back ≤ count }
     ensures { result ≡ spot_at flat count back }
 {
-    if flat {
-        return 0;
-    }
-    count - back
+    if flat { 0 } else { count - back }
 }
 
 // How many are reached once a position was written.
@@ -144,30 +113,25 @@ fn passed(count: usize, at: usize) -> usize
     requires { at + 1 < 2 ^ 64 }
     ensures { result ≡ past count at }
 {
-    if at < count {
-        return count;
-    }
-    at + 1
+    count.max(at + 1)
 }
 
 // A contribution is stored as it is at a position that is not reached, else added to what is there.
-fn add_at(next: &mut [f64], at: usize, count: usize, x: f64, place: u32) -> Check
+#[tactic(auto, unfolding(floats::specs::Answers::on_outcome, crate::specs::laws::FitSteps::add_at, lattice::specs::laws::Rows::outcome_of))]
+fn add_at(next: &mut [f64], at: usize, count: usize, x: f64, place: u32) -> Result<(), Refusal>
     requires { at < length next.old }
     ensures { outcome_of result next.new ≡ add_at place at count x next.old }
 {
     if at < count {
-        let sum = next[at] + x;
-        if not_finite(sum) {
-            return row_overflow(place);
-        }
-        next[at] = sum;
-        return Check::Passed;
+        next[at] = tested(next[at] + x, place)?;
+    } else {
+        next[at] = x;
     }
-    next[at] = x;
-    Check::Passed
+    Ok(())
 }
 
 // The discounted price × probability, contributed.
+#[tactic(auto, unfolding(floats::specs::Answers::on_outcome, crate::specs::laws::FitSteps::share_at, lattice::specs::laws::Rows::outcome_of))]
 fn add_share(
     next: &mut [f64],
     at: usize,
@@ -175,18 +139,16 @@ fn add_share(
     price: f64,
     probability: f64,
     place: u32,
-) -> Check
+) -> Result<(), Refusal>
     requires { at < length next.old }
     ensures { outcome_of result next.new ≡ share_at place at count price probability next.old }
 {
-    let x = price * probability;
-    if not_finite(x) {
-        return row_overflow(place);
-    }
+    let x = tested(price * probability, place)?;
     add_at(next, at, count, x, place)
 }
 
 // Down, middle, up: a node's three contributions. `before` and `after` count what is reached without the node and with it.
+#[tactic(auto, unfolding(floats::specs::Answers::on_outcome, crate::specs::laws::FitSteps::add_three, lattice::specs::laws::Rows::outcome_of))]
 fn add_three(
     next: &mut [f64],
     flat: bool,
@@ -197,7 +159,7 @@ fn add_three(
     middle: f64,
     up: f64,
     place: u32,
-) -> Check
+) -> Result<(), Refusal>
     requires { (3 ≤ after) × (spot_at flat after 1 < length next.old) }
     ensures { outcome_of result next.new ≡ add_three place flat before after price down middle up next.old }
 {
@@ -206,14 +168,8 @@ fn add_three(
     let high = spot(flat, after, 1);
     let first = passed(before, low);
     let second = passed(first, mid);
-    let a = add_share(next, low, before, price, down, place);
-    let Check::Passed = a else {
-        return a;
-    };
-    let b = add_share(next, mid, first, price, middle, place);
-    let Check::Passed = b else {
-        return b;
-    };
+    add_share(next, low, before, price, down, place)?;
+    add_share(next, mid, first, price, middle, place)?;
     add_share(next, high, second, price, up, place)
 }
 
@@ -228,7 +184,7 @@ pub fn onward(
     dt: f64,
     shift: f64,
     place: u32,
-) -> Check
+) -> Result<(), Refusal>
     requires { Layered flat (length next.old) nodes.now probabilities.now (length row.now) }
     ensures { outcome_of result next.new ≡ onward_at spacing dt shift place flat (start_of nodes.now) nodes.now probabilities.now row.now next.old }
 {
@@ -241,14 +197,11 @@ pub fn onward(
         let node = nodes[i * 2];
         let middle = nodes[i * 2 + 1];
         let e = es[i % 64];
-        let d = discounted(good, e, node as f64, row[i], spacing, dt, shift, place);
-        let Answer::Value(price) = d else {
-            return refused_by(d);
-        };
+        let price = discounted(good, e, node as f64, row[i], spacing, dt, shift, place)?;
         let after = reached(r, middle);
         let before = r.count;
         let count = after.count;
-        let a = add_three(
+        add_three(
             next,
             flat,
             before,
@@ -258,12 +211,9 @@ pub fn onward(
             probabilities[i * 3 + 1],
             probabilities[i * 3 + 2],
             place,
-        );
-        let Check::Passed = a else {
-            return a;
-        };
+        )?;
         r = after;
         i += 1;
     }
-    Check::Passed
+    Ok(())
 }

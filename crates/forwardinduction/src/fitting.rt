@@ -13,11 +13,10 @@ ghost use Rattle.forwardinduction.specs.laws.Fitting.{moved_of, row_in};
 
 use crate::layer::{advance, layer_shift};
 use crate::rows::current;
-use floats::Answer;
-use terms::Check;
-use terms::refusing::refused_by;
+use floats::Refusal;
 
 // One step: the shift of the current row, then the other row.
+#[tactic(auto, unfolding(floats::specs::Answers::on_outcome, crate::specs::laws::Advances::step_at, lattice::specs::laws::Rows::outcome_of))]
 fn fit_step(
     nodes: &[i32],
     probabilities: &[f64],
@@ -30,18 +29,15 @@ fn fit_step(
     step: u32,
     first: &mut [f64],
     second: &mut [f64],
-) -> Answer
+) -> Result<f64, Refusal>
     requires count_in_bounds { (count ≤ length first.old) × (count ≤ length second.old) }
     requires layered { (Layered flat (length first.old) nodes.now probabilities.now count) × (Layered flat (length second.old) nodes.now probabilities.now count) }
     requires step_bound { step + 1 < 2 ^ 32 }
     ensures { moved_of result (record { first = first.exit.now; second = second.new }) ≡ step_at (curve_over times.now factors.now) dt step flat count spacing nodes.now probabilities.now (record { first = first.entry.now; second = second.old }) }
 {
     let row = current(first, second, step, count);
-    let s = layer_shift(nodes, row, spacing, times, factors, dt, step);
-    let Answer::Value(shift) = s else {
-        return s;
-    };
-    let a = advance(
+    let shift = layer_shift(nodes, row, spacing, times, factors, dt, step)?;
+    advance(
         nodes,
         probabilities,
         first,
@@ -52,11 +48,8 @@ fn fit_step(
         dt,
         shift,
         step,
-    );
-    let Check::Refused(q) = a else {
-        return s;
-    };
-    Answer::Refused(q)
+    )?;
+    Ok(shift)
 }
 
 // The shifts of the layers from `step` on, the first one's state prices standing in the current row.
@@ -73,18 +66,18 @@ pub fn fit(
     first: &mut [f64],
     second: &mut [f64],
     shifts: &mut [f64],
-) -> Check
+) -> Result<(), Refusal>
     requires laid { Laid flat (length first.old) (length second.old) counts.now spacings.now nodes.now probabilities.now }
     requires shifts_len { (length shifts.old ≡ length spacings.now) × (step + length spacings.now + 1 < 2 ^ 32) }
     ensures { Found (shifts_from (curve_over times.now factors.now) dt step (layers_in flat counts.now spacings.now nodes.now probabilities.now) (row_in step (get_or counts.now 0 0) nodes.now (record { first = first.entry.now; second = second.old }))) result shifts.new }
 {
     if spacings.len() == 0 {
-        return Check::Passed;
+        return Ok(());
     }
     let count = counts[0];
     let pairs = count * 2;
     let threes = count * 3;
-    let s = fit_step(
+    let shift = fit_step(
         &nodes[..pairs],
         &probabilities[..threes],
         count,
@@ -96,10 +89,7 @@ pub fn fit(
         step,
         first,
         second,
-    );
-    let Answer::Value(shift) = s else {
-        return refused_by(s);
-    };
+    )?;
     shifts[0] = shift;
     fit(
         &nodes[pairs..],
@@ -130,7 +120,7 @@ pub fn fit_tree(
     first: &mut [f64],
     second: &mut [f64],
     shifts: &mut [f64],
-) -> Check
+) -> Result<(), Refusal>
     requires laid { Laid flat (length first.old) (length second.old) counts.now spacings.now nodes.now probabilities.now }
     requires shifts_len { (length shifts.old ≡ length spacings.now) × (length spacings.now + 1 < 2 ^ 32) }
     requires counts_value { (get_or counts.now 0 0 ≡ 1) × (numbers_in (front_nodes 1 nodes.now) ≡ root_layer) }

@@ -9,26 +9,19 @@ ghost use Rattle.lattice.specs.laws.Rows.{outcome_of, Both};
 ghost use Rattle.forwardinduction.specs.laws.Advances.{layer_shift, advanced_at};
 
 use crate::fit::{onward, shift_from, weighted_sum};
-use floats::Answer;
-use floats::finite::not_finite;
-use floats::refusals::overflow;
-use terms::Check;
+use floats::Refusal;
+use floats::finite::tested;
 use terms::curve::curve_at;
 
 // The shift of a step: the curve is read at time_step × (step + 1).
-fn shift_of(times: &[f64], factors: &[f64], dt: f64, place: u32, sum: f64) -> Answer
+#[tactic(auto, unfolding(floats::specs::Answers::on_outcome, crate::specs::Fit::shift_of, crate::specs::laws::FitSteps::shift_from))]
+fn shift_of(times: &[f64], factors: &[f64], dt: f64, place: u32, sum: f64) -> Result<f64, Refusal>
     requires { place + 1 < 2 ^ 32 }
     ensures { result ≡ shift_of (curve_over times.now factors.now) dt place sum }
 {
     let next = place + 1;
-    let time = dt * next as f64;
-    if not_finite(time) {
-        return overflow(place);
-    }
-    let f = curve_at(times, factors, time, place);
-    let Answer::Value(factor) = f else {
-        return f;
-    };
+    let time = tested(dt * next as f64, place)?;
+    let factor = curve_at(times, factors, time, place)?;
     shift_from(sum, factor, dt, place)
 }
 
@@ -41,18 +34,16 @@ pub fn layer_shift(
     factors: &[f64],
     dt: f64,
     place: u32,
-) -> Answer
+) -> Result<f64, Refusal>
     requires { (length nodes.now ≡ length row.now * 2) × (place + 1 < 2 ^ 32) }
     ensures { result ≡ layer_shift (curve_over times.now factors.now) dt place spacing (row_of (numbers_in nodes.now) row.now) }
 {
-    let s = weighted_sum(nodes, row, spacing, dt, place);
-    let Answer::Value(sum) = s else {
-        return s;
-    };
+    let sum = weighted_sum(nodes, row, spacing, dt, place)?;
     shift_of(times, factors, dt, place, sum)
 }
 
 // The current row's contributions into the other: at an even step from the first to the second.
+#[tactic(auto, unfolding(floats::specs::Answers::on_outcome, crate::specs::laws::Advances::advanced_at, lattice::specs::laws::Rows::outcome_of))]
 pub fn advance(
     nodes: &[i32],
     probabilities: &[f64],
@@ -64,7 +55,7 @@ pub fn advance(
     dt: f64,
     shift: f64,
     step: u32,
-) -> Check
+) -> Result<(), Refusal>
     requires count_in_bounds { (count ≤ length first.old) × (count ≤ length second.old) }
     requires layered { (Layered flat (length first.old) nodes.now probabilities.now count) × (Layered flat (length second.old) nodes.now probabilities.now count) }
     ensures { outcome_of result (record { first = first.exit.now; second = second.new }) ≡ advanced_at spacing dt shift step flat count nodes.now probabilities.now (record { first = first.entry.now; second = second.old }) }

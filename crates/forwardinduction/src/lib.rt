@@ -1,5 +1,5 @@
 // Forward induction over the layers: the fit to the curve.
-#![tactic(auto)]
+#![tactic(auto, unfolding(floats::specs::Answers::on_outcome))]
 
 mod exps;
 pub mod fit;

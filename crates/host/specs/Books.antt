@@ -1,5 +1,6 @@
 -- Definitions only. What a C caller is handed of a book: the refusal number as the result, 0 where accepted, the place, the refused bond, and the outputs, 0 on a refusal.
 use Rattle.std.specs.Prelude.{ℕ, ◌≡◌, List, Float}
+use Rattle.floats.specs.Reasons.{refusal_number, refusal_place}
 use Rattle.treebasedbondpricer.specs.Tree.{Lent, room_of}
 use Rattle.bookchecks.specs.Book.{Book}
 use Rattle.bookvalue.specs.declared.BookAnswer.{BookAnswer}
@@ -7,8 +8,8 @@ use Rattle.bookvalue.specs.Values.{book_value}
 use Rattle.bookvalue.specs.Entry.{book_lent}
 
 pub record HandedAnswer (answer : BookAnswer) (result place bond : ℕ) (values : List Float) (sum : Float) (counts : List ℕ) : Type 0 where
-  pub number_is : result ≡ answer.refusal.number
-  pub place_is : place ≡ answer.refusal.place
+  pub number_is : result ≡ refusal_number answer.refusal
+  pub place_is : place ≡ refusal_place answer.refusal
   pub bond_is : bond ≡ answer.bond
   pub values_are : values ≡ answer.values
   pub sum_is : sum ≡ answer.sum

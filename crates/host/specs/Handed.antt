@@ -1,7 +1,7 @@
 -- Definitions only. What a C caller is handed of an answer: the refusal number as the result, 0 where accepted, the place, and the outputs, 0 on a refusal.
 use Rattle.std.specs.Prelude.{ℕ, ◌≡◌, List, map, length, ℤ, Float}
-use Rattle.floats.specs.declared.Answer.{Answer}
-use Rattle.floats.specs.Answers.{number_of, place_of, value_of}
+use Rattle.floats.specs.Reasons.{refusal_number, refusal_place}
+use Rattle.floats.specs.Answers.{Answer, number_of, place_of, value_of, Outcome}
 use Rattle.callnotices.specs.declared.CallList.{CallList}
 use Rattle.bondevents.specs.declared.GridAnswer.{GridAnswer}
 use Rattle.bondevents.specs.declared.Side.TheVariants.{Call, Put}
@@ -10,14 +10,14 @@ use Rattle.treebasedbondpricer.specs.declared.TreeValue.{TreeValue}
 use Rattle.terms.specs.Terms.{CallSchedule, Market}
 use Rattle.treebasedbondpricer.specs.Tree.{tree_value, Lent, room_of, lent_after}
 use Rattle.treebasedbondpricer.specs.Tree as tree
-use Rattle.sizing.specs.declared.Sizes.{Sizes}
+use Rattle.sizing.specs.declared.Lengths.{Lengths}
 use Rattle.sizing.specs.Sizing.{sizes_of, nodes_after, sizes_number, sizes_place, needed}
 use Rattle.interestrate.specs.declared.YieldPrice.{YieldPrice}
 use Rattle.brackets.specs.declared.Root.{Root}
 use Rattle.spreads.specs.Spreads.{Quoted, spread_from_price}
 use Rattle.spreads.specs.Spreads as spreads
 use Rattle.bondanalytics.specs.Yields.{price_number, price_place, price_of, derivative_of}
-use Rattle.brackets.specs.Brackets.{root_number, root_place, root_value, evaluations_of}
+use Rattle.brackets.specs.Brackets.{Searched, root_number, root_place, root_value, evaluations_of}
 
 -- Of an elementary function and of the straight value.
 pub record Handed (answer : Answer) (result place : ℕ) (value : Float) : Type 0 where
@@ -27,8 +27,8 @@ pub record Handed (answer : Answer) (result place : ℕ) (value : Float) : Type 
 
 -- Of the grid: all 513 cashflows, and marks and prices of calls and of puts.
 pub record HandedGrid (answer : GridAnswer) (result place : ℕ) (maturity : Float) (steps : ℕ) (cashflows : List Float) (marks : List ℕ) (prices : List Float) (put-marks : List ℕ) (put-prices : List Float) : Type 0 where
-  pub number_is : result ≡ answer.refusal.number
-  pub place_is : place ≡ answer.refusal.place
+  pub number_is : result ≡ refusal_number answer.refusal
+  pub place_is : place ≡ refusal_place answer.refusal
   pub maturity_is : maturity ≡ answer.grid.maturity_time
   pub steps_is : steps ≡ answer.grid.steps
   pub cashflows_are : cashflows ≡ answer.grid.cashflows
@@ -39,15 +39,15 @@ pub record HandedGrid (answer : GridAnswer) (result place : ℕ) (maturity : Flo
 
 -- Of the call list that notices give: all 64 places.
 pub record HandedList (answer : CallList) (result place count : ℕ) (starts ends : List ℕ) (strikes : List Float) : Type 0 where
-  pub number_is : result ≡ answer.refusal.number
-  pub place_is : place ≡ answer.refusal.place
+  pub number_is : result ≡ refusal_number answer.refusal
+  pub place_is : place ≡ refusal_place answer.refusal
   pub count_is : count ≡ answer.count
   pub starts_are : starts ≡ answer.starts
   pub ends_are : ends ≡ answer.ends
   pub strikes_are : strikes ≡ answer.strikes
 
 -- Of the tree value.
-pub record HandedValue (answer : TreeValue) (result place : ℕ) (value : Float) (nodes : ℕ) : Type 0 where
+pub record HandedValue (answer : Outcome TreeValue) (result place : ℕ) (value : Float) (nodes : ℕ) : Type 0 where
   pub number_is : result ≡ tree.number_of answer
   pub place_is : place ≡ tree.place_of answer
   pub value_is : value ≡ tree.value_of answer
@@ -59,14 +59,14 @@ pub record HandedTree (m : Market) (calls : CallSchedule) (before after : Lent) 
   pub slices : after ≡ lent_after m calls before
 
 -- Of price from yield.
-pub record HandedPrice (answer : YieldPrice) (result place : ℕ) (price derivative : Float) : Type 0 where
+pub record HandedPrice (answer : Outcome YieldPrice) (result place : ℕ) (price derivative : Float) : Type 0 where
   pub number_is : result ≡ price_number answer
   pub place_is : place ≡ price_place answer
   pub price_is : price ≡ price_of answer
   pub derivative_is : derivative ≡ derivative_of answer
 
 -- Of yield from price; evaluations are reported on refusals too.
-pub record HandedRoot (answer : Root) (result place : ℕ) (value : Float) (evaluations : ℕ) : Type 0 where
+pub record HandedRoot (answer : Searched Root) (result place : ℕ) (value : Float) (evaluations : ℕ) : Type 0 where
   pub number_is : result ≡ root_number answer
   pub place_is : place ≡ root_place answer
   pub value_is : value ≡ root_value answer
@@ -78,7 +78,7 @@ pub record HandedSpread (asked : Quoted) (calls : CallSchedule) (before after : 
   pub slices : after ≡ spreads.lent_after asked calls before
 
 -- Of sizing: the lengths and the node count.
-pub record HandedLengths (answer : Sizes) (result place nodes probabilities row count : ℕ) : Type 0 where
+pub record HandedLengths (answer : Outcome Lengths) (result place nodes probabilities row count : ℕ) : Type 0 where
   pub number_is : result ≡ sizes_number answer
   pub place_is : place ≡ sizes_place answer
   pub nodes_is : nodes ≡ (needed answer).nodes

@@ -1,13 +1,14 @@
 -- Definitions only. What a C caller is handed of a bond's line of the closing sheet: the refusal number as the result, 0 where a value is shown, the place, and the 35 bytes.
 use Rattle.std.specs.Prelude.{ℕ, ◌≡◌, List}
+use Rattle.floats.specs.Reasons.{refusal_number, refusal_place}
 use Rattle.terms.specs.Terms.{CallSchedule, Market}
 use Rattle.treebasedbondpricer.specs.Tree.{tree_value, Lent, room_of, lent_after}
 use Rattle.closingsheet.specs.declared.ClosingLine.{ClosingLine}
 use Rattle.closingsheet.specs.Sheet.{sheet_of}
 
 pub record HandedLine (answer : ClosingLine) (result place : ℕ) (line : List ℕ) : Type 0 where
-  pub number_is : result ≡ answer.refusal.number
-  pub place_is : place ≡ answer.refusal.place
+  pub number_is : result ≡ refusal_number answer.refusal
+  pub place_is : place ≡ refusal_place answer.refusal
   pub line_is : line ≡ answer.line
 
 -- Of the entry: the line of the tree value's answer, and the end content of the four lent slices.

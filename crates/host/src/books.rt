@@ -6,6 +6,7 @@ ghost use Rattle.treebasedbondpricer.specs.Slices.{lent_in, lent_out};
 ghost use Rattle.bookchecks.specs.Slices.{shared_of, lists_of, fields_in};
 ghost use Rattle.bookvalue.specs.Slices.{book_of};
 
+use crate::handing::hand_refusal;
 use bookvalue::BookAnswer;
 use bookvalue::entry::book_value;
 
@@ -19,15 +20,13 @@ fn hand_book(
 ) -> u32
     ensures { HandedAnswer answer result place.new bond.new values.new sum.new counts.new }
 {
-    let refusal = answer.refusal;
     let each = answer.values;
     let desks = answer.counts;
-    *place = refusal.place;
     *bond = answer.bond;
     *values = each;
     *sum = answer.sum;
     *counts = desks;
-    refusal.number
+    hand_refusal(answer.refusal, place)
 }
 
 // Each bond's value, their sum in book order and each desk's node count, all or none.

@@ -2,6 +2,7 @@
 
 ghost use Rattle.host.specs.Handed.{HandedGrid};
 
+use crate::handing::hand_refusal;
 use bondevents::marks::{marks_of, prices_of};
 use bondevents::{GridAnswer, Side};
 
@@ -19,11 +20,9 @@ pub fn hand_grid(
     ensures { HandedGrid answer result place.new maturity.new steps.new cashflows.new
         marks.new prices.new put_marks.new put_prices.new }
 {
-    let refusal = answer.refusal;
     let grid = answer.grid;
     let flows = grid.cashflows;
     let calls = grid.calls;
-    *place = refusal.place;
     *maturity = grid.maturity_time;
     *steps = grid.steps;
     *cashflows = flows;
@@ -35,5 +34,5 @@ pub fn hand_grid(
     *put_marks = put;
     let put_priced = prices_of(Side::Put, calls);
     *put_prices = put_priced;
-    refusal.number
+    hand_refusal(answer.refusal, place)
 }

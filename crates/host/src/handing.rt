@@ -1,82 +1,121 @@
 // Writes an answer through the references that a C caller lends, and gives its refusal number.
 
+ghost use Rattle.std.specs.Prelude.{◌≡◌};
+ghost use Rattle.floats.specs.Reasons.{refusal_number, refusal_place};
 ghost use Rattle.host.specs.Handed.{Handed, HandedValue, HandedPrice, HandedRoot};
 
-use brackets::Root;
-use floats::Answer;
+use brackets::{NoRoot, Root};
+use floats::Refusal;
 use interestrate::YieldPrice;
 use treebasedbondpricer::TreeValue;
 
-pub fn hand_over(answer: Answer, place: &mut u32, value: &mut f64) -> u32
-    ensures { Handed answer result place.new value.new }
+// Of what may be refused.
+pub fn hand_refusal(refusal: Option<Refusal>, place: &mut u32) -> u32
+    ensures number { result ≡ refusal_number refusal }
+    ensures place { place.new ≡ refusal_place refusal }
 {
-    match answer {
-        Answer::Value(x) => {
+    match refusal {
+        None => {
             *place = 0;
-            *value = x;
             0
         }
-        Answer::Refused(why) => {
-            *place = why.place;
-            *value = 0.0;
-            why.number
+        Some(refusal) => {
+            *place = refusal.place;
+            refusal.reason.number()
         }
     }
 }
 
-pub fn hand_value(answer: TreeValue, place: &mut u32, value: &mut f64, nodes: &mut u64) -> u32
+pub fn hand_over(answer: Result<f64, Refusal>, place: &mut u32, value: &mut f64) -> u32
+    ensures { Handed answer result place.new value.new }
+{
+    match answer {
+        Ok(x) => {
+            *place = 0;
+            *value = x;
+            0
+        }
+        Err(why) => {
+            *place = why.place;
+            *value = 0.0;
+            why.reason.number()
+        }
+    }
+}
+
+pub fn hand_value(
+    answer: Result<TreeValue, Refusal>,
+    place: &mut u32,
+    value: &mut f64,
+    nodes: &mut u64,
+) -> u32
     ensures { HandedValue answer result place.new value.new nodes.new }
 {
     match answer {
-        TreeValue::Value(x, n) => {
+        Ok(TreeValue { value: x, nodes: n }) => {
             *place = 0;
             *value = x;
             *nodes = n;
             0
         }
-        TreeValue::Refused(refusal) => {
+        Err(refusal) => {
             *place = refusal.place;
             *value = 0.0;
             *nodes = 0;
-            refusal.number
+            refusal.reason.number()
         }
     }
 }
 
-pub fn hand_price(answer: YieldPrice, place: &mut u32, price: &mut f64, derivative: &mut f64) -> u32
+pub fn hand_price(
+    answer: Result<YieldPrice, Refusal>,
+    place: &mut u32,
+    price: &mut f64,
+    derivative: &mut f64,
+) -> u32
     ensures { HandedPrice answer result place.new price.new derivative.new }
 {
     match answer {
-        YieldPrice::Price(p, d) => {
+        Ok(
+            YieldPrice {
+                price: p,
+                derivative: d,
+            },
+        ) => {
             *place = 0;
             *price = p;
             *derivative = d;
             0
         }
-        YieldPrice::Refused(refusal) => {
+        Err(refusal) => {
             *place = refusal.place;
             *price = 0.0;
             *derivative = 0.0;
-            refusal.number
+            refusal.reason.number()
         }
     }
 }
 
-pub fn hand_root(answer: Root, place: &mut u32, value: &mut f64, evaluations: &mut u32) -> u32
+pub fn hand_root(
+    answer: Result<Root, NoRoot>,
+    place: &mut u32,
+    value: &mut f64,
+    evaluations: &mut u32,
+) -> u32
     ensures { HandedRoot answer result place.new value.new evaluations.new }
 {
     match answer {
-        Root::Found(x, n) => {
+        Ok(root) => {
             *place = 0;
-            *value = x;
-            *evaluations = n;
+            *value = root.at;
+            *evaluations = root.evaluations;
             0
         }
-        Root::Refused(refusal, n) => {
-            *place = refusal.place;
+        Err(none) => {
+            *place = none.refusal.place;
             *value = 0.0;
-            *evaluations = n;
-            refusal.number
+            *evaluations = none.evaluations;
+            none.refusal.reason.number()
         }
     }
 }

@@ -4,6 +4,7 @@ ghost use Rattle.callnotices.specs.Notices.{notices_in};
 ghost use Rattle.callnotices.specs.Lists.{call_list};
 ghost use Rattle.host.specs.Handed.{HandedList};
 
+use crate::handing::hand_refusal;
 use callnotices::CallList;
 use callnotices::entry::call_list;
 
@@ -17,16 +18,14 @@ fn hand_list(
 ) -> u32
     ensures { HandedList answer result place.new count.new starts.new ends.new strikes.new }
 {
-    let refusal = answer.refusal;
     let listed_starts = answer.starts;
     let listed_ends = answer.ends;
     let listed_strikes = answer.strikes;
-    *place = refusal.place;
     *count = answer.count;
     *starts = listed_starts;
     *ends = listed_ends;
     *strikes = listed_strikes;
-    refusal.number
+    hand_refusal(answer.refusal, place)
 }
 
 // The call list of the notices that stand: how many entries, and 64 starts, ends and strikes.

@@ -5,6 +5,7 @@ ghost use Rattle.terms.specs.declared.Settlement.{Settlement};
 ghost use Rattle.terms.specs.Slices.{leg_in, calls_in, sigma_in, pillars_in, market_in};
 ghost use Rattle.treebasedbondpricer.specs.Slices.{lent_in, lent_out};
 
+use crate::handing::hand_refusal;
 use closingsheet::ClosingLine;
 use closingsheet::entry::closing_line;
 use terms::Settlement;
@@ -12,11 +13,9 @@ use terms::Settlement;
 fn hand_line(answer: ClosingLine, place: &mut u32, line: &mut [u8; 35]) -> u32
     ensures { HandedLine answer result place.new line.new }
 {
-    let refusal = answer.refusal;
     let printed = answer.line;
-    *place = refusal.place;
     *line = printed;
-    refusal.number
+    hand_refusal(answer.refusal, place)
 }
 
 // A bond's line of the closing sheet: zero after 31, and printed after every other refusal.

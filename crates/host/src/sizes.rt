@@ -4,11 +4,12 @@ ghost use Rattle.host.specs.Handed.{HandedLengths, HandedSizes};
 ghost use Rattle.terms.specs.declared.Settlement.{Settlement};
 ghost use Rattle.terms.specs.Slices.{leg_in, calls_in, sigma_in, pillars_in, market_in};
 
-use sizing::Sizes;
+use floats::Refusal;
+use sizing::Lengths;
 use terms::Settlement;
 
 fn hand_sizes(
-    answer: Sizes,
+    answer: Result<Lengths, Refusal>,
     place: &mut u32,
     nodes: &mut u64,
     probabilities: &mut u64,
@@ -18,7 +19,7 @@ fn hand_sizes(
     ensures { HandedLengths answer result place.new nodes.new probabilities.new row.new count.new }
 {
     match answer {
-        Sizes::Sized(l) => {
+        Ok(l) => {
             *place = 0;
             *nodes = l.nodes;
             *probabilities = l.probabilities;
@@ -26,13 +27,13 @@ fn hand_sizes(
             *count = l.count;
             0
         }
-        Sizes::Refused(refusal) => {
+        Err(refusal) => {
             *place = refusal.place;
             *nodes = 0;
             *probabilities = 0;
             *row = 0;
             *count = 0;
-            refusal.number
+            refusal.reason.number()
         }
     }
 }

@@ -6,6 +6,7 @@ ghost use Rattle.terms.specs.declared.Settlement.{Settlement};
 ghost use Rattle.terms.specs.Slices.{leg_in, calls_in, sigma_in, pillars_in, market_in};
 ghost use Rattle.treebasedbondpricer.specs.Slices.{lent_in, lent_out};
 
+use crate::handing::hand_refusal;
 use spreadtable::SpreadTable;
 use spreadtable::entry::spread_table;
 use terms::Settlement;
@@ -13,12 +14,10 @@ use terms::Settlement;
 fn hand_page(answer: SpreadTable, place: &mut u32, length: &mut u32, page: &mut [u8; 4112]) -> u32
     ensures { HandedPage answer result place.new length.new page.new }
 {
-    let refusal = answer.refusal;
     let printed = answer.page;
-    *place = refusal.place;
     *length = answer.length;
     *page = printed;
-    refusal.number
+    hand_refusal(answer.refusal, place)
 }
 
 // A row for each shift and a column for each spread. After 45 the page is all zero and the slices are untouched; else they are all zero.

@@ -1,15 +1,12 @@
 -- Definitions only. hull_white_piecewise_variance and transition_variances, every operation tested in the order of the source.
-use Rattle.std.specs.Prelude.{ℕ, zero, suc, Bool, cond, ◌&&◌, List, [], ◌∷◌, Float}
+use Rattle.std.specs.Prelude.{ℕ, zero, suc, Bool, cond, ◌&&◌, List, [], ◌∷◌, Float, Ok}
 use Rattle.std.specs.Float.{binary64}
 use Rattle.std.specs.Float.Ieee.{add, sub, mul, div, neg, lt, le}
-use Rattle.floats.specs.declared.Answer.{Answer}
-use Rattle.floats.specs.declared.Answer.TheVariants.{Value}
-use Rattle.floats.specs.Answers.{plus_zero, two, and_then, tested, when_finite}
+use Rattle.floats.specs.Answers.{Answer, plus_zero, two, follow, tested, when_finite, Outcome}
 use Rattle.floats.specs.Extremes.{max_of, min_of}
 use Rattle.elementary.specs.Exponential.{exp_at, exp_m1_at}
 use Rattle.terms.specs.Numbers.{float, tolerance}
 use Rattle.terms.specs.Terms.{HullWhite}
-use Rattle.terms.specs.Outcomes.{Outcome, given, follow, valued}
 
 -- |alpha| < 1e-12.
 abbrev pub no_decay : Float → Bool
@@ -21,10 +18,10 @@ decaying_weight alpha lower upper end place =
     when_finite (mul binary64 (neg two) alpha) place λ rate.
     when_finite (sub binary64 end upper) place λ after.
     when_finite (mul binary64 rate after) place λ x.
-    and_then (exp_at x place) λ left.
+    follow (exp_at x place) λ left.
     when_finite (sub binary64 upper lower) place λ length.
     when_finite (mul binary64 rate length) place λ y.
-    and_then (exp_m1_at y place) λ grown.
+    follow (exp_m1_at y place) λ grown.
     when_finite (mul binary64 left (neg grown)) place λ both.
     when_finite (mul binary64 two alpha) place λ twice. tested (div binary64 both twice) place
 
@@ -37,8 +34,8 @@ weight alpha lower upper end place =
 unfoldable pub with_piece : Float → Float → Float → Float → Float → Float → ℕ → Answer
 unfolding add sub mul div neg lt le
 with_piece alpha lower upper end sigma total place =
-    cond (le upper lower) (Value total)
-    (and_then (weight alpha lower upper end place) λ w.
+    cond (le upper lower) (Ok total)
+    (follow (weight alpha lower upper end place) λ w.
     when_finite (mul binary64 sigma sigma) place λ square.
     when_finite (mul binary64 square w) place λ more. tested (add binary64 total more) place)
 
@@ -46,17 +43,17 @@ with_piece alpha lower upper end sigma total place =
 unfoldable pub pieces : Float → Float → Float → Float → List Float → List Float → Float → ℕ → Answer
 unfolding with_piece max_of min_of
 pieces alpha start end lower (next ∷ times) (sigma ∷ sigmas) total place =
-    and_then (with_piece alpha lower (min_of end next) end sigma total place) λ total.
+    follow (with_piece alpha lower (min_of end next) end sigma total place) λ total.
     pieces alpha start end (max_of start next) times sigmas total place
 pieces alpha start end lower [] (sigma ∷ sigmas) total place = with_piece alpha lower end end sigma total place
-pieces alpha start end lower (next ∷ times) [] total place = Value total
-pieces alpha start end lower [] [] total place = Value total
+pieces alpha start end lower (next ∷ times) [] total place = Ok total
+pieces alpha start end lower [] [] total place = Ok total
 
 -- Entry 0 reaches back to the start.
 unfoldable pub variance_over : Float → List Float → List Float → Float → Float → ℕ → Answer
 unfolding pieces
 variance_over alpha (first ∷ times) sigmas start end place = pieces alpha start end start times sigmas plus_zero place
-variance_over alpha [] sigmas start end place = Value plus_zero
+variance_over alpha [] sigmas start end place = Ok plus_zero
 
 abbrev pub piecewise_variance : HullWhite → Float → Float → ℕ → Answer
 piecewise_variance model start end place = variance_over model.alpha model.sigma.times model.sigma.sigmas start end place
@@ -71,9 +68,9 @@ step_variance model dt k =
 -- The variances of the count steps from k on.
 unfoldable pub variances_from : HullWhite → Float → ℕ → ℕ → Outcome (List Float)
 unfolding step_variance
-variances_from model dt zero k = given []
+variances_from model dt zero k = Ok []
 variances_from model dt (suc count) k =
-    valued (step_variance model dt k) λ v. follow (variances_from model dt count (suc k)) λ vs. given (v ∷ vs)
+    follow (step_variance model dt k) λ v. follow (variances_from model dt count (suc k)) λ vs. Ok (v ∷ vs)
 
 -- transition_variances
 abbrev pub transition_variances : HullWhite → ℕ → Float → Outcome (List Float)

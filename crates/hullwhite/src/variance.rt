@@ -1,122 +1,89 @@
 // hull_white_piecewise_variance and transition_variances.
 
 ghost use Rattle.std.specs.Prelude.{◌≡◌, ◌≤◌, length};
-ghost use Rattle.terms.specs.Terms.{HullWhite};
 ghost use Rattle.hullwhite.specs.Variance.{with_piece, variance_over, step_variance, transition_variances};
 ghost use Rattle.hullwhite.specs.laws.Filled.{Filled, model_of};
 
-use crate::weight::weight;
-use floats::Answer;
-use floats::finite::not_finite;
+use crate::HullWhite;
+use crate::weight::{Piece, weight};
+use floats::Refusal;
+use floats::finite::tested;
 use floats::max::greater;
 use floats::min::lesser;
-use floats::refusals::overflow;
-use terms::Check;
-use terms::refusing::refused_by;
 
 // One sigma's piece: nothing where upper ≤ lower; else sigma × sigma × weight is added.
-fn with_piece(
-    alpha: f64,
-    lower: f64,
-    upper: f64,
-    end: f64,
-    sigma: f64,
-    total: f64,
-    place: u32,
-) -> Answer
-    ensures { result ≡ with_piece alpha lower upper end sigma total place }
+fn with_piece(alpha: f64, piece: Piece, sigma: f64, total: f64, place: u32) -> Result<f64, Refusal>
+    ensures { result ≡ with_piece alpha piece.lower piece.upper piece.end sigma total place }
 {
-    if upper <= lower {
-        return Answer::Value(total);
+    if piece.upper <= piece.lower {
+        return Ok(total);
     }
-    let weighed = weight(alpha, lower, upper, end, place);
-    let Answer::Value(w) = weighed else {
-        return weighed;
-    };
-    let square = sigma * sigma;
-    if not_finite(square) {
-        return overflow(place);
-    }
-    let more = square * w;
-    if not_finite(more) {
-        return overflow(place);
-    }
-    let sum = total + more;
-    if not_finite(sum) {
-        return overflow(place);
-    }
-    Answer::Value(sum)
+    let w = weight(alpha, piece, place)?;
+    let square = tested(sigma * sigma, place)?;
+    let more = tested(square * w, place)?;
+    tested(total + more, place)
 }
 
 // The variance from start to end: each sigma holds until the next time, entry 0 reaches back to the start.
 pub fn hull_white_piecewise_variance(
-    alpha: f64,
-    sigma_times: &[f64],
-    sigmas: &[f64],
+    model: HullWhite<'_>,
     start: f64,
     end: f64,
     place: u32,
-) -> Answer
-    ensures { result ≡ variance_over alpha sigma_times.now sigmas.now start end place }
+) -> Result<f64, Refusal>
+    ensures { result ≡ variance_over model.entry.alpha model.entry.sigma_times.now model.entry.sigmas.now start end place }
 {
+    let HullWhite {
+        alpha,
+        sigma_times,
+        sigmas,
+    } = model;
+    if sigma_times.is_empty() {
+        return Ok(0.0);
+    }
     let mut total = 0.0;
-    if sigma_times.len() == 0 {
-        return Answer::Value(total);
-    }
     let mut lower = start;
-    let mut i = 0;
-    while i < sigmas.len() {
-        let sigma = sigmas[i];
-        i += 1;
-        if sigma_times.len() <= i {
-            return with_piece(alpha, lower, end, end, sigma, total, place);
-        }
-        let next = sigma_times[i];
-        let piece = with_piece(alpha, lower, lesser(end, next), end, sigma, total, place);
-        let Answer::Value(sum) = piece else {
-            return piece;
+    for (i, sigma) in sigmas.iter().enumerate() {
+        let Some(next) = sigma_times.get(i + 1) else {
+            let last = Piece {
+                lower,
+                upper: end,
+                end,
+            };
+            return with_piece(alpha, last, *sigma, total, place);
         };
-        total = sum;
-        lower = greater(start, next);
+        let piece = Piece {
+            lower,
+            upper: lesser(end, *next),
+            end,
+        };
+        total = with_piece(alpha, piece, *sigma, total, place)?;
+        lower = greater(start, *next);
     }
-    Answer::Value(total)
+    Ok(total)
 }
 
 // Step k's interval is from k × time_step to that plus time_step.
-fn step_variance(alpha: f64, sigma_times: &[f64], sigmas: &[f64], time_step: f64, k: u32) -> Answer
-    ensures { result ≡ step_variance (model_of alpha sigma_times.now sigmas.now) time_step k }
+fn step_variance(model: HullWhite<'_>, time_step: f64, k: u32) -> Result<f64, Refusal>
+    ensures { result ≡ step_variance (model_of model.entry.alpha model.entry.sigma_times.now model.entry.sigmas.now) time_step k }
 {
-    let start = (k as f64) * time_step;
-    if not_finite(start) {
-        return overflow(k);
-    }
-    let end = start + time_step;
-    if not_finite(end) {
-        return overflow(k);
-    }
-    hull_white_piecewise_variance(alpha, sigma_times, sigmas, start, end, k)
+    let start = tested((k as f64) * time_step, k)?;
+    let end = tested(start + time_step, k)?;
+    hull_white_piecewise_variance(model, start, end, k)
 }
 
 // The variances of all steps, in front of the row.
 pub fn transition_variances(
-    alpha: f64,
-    sigma_times: &[f64],
-    sigmas: &[f64],
+    model: HullWhite<'_>,
     steps: u32,
     time_step: f64,
     variances: &mut [f64],
-) -> Check
+) -> Result<(), Refusal>
     requires { steps ≤ length variances.old }
-    ensures { Filled (transition_variances (model_of alpha sigma_times.now sigmas.now) steps time_step) result variances.old variances.new }
+    ensures { Filled (transition_variances (model_of model.entry.alpha model.entry.sigma_times.now model.entry.sigmas.now) steps time_step) result variances.old variances.new }
 {
-    let mut k: u32 = 0;
-    while k < steps {
-        let found = step_variance(alpha, sigma_times, sigmas, time_step, k);
-        let Answer::Value(v) = found else {
-            return refused_by(found);
-        };
-        variances[k as usize] = v;
-        k += 1;
+    for k in 0..steps {
+        variances[k as usize] = step_variance(model, time_step, k)?;
     }
-    Check::Passed
+    Ok(())
 }

@@ -5,9 +5,16 @@ ghost use Rattle.hullwhite.specs.Variance.{no_decay, decaying_weight, weight};
 
 use elementary::exp::exp_at;
 use elementary::exp_m1::exp_m1_at;
-use floats::Answer;
-use floats::finite::not_finite;
-use floats::refusals::overflow;
+use floats::Refusal;
+use floats::finite::tested;
+
+// The part from lower to upper of a step that ends at `end`.
+#[derive(Clone, Copy)]
+pub struct Piece {
+    pub lower: f64,
+    pub upper: f64,
+    pub end: f64,
+}
 
 // |alpha| < 1e-12.
 fn no_decay(alpha: f64) -> bool
@@ -17,62 +24,26 @@ fn no_decay(alpha: f64) -> bool
 }
 
 // exp(−2 alpha × (end − upper)) × (−exp_m1(−2 alpha × (upper − lower))) / (2 alpha).
-fn decaying_weight(alpha: f64, lower: f64, upper: f64, end: f64, place: u32) -> Answer
-    ensures { result ≡ decaying_weight alpha lower upper end place }
+fn decaying_weight(alpha: f64, piece: Piece, place: u32) -> Result<f64, Refusal>
+    ensures { result ≡ decaying_weight alpha piece.lower piece.upper piece.end place }
 {
-    let rate = -2.0 * alpha;
-    if not_finite(rate) {
-        return overflow(place);
-    }
-    let after = end - upper;
-    if not_finite(after) {
-        return overflow(place);
-    }
-    let x = rate * after;
-    if not_finite(x) {
-        return overflow(place);
-    }
-    let decayed = exp_at(x, place);
-    let Answer::Value(left) = decayed else {
-        return decayed;
-    };
-    let length = upper - lower;
-    if not_finite(length) {
-        return overflow(place);
-    }
-    let y = rate * length;
-    if not_finite(y) {
-        return overflow(place);
-    }
-    let gain = exp_m1_at(y, place);
-    let Answer::Value(grown) = gain else {
-        return gain;
-    };
-    let both = left * -grown;
-    if not_finite(both) {
-        return overflow(place);
-    }
-    let twice = 2.0 * alpha;
-    if not_finite(twice) {
-        return overflow(place);
-    }
-    let quotient = both / twice;
-    if not_finite(quotient) {
-        return overflow(place);
-    }
-    Answer::Value(quotient)
+    let rate = tested(-2.0 * alpha, place)?;
+    let after = tested(piece.end - piece.upper, place)?;
+    let left = exp_at(tested(rate * after, place)?, place)?;
+    let length = tested(piece.upper - piece.lower, place)?;
+    let grown = exp_m1_at(tested(rate * length, place)?, place)?;
+    let both = tested(left * -grown, place)?;
+    let twice = tested(2.0 * alpha, place)?;
+    tested(both / twice, place)
 }
 
 // |alpha| < 1e-12 takes upper − lower.
-pub fn weight(alpha: f64, lower: f64, upper: f64, end: f64, place: u32) -> Answer
-    ensures { result ≡ weight alpha lower upper end place }
+pub fn weight(alpha: f64, piece: Piece, place: u32) -> Result<f64, Refusal>
+    ensures { result ≡ weight alpha piece.lower piece.upper piece.end place }
 {
     if no_decay(alpha) {
-        let length = upper - lower;
-        if not_finite(length) {
-            return overflow(place);
-        }
-        return Answer::Value(length);
+        tested(piece.upper - piece.lower, place)
+    } else {
+        decaying_weight(alpha, piece, place)
     }
-    decaying_weight(alpha, lower, upper, end, place)
 }

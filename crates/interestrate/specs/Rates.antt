@@ -1,16 +1,15 @@
 -- Definitions only. Rate definitions and their codes.
-use Rattle.std.specs.Prelude.{ℕ, cond, List, [], ◌∷◌, eqb, Float}
+use Rattle.std.specs.Prelude.{ℕ, cond, List, [], ◌∷◌, eqb, Float, Ok, Err}
 use Rattle.std.specs.Float.{binary64}
 use Rattle.std.specs.Float.Ieee.{of_bits, mul, neg}
-use Rattle.terms.specs.declared.Check.{Check}
-use Rattle.terms.specs.declared.Check.TheVariants.{Passed, Refused}
+use Rattle.floats.specs.Answers.{Check, Outcome, follow, on_outcome, refusal}
 use Rattle.terms.specs.Numbers.{float}
-use Rattle.terms.specs.Outcomes.{Outcome, given, refuse, follow, on_outcome}
 use Rattle.interestrate.specs.declared.Frequency.{Frequency}
 use Rattle.interestrate.specs.declared.Frequency.TheVariants.{Annual, Semiannual, EveryFourthMonth, Quarterly, Bimonthly, Monthly, EveryFourthWeek, Biweekly, Weekly, Daily, OtherFrequency}
 use Rattle.interestrate.specs.declared.Compounding.{Compounding}
 use Rattle.interestrate.specs.declared.Compounding.TheVariants.{Simple, Compounded, Continuous, SimpleThenCompounded, CompoundedThenSimple}
 use Rattle.interestrate.specs.declared.RateDefinition.{RateDefinition}
+use Rattle.floats.specs.declared.Reason.TheVariants as reason
 
 -- Frequency 1, 2, 3, 4, 6, 12, 13, 26, 52, 365, 999.
 abbrev pub per_year : Frequency → ℕ
@@ -32,14 +31,14 @@ frequencies =
 
 -- The frequency with a code; 9 where there is none.
 unfoldable pub with_code : ℕ → List Frequency → Outcome Frequency
-with_code code [] = refuse 9 0
-with_code code (f ∷ fs) = cond (eqb code (per_year f)) (given f) (with_code code fs)
+with_code code [] = refusal reason.Rate 0
+with_code code (f ∷ fs) = cond (eqb code (per_year f)) (Ok f) (with_code code fs)
 
 abbrev pub frequency_of : ℕ → Outcome Frequency
 frequency_of code = with_code code frequencies
 
 abbrev pub rate_with : Compounding → Outcome RateDefinition
-rate_with c = given (record { compounding = c })
+rate_with c = Ok (record { compounding = c })
 
 -- Compounding 0 to 4: Simple, Compounded, Continuous, SimpleThenCompounded, CompoundedThenSimple. Simple and Continuous accept any frequency code and don't use it.
 unfoldable pub rate_of : ℕ → ℕ → Outcome RateDefinition
@@ -49,11 +48,11 @@ rate_of compounding code =
     (cond (eqb compounding 1) (follow (frequency_of code) λ f. rate_with (Compounded f))
     (cond (eqb compounding 2) (rate_with Continuous)
     (cond (eqb compounding 3) (follow (frequency_of code) λ f. rate_with (SimpleThenCompounded f))
-    (cond (eqb compounding 4) (follow (frequency_of code) λ f. rate_with (CompoundedThenSimple f)) (refuse 9 0)))))
+    (cond (eqb compounding 4) (follow (frequency_of code) λ f. rate_with (CompoundedThenSimple f)) (refusal reason.Rate 0)))))
 
 -- 9: compounding code unknown, or frequency unusable.
 abbrev pub rate_check : ℕ → ℕ → Check
-rate_check compounding code = on_outcome (rate_of compounding code) Refused λ r. Passed
+rate_check compounding code = on_outcome (rate_of compounding code) Err λ r. (Ok tt)
 
 abbrev pub frequency_float : Frequency → Float
 frequency_float f = float (per_year f)

@@ -1,26 +1,36 @@
 // Rate definitions, and price and derivative at a yield.
-#![tactic(auto)]
+#![tactic(auto, unfolding(floats::specs::Answers::on_outcome))]
 
-use floats::Refusal;
+ghost use Rattle.std.specs.Prelude.{◌≡◌};
+ghost use Rattle.interestrate.specs.Rates.{per_year};
 
 pub mod prices;
 pub mod rates;
 pub mod rows;
 
-// How often interest is compounded in a year.
+// How often interest is compounded in a year; the number of each is its code.
 #[derive(Clone, Copy)]
 pub enum Frequency {
-    Annual,
-    Semiannual,
-    EveryFourthMonth,
-    Quarterly,
-    Bimonthly,
-    Monthly,
-    EveryFourthWeek,
-    Biweekly,
-    Weekly,
-    Daily,
-    OtherFrequency,
+    Annual = 1,
+    Semiannual = 2,
+    EveryFourthMonth = 3,
+    Quarterly = 4,
+    Bimonthly = 6,
+    Monthly = 12,
+    EveryFourthWeek = 13,
+    Biweekly = 26,
+    Weekly = 52,
+    Daily = 365,
+    OtherFrequency = 999,
+}
+
+impl Frequency {
+    // How many times in a year.
+    pub fn per_year(self) -> u32
+        ensures { result ≡ per_year self }
+    {
+        self as u32
+    }
 }
 
 // A compounding, with its frequency where it is used.
@@ -38,23 +48,9 @@ pub struct RateDefinition {
     pub compounding: Compounding,
 }
 
-// A price and its derivative by the yield, or a refusal.
-#[derive(Drop)]
-pub enum YieldPrice {
-    Price(f64, f64),
-    Refused(Refusal),
-}
-
-// What a rate definition's codes give.
+// A price and its derivative by the yield.
 #[derive(Clone, Copy)]
-pub enum FoundRate {
-    Given(RateDefinition),
-    Refused(Refusal),
-}
-
-// What a frequency's code gives.
-#[derive(Drop)]
-pub enum FoundFrequency {
-    Given(Frequency),
-    Refused(Refusal),
+pub struct YieldPrice {
+    pub price: f64,
+    pub derivative: f64,
 }

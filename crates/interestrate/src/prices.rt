@@ -1,7 +1,7 @@
 // The price of the paid cashflows at a yield, and its derivative by the yield.
 ghost use Rattle.std.specs.Prelude.{◌≡◌, ◌≤◌, ◌<◌, length};
 ghost use Rattle.floats.specs.Answers.{plus_zero};
-ghost use Rattle.interestrate.specs.Prices.{no, simply, compoundly, continuously, discount_and_derivative, with_flow, flows};
+ghost use Rattle.interestrate.specs.Prices.{simply, compoundly, continuously, discount_and_derivative, with_flow, flows};
 ghost use Rattle.interestrate.specs.laws.Rows.{KnownFlow, DiscountRow, RowRoom, PartEnd, join_sums};
 ghost use Rattle.terms.specs.Times.{time_from};
 
@@ -10,101 +10,73 @@ use crate::rows::discount_row;
 use crate::{Compounding, RateDefinition, YieldPrice};
 use elementary::exp::exp_at;
 use elementary::powf::powf_at;
-use floats::finite::not_finite;
-use floats::refusals::refusal_of;
-use floats::{Answer, Refusal};
+use floats::finite::tested;
+use floats::{Reason, Refusal};
 use rounded::mul_add::mul_add_at;
 use terms::Epoch;
 use terms::time::time_from;
 
-// A refusal with its number, at place 0.
-fn refused(number: u32) -> YieldPrice
-    ensures { result ≡ no number }
-{
-    YieldPrice::Refused(Refusal { number, place: 0 })
-}
-
 // Simple interest: 1/(rate × time + 1), and its derivative.
-pub fn simple(rate: f64, time: f64) -> YieldPrice
+pub fn simple(rate: f64, time: f64) -> Result<YieldPrice, Refusal>
     ensures { result ≡ simply rate time }
 {
-    let a = mul_add_at(rate, time, 1.0, 0);
-    let Answer::Value(compound) = a else {
-        return YieldPrice::Refused(refusal_of(a));
-    };
+    let compound = mul_add_at(rate, time, 1.0, 0)?;
     if compound <= 0.0 {
-        return refused(Refusal::YIELD_BASE);
+        return Err(Refusal {
+            reason: Reason::YieldBase,
+            place: 0,
+        });
     }
-    let discount = 1.0 / compound;
-    if not_finite(discount) {
-        return refused(Refusal::NOT_FINITE);
-    }
-    let square = compound * compound;
-    if not_finite(square) {
-        return refused(Refusal::NOT_FINITE);
-    }
-    let slope = -time / square;
-    if not_finite(slope) {
-        return refused(Refusal::NOT_FINITE);
-    }
-    YieldPrice::Price(discount, slope)
+    let discount = tested(1.0 / compound, 0)?;
+    let square = tested(compound * compound, 0)?;
+    let slope = tested(-time / square, 0)?;
+    Ok(YieldPrice {
+        price: discount,
+        derivative: slope,
+    })
 }
 
 // Compounded interest: base^(−frequency × time) with base rate/frequency + 1, and its derivative.
-pub fn compounded(rate: f64, time: f64, frequency: f64) -> YieldPrice
+pub fn compounded(rate: f64, time: f64, frequency: f64) -> Result<YieldPrice, Refusal>
     ensures { result ≡ compoundly rate time frequency }
 {
-    let part = rate / frequency;
-    if not_finite(part) {
-        return refused(Refusal::NOT_FINITE);
-    }
-    let base = part + 1.0;
-    if not_finite(base) {
-        return refused(Refusal::NOT_FINITE);
-    }
+    let part = tested(rate / frequency, 0)?;
+    let base = tested(part + 1.0, 0)?;
     if base <= 0.0 {
-        return refused(Refusal::YIELD_BASE);
+        return Err(Refusal {
+            reason: Reason::YieldBase,
+            place: 0,
+        });
     }
-    let power = -frequency * time;
-    if not_finite(power) {
-        return refused(Refusal::NOT_FINITE);
-    }
-    let a = powf_at(base, power, 0);
-    let Answer::Value(discount) = a else {
-        return YieldPrice::Refused(refusal_of(a));
-    };
-    let x = -time * discount;
-    if not_finite(x) {
-        return refused(Refusal::NOT_FINITE);
-    }
-    let derivative = x / base;
-    if not_finite(derivative) {
-        return refused(Refusal::NOT_FINITE);
-    }
-    YieldPrice::Price(discount, derivative)
+    let power = tested(-frequency * time, 0)?;
+    let discount = powf_at(base, power, 0)?;
+    let x = tested(-time * discount, 0)?;
+    let derivative = tested(x / base, 0)?;
+    Ok(YieldPrice {
+        price: discount,
+        derivative,
+    })
 }
 
 // Continuous interest: exp(−rate × time), and its derivative.
-pub fn continuous(rate: f64, time: f64) -> YieldPrice
+pub fn continuous(rate: f64, time: f64) -> Result<YieldPrice, Refusal>
     ensures { result ≡ continuously rate time }
 {
-    let x = -rate * time;
-    if not_finite(x) {
-        return refused(Refusal::NOT_FINITE);
-    }
-    let a = exp_at(x, 0);
-    let Answer::Value(discount) = a else {
-        return YieldPrice::Refused(refusal_of(a));
-    };
-    let derivative = -time * discount;
-    if not_finite(derivative) {
-        return refused(Refusal::NOT_FINITE);
-    }
-    YieldPrice::Price(discount, derivative)
+    let x = tested(-rate * time, 0)?;
+    let discount = exp_at(x, 0)?;
+    let derivative = tested(-time * discount, 0)?;
+    Ok(YieldPrice {
+        price: discount,
+        derivative,
+    })
 }
 
 // A yield's discount for one time and its derivative.
-pub fn yield_discount_and_derivative(rate: f64, time: f64, compounding: Compounding) -> YieldPrice
+pub fn yield_discount_and_derivative(
+    rate: f64,
+    time: f64,
+    compounding: Compounding,
+) -> Result<YieldPrice, Refusal>
     ensures { result ≡ discount_and_derivative rate time compounding }
 {
     match compounding {
@@ -129,18 +101,21 @@ pub fn yield_discount_and_derivative(rate: f64, time: f64, compounding: Compound
 }
 
 // A flow's discount and derivative each join their sum by mul_add.
-fn join_sums(amount: f64, discount: f64, slope: f64, price: f64, derivative: f64) -> YieldPrice
+fn join_sums(
+    amount: f64,
+    discount: f64,
+    slope: f64,
+    price: f64,
+    derivative: f64,
+) -> Result<YieldPrice, Refusal>
     ensures { result ≡ join_sums amount discount slope price derivative }
 {
-    let p = mul_add_at(amount, discount, price, 0);
-    let Answer::Value(new_price) = p else {
-        return YieldPrice::Refused(refusal_of(p));
-    };
-    let d = mul_add_at(amount, slope, derivative, 0);
-    let Answer::Value(new_derivative) = d else {
-        return YieldPrice::Refused(refusal_of(d));
-    };
-    YieldPrice::Price(new_price, new_derivative)
+    let new_price = mul_add_at(amount, discount, price, 0)?;
+    let new_derivative = mul_add_at(amount, slope, derivative, 0)?;
+    Ok(YieldPrice {
+        price: new_price,
+        derivative: new_derivative,
+    })
 }
 
 // One flow: both are worked out, and each joins its sum.
@@ -152,15 +127,12 @@ fn with_flow(
     amount: f64,
     price: f64,
     derivative: f64,
-) -> YieldPrice
+) -> Result<YieldPrice, Refusal>
     ensures { result ≡ with_flow rate compounding settlement day amount price derivative }
 {
     let time = time_from(settlement, day);
-    let a = yield_discount_and_derivative(rate, time, compounding);
-    let YieldPrice::Price(discount, slope) = a else {
-        return a;
-    };
-    join_sums(amount, discount, slope, price, derivative)
+    let flow = yield_discount_and_derivative(rate, time, compounding)?;
+    join_sums(amount, flow.price, flow.derivative, price, derivative)
 }
 
 // One flow, its discount and derivative given where they are good.
@@ -175,7 +147,7 @@ fn next_flow(
     good: bool,
     discount: f64,
     slope: f64,
-) -> YieldPrice
+) -> Result<YieldPrice, Refusal>
     requires { KnownFlow good (discount_and_derivative rate (time_from settlement day) compounding) discount slope }
     ensures { result ≡ with_flow rate compounding settlement day amount price derivative }
 {
@@ -205,7 +177,7 @@ fn summed(
     good: bool,
     discounts: &[f64],
     slopes: &[f64],
-) -> YieldPrice
+) -> Result<YieldPrice, Refusal>
     requires amounts_len { (length amounts.now ≡ length days.now) × (length discounts.now ≡ length days.now) × (length slopes.now ≡ length days.now) }
     requires discount_row { DiscountRow good (λ time. discount_and_derivative rate time compounding) settlement days.now discounts.now slopes.now }
     ensures { result ≡ flows rate compounding settlement days.now amounts.now first_price first_derivative }
@@ -220,7 +192,7 @@ fn summed(
         let slope = slopes[i];
         i += 1;
         if settlement.day < day {
-            let a = next_flow(
+            let sum = next_flow(
                 rate,
                 compounding,
                 settlement,
@@ -231,15 +203,12 @@ fn summed(
                 good,
                 discount,
                 slope,
-            );
-            let YieldPrice::Price(p, d) = a else {
-                return a;
-            };
-            price = p;
-            derivative = d;
+            )?;
+            price = sum.price;
+            derivative = sum.derivative;
         }
     }
-    YieldPrice::Price(price, derivative)
+    Ok(YieldPrice { price, derivative })
 }
 
 // The rows are filled, then the flows summed.
@@ -256,7 +225,7 @@ fn by_rows(
     discounts: &mut [f64],
     slopes: &mut [f64],
     rests: &mut [f64],
-) -> YieldPrice
+) -> Result<YieldPrice, Refusal>
     requires { (length amounts.now ≡ length days.now) × RowRoom (length days.now) times.old xs.old discounts.old slopes.old rests.old }
     ensures { result ≡ flows rate compounding settlement days.now amounts.now price derivative }
 {
@@ -294,7 +263,7 @@ fn part_flows(
     amounts: &[f64],
     price: f64,
     derivative: f64,
-) -> YieldPrice
+) -> Result<YieldPrice, Refusal>
     requires { (length amounts.now ≡ length days.now) × (length days.now ≤ 64) }
     ensures { result ≡ flows rate compounding settlement days.now amounts.now price derivative }
 {
@@ -338,7 +307,7 @@ pub fn yield_price_and_derivative(
     amounts: &[f64],
     rate: RateDefinition,
     y: f64,
-) -> YieldPrice
+) -> Result<YieldPrice, Refusal>
     requires { length amounts.now ≡ length days.now }
     ensures { result ≡ flows y rate.compounding settlement days.now amounts.now plus_zero plus_zero }
 {
@@ -348,7 +317,7 @@ pub fn yield_price_and_derivative(
     let mut i = 0;
     while i < days.len() {
         let end = part_end(i, days.len());
-        let a = part_flows(
+        let sum = part_flows(
             y,
             compounding,
             settlement,
@@ -356,13 +325,10 @@ pub fn yield_price_and_derivative(
             &amounts[i..end],
             price,
             derivative,
-        );
+        )?;
         i = end;
-        let YieldPrice::Price(p, d) = a else {
-            return a;
-        };
-        price = p;
-        derivative = d;
+        price = sum.price;
+        derivative = sum.derivative;
     }
-    YieldPrice::Price(price, derivative)
+    Ok(YieldPrice { price, derivative })
 }

@@ -7,7 +7,6 @@ use crate::Compounding;
 use crate::rates::frequency_value;
 use elementary::exps::exp_row;
 use elementary::ln::ln_at;
-use floats::Answer;
 use floats::finite::not_finite;
 use terms::Epoch;
 use terms::time::time_from;
@@ -71,8 +70,7 @@ fn compounded_row(
     if base <= 0.0 {
         return false;
     }
-    let a = ln_at(base, 0);
-    let Answer::Value(log) = a else {
+    let Ok(log) = ln_at(base, 0) else {
         return false;
     };
     exponents(frequency, log, settlement, days, times, xs);

@@ -1,16 +1,15 @@
 -- Definitions only. lattice_transitions: layers, transitions and spacings, or 21 to 24, 26, 27.
-use Rattle.std.specs.Prelude.{ℕ, zero, suc, ◌+◌, Bool, true, cond, ◌&&◌, List, [], ◌∷◌, length, ℤ, pos, Float}
+use Rattle.std.specs.Prelude.{ℕ, zero, suc, ◌+◌, Bool, true, cond, ◌&&◌, List, [], ◌∷◌, length, ℤ, pos, Float, Ok}
 use Rattle.std.specs.Float.{binary64}
 use Rattle.std.specs.Float.Ieee.{mul, neg, le}
-use Rattle.floats.specs.declared.Answer.{Answer}
-use Rattle.floats.specs.Answers.{plus_zero, one, two, when_finite}
+use Rattle.floats.specs.Answers.{Answer, plus_zero, one, two, when_finite, Outcome, follow, refusal}
 use Rattle.elementary.specs.Exponential.{exp_at}
 use Rattle.rounded.specs.Root.{sqrt_at}
 use Rattle.terms.specs.Numbers.{float, epsilon}
-use Rattle.terms.specs.Outcomes.{Outcome, given, follow, valued, finite_then, refuse}
 use Rattle.lattice.specs.declared.Transition.{Transition}
 use Rattle.lattice.specs.Layers.{insert, Room, fits}
 use Rattle.lattice.specs.Transitions.{Step, transition_of}
+use Rattle.floats.specs.declared.Reason.TheVariants as reason
 
 -- One step of the tree: its nodes rising, a transition for each, and the spacing of its states.
 pub record Layer : Type 0 where
@@ -26,8 +25,8 @@ pub record Lattice : Type 0 where
 -- Transitions with nodes rising.
 unfoldable pub transitions_of : Step → List ℤ → Outcome (List Transition)
 unfolding transition_of
-transitions_of s [] = given []
-transitions_of s (n ∷ ns) = follow (transition_of s n) λ t. follow (transitions_of s ns) λ ts. given (t ∷ ts)
+transitions_of s [] = Ok []
+transitions_of s (n ∷ ns) = follow (transition_of s n) λ t. follow (transitions_of s ns) λ ts. Ok (t ∷ ts)
 
 -- The next layer is the sorted set of destinations, gaps allowed.
 unfoldable pub destinations : List Transition → List ℤ
@@ -37,7 +36,7 @@ destinations (t ∷ ts) = insert t.down (insert t.middle (insert t.up (destinati
 
 -- 21: layer k doesn't fit. `before` counts the nodes of the layers below it.
 abbrev pub with_room : {A : Type 0} → Room → ℕ → List ℤ → ℕ → Outcome A → Outcome A
-with_room room before layer k next = cond (fits room (before + length layer) (length layer)) next (refuse 21 k)
+with_room room before layer k next = cond (fits room (before + length layer) (length layer)) next (refusal reason.NoRoom k)
 
 -- sqrt(variance × 3).
 abbrev pub spacing_of : Float → ℕ → Answer
@@ -47,22 +46,22 @@ spacing_of variance place = when_finite (mul binary64 variance (float 3)) place 
 unfoldable pub step_of : Float → Float → Float → ℕ → Outcome Step
 unfolding mul le
 step_of spacing decay variance k =
-    cond (le variance epsilon) (refuse 22 k)
-    (valued (spacing_of variance k) λ new.
-    finite_then (mul binary64 variance (float 6)) k λ denominator.
-    finite_then (mul binary64 new two) k λ scale.
-    given (record { spacing = spacing; decay = decay; new_spacing = new; denominator = denominator; scale = scale; place = k }))
+    cond (le variance epsilon) (refusal reason.NoVariance k)
+    (follow (spacing_of variance k) λ new.
+    when_finite (mul binary64 variance (float 6)) k λ denominator.
+    when_finite (mul binary64 new two) k λ scale.
+    Ok (record { spacing = spacing; decay = decay; new_spacing = new; denominator = denominator; scale = scale; place = k }))
 
 -- The steps from k on, layer k being tried already.
 unfoldable pub grown : Room → Float → Float → ℕ → List ℤ → ℕ → List Float → Outcome Lattice
 unfolding step_of transitions_of destinations
-grown room decay spacing before nodes k [] = given (record { layers = []; final = nodes })
+grown room decay spacing before nodes k [] = Ok (record { layers = []; final = nodes })
 grown room decay spacing before nodes k (v ∷ vs) =
     follow (step_of spacing decay v k) λ s.
     follow (transitions_of s nodes) λ ts.
     with_room room (before + length nodes) (destinations ts) (suc k)
     (follow (grown room decay s.new_spacing (before + length nodes) (destinations ts) (suc k) vs) λ rest.
-    given (record { layers = record { nodes = nodes; transitions = ts; spacing = spacing } ∷ rest.layers; final = rest.final }))
+    Ok (record { layers = record { nodes = nodes; transitions = ts; spacing = spacing } ∷ rest.layers; final = rest.final }))
 
 abbrev pub root_layer : List ℤ
 root_layer = pos 0 ∷ []
@@ -92,10 +91,10 @@ flat_layer =
 
 -- A flat tree tries 21 for layers 0 to steps too.
 unfoldable pub flat : Room → ℕ → ℕ → Outcome Lattice
-flat room k zero = with_room room k root_layer k (given (record { layers = []; final = root_layer }))
+flat room k zero = with_room room k root_layer k (Ok (record { layers = []; final = root_layer }))
 flat room k (suc left) =
     with_room room k root_layer k
-    (follow (flat room (suc k) left) λ rest. given (record { layers = flat_layer ∷ rest.layers; final = rest.final }))
+    (follow (flat room (suc k) left) λ rest. Ok (record { layers = flat_layer ∷ rest.layers; final = rest.final }))
 
 -- decay: exp(−alpha × time_step), place 0.
 abbrev pub decay_of : Float → Float → Answer
@@ -104,10 +103,10 @@ decay_of alpha dt = when_finite (mul binary64 (neg alpha) dt) 0 λ x. exp_at x 0
 -- Spacing 0 and 1 both come from variance 0. Layer 0 is tried after decay and spacing 0.
 unfoldable pub curved : Room → Float → Float → List Float → Outcome Lattice
 unfolding grown mul neg
-curved room alpha dt [] = given (record { layers = []; final = root_layer })
+curved room alpha dt [] = Ok (record { layers = []; final = root_layer })
 curved room alpha dt (v ∷ vs) =
-    valued (decay_of alpha dt) λ decay.
-    valued (spacing_of v 0) λ spacing. with_room room 0 root_layer 0 (grown room decay spacing 0 root_layer 0 (v ∷ vs))
+    follow (decay_of alpha dt) λ decay.
+    follow (spacing_of v 0) λ spacing. with_room room 0 root_layer 0 (grown room decay spacing 0 root_layer 0 (v ∷ vs))
 
 unfoldable pub lattice : Room → Float → Float → List Float → Outcome Lattice
 unfolding flat curved all_flat

@@ -1,15 +1,8 @@
 // The trinomial tree: what its layers and transitions are, and the transition of one node.
-#![tactic(auto)]
-
-ghost use Rattle.std.specs.Prelude.{◌≡◌};
-ghost use Rattle.lattice.specs.laws.MadeSteps.{step_refusal};
-ghost use Rattle.lattice.specs.laws.Growing.{layer_refusal};
-
-use floats::Refusal;
+#![tactic(auto, unfolding(floats::specs::Answers::on_outcome))]
 
 pub mod node;
 pub mod reach;
-pub mod refusals;
 
 // A node's expectation and its middle in the next layer: the rounded quotient, and the same as a node number.
 #[derive(Drop)]
@@ -30,49 +23,22 @@ pub struct Transition {
     pub probability_up: f64,
 }
 
-// The next layer is laid: its spacing and node count; or a refusal.
+// The next layer, laid: its spacing and node count.
 #[derive(Drop)]
-pub enum NextLayer {
-    Laid(f64, usize),
-    Refused(Refusal),
+pub struct NextLayer {
+    pub spacing: f64,
+    pub count: usize,
 }
 
-impl NextLayer {
-    // Its number and place, both 0 where it is laid.
-    pub fn refusal(self) -> Refusal
-        ensures { result ≡ layer_refusal self }
-    {
-        match self {
-            NextLayer::Laid(_, _) => Refusal {
-                number: 0,
-                place: 0,
-            },
-            NextLayer::Refused(refusal) => refusal,
-        }
-    }
-}
-
-// A step's new spacing and its two divisors; or a refusal.
+// A step's new spacing and its two divisors.
 #[derive(Drop)]
-pub enum MadeStep {
-    Made(f64, f64, f64),
-    Refused(Refusal),
+pub struct MadeStep {
+    pub spacing: f64,
+    pub denominator: f64,
+    pub scale: f64,
 }
 
 impl MadeStep {
     // 2^−52: a variance at or below it is none.
     pub const EPSILON: f64 = 2.220446049250313e-16;
-
-    // Its number and place, both 0 where it is made.
-    pub fn refusal(self) -> Refusal
-        ensures { result ≡ step_refusal self }
-    {
-        match self {
-            MadeStep::Made(_, _, _) => Refusal {
-                number: 0,
-                place: 0,
-            },
-            MadeStep::Refused(refusal) => refusal,
-        }
-    }
 }

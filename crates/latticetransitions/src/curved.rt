@@ -13,13 +13,9 @@ ghost use Rattle.layers.specs.laws.Known.{Before};
 ghost use Rattle.layers.specs.laws.Behind.{LaysBehind};
 
 use elementary::exp::exp_at;
-use floats::finite::not_finite;
-use floats::refusals::overflow;
-use floats::{Answer, Refusal};
-use lattice::NextLayer;
+use floats::finite::tested;
+use floats::{Reason, Refusal};
 use layers::grow::{grow, has_room, spacing_of};
-use terms::Check;
-use terms::refusing::refused_by;
 
 // The layers from `step` on, the first of `count` nodes being laid already, behind the `before` nodes of the layer that was made with was_spacing and was_variance.
 fn layers(
@@ -37,7 +33,7 @@ fn layers(
     before: usize,
     was_spacing: f64,
     was_variance: f64,
-) -> Check
+) -> Result<(), Refusal>
     requires front { Front count spacing decay (drop (before * 2) nodes.old) (drop (before * 3) probabilities.old) }
     requires counts_len { (length counts.old ≡ length variances.now + 1) × (length spacings.old ≡ length variances.now) }
     requires variances_bound { (step + length variances.now < 2 ^ 32) × (count ≤ one) × (count ≤ two) }
@@ -46,7 +42,7 @@ fn layers(
 {
     counts[0] = count;
     if variances.len() == 0 {
-        return Check::Passed;
+        return Ok(());
     }
     spacings[0] = spacing;
     let variance = variances[0];
@@ -63,17 +59,14 @@ fn layers(
         before,
         was_spacing,
         was_variance,
-    );
-    let NextLayer::Laid(new_spacing, new_count) = next else {
-        return Check::Refused(next.refusal());
-    };
+    )?;
     let pairs = before * 2;
     let threes = before * 3;
     layers(
         decay,
-        new_spacing,
+        next.spacing,
         step + 1,
-        new_count,
+        next.count,
         &variances[1..],
         &mut counts[1..],
         &mut spacings[1..],
@@ -88,14 +81,10 @@ fn layers(
 }
 
 // exp(−alpha × dt).
-pub fn decay_of(alpha: f64, dt: f64) -> Answer
+pub fn decay_of(alpha: f64, dt: f64) -> Result<f64, Refusal>
     ensures { result ≡ decay_of alpha dt }
 {
-    let x = -alpha * dt;
-    if not_finite(x) {
-        return overflow(0);
-    }
-    exp_at(x, 0)
+    exp_at(tested(-alpha * dt, 0)?, 0)
 }
 
 // The root, where it fits, then the layers.
@@ -109,7 +98,7 @@ fn rooted(
     probabilities: &mut [f64],
     one: usize,
     two: usize,
-) -> Check
+) -> Result<(), Refusal>
     requires t { (T (le plus_zero decay)) × (T (le plus_zero spacing)) × (length variances.now < 2 ^ 32) }
     requires counts_len { (length counts.old ≡ length variances.now + 1) × (length spacings.old ≡ length variances.now) }
     ensures { LaysTree false one two 1 root_layer (from_root (room_left nodes.old probabilities.old one two) decay spacing variances.now) result counts.new spacings.new nodes.new probabilities.new }
@@ -134,8 +123,8 @@ fn rooted(
             0.0,
         );
     }
-    Check::Refused(Refusal {
-        number: Refusal::NO_ROOM,
+    Err(Refusal {
+        reason: Reason::NoRoom,
         place: 0,
     })
 }
@@ -151,19 +140,13 @@ pub fn curved_tree(
     probabilities: &mut [f64],
     one: usize,
     two: usize,
-) -> Check
+) -> Result<(), Refusal>
     requires variances_nonzero { (0 < length variances.now) × (length variances.now < 2 ^ 32) }
     requires counts_len { (length counts.old ≡ length variances.now + 1) × (length spacings.old ≡ length variances.now) }
     ensures { LaysTree false one two 1 root_layer (curved (room_left nodes.old probabilities.old one two) alpha dt variances.now) result counts.new spacings.new nodes.new probabilities.new }
 {
-    let found = decay_of(alpha, dt);
-    let Answer::Value(decay) = found else {
-        return refused_by(found);
-    };
-    let first = spacing_of(variances[0], 0);
-    let Answer::Value(spacing) = first else {
-        return refused_by(first);
-    };
+    let decay = decay_of(alpha, dt)?;
+    let spacing = spacing_of(variances[0], 0)?;
     rooted(
         decay,
         spacing,

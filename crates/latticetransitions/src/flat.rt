@@ -7,24 +7,17 @@ ghost use Rattle.lattice.specs.laws.Growing.{room_left};
 ghost use Rattle.lattice.specs.laws.LaidTree.{LaysTree};
 ghost use Rattle.lattice.specs.laws.FlatLeft.{flat_left};
 
-use floats::Refusal;
+use floats::{Reason, Refusal};
 use lattice::MadeStep;
 use layers::grow::has_room;
-use terms::Check;
 
 // Whether all variances are at or below 2^−52.
 pub fn all_flat(variances: &[f64]) -> bool
     ensures { result ≡ all_flat variances.now }
 {
-    let mut i = 0;
-    while i < variances.len() {
-        if variances[i] <= MadeStep::EPSILON {
-            i += 1;
-        } else {
-            return false;
-        }
-    }
-    true
+    variances
+        .iter()
+        .all(|variance| *variance <= MadeStep::EPSILON)
 }
 
 // Node 0 in front, with middle 0: a layer of one.
@@ -57,19 +50,19 @@ fn flat_layers(
     probabilities: &mut [f64],
     one: usize,
     two: usize,
-) -> Check
+) -> Result<(), Refusal>
     requires { (length counts.old ≡ length spacings.old + 1) × (step + length spacings.old < 2 ^ 32) }
     ensures { LaysTree true one two 1 root_layer (flat_left (room_left nodes.old probabilities.old one two) step (length spacings.old)) result counts.new spacings.new nodes.new probabilities.new }
 {
     if !has_room(nodes.len(), probabilities.len(), one, two, 0, 1) {
-        return Check::Refused(Refusal {
-            number: Refusal::NO_ROOM,
+        return Err(Refusal {
+            reason: Reason::NoRoom,
             place: step,
         });
     }
     lay_node(counts, nodes);
     if spacings.len() == 0 {
-        return Check::Passed;
+        return Ok(());
     }
     lay_still(spacings, probabilities);
     flat_layers(
@@ -91,7 +84,7 @@ pub fn flat_tree(
     probabilities: &mut [f64],
     one: usize,
     two: usize,
-) -> Check
+) -> Result<(), Refusal>
     requires { (length counts.old ≡ length spacings.old + 1) × (length spacings.old < 2 ^ 32) }
     ensures { LaysTree true one two 1 root_layer (flat (room_left nodes.old probabilities.old one two) 0 (length spacings.old)) result counts.new spacings.new nodes.new probabilities.new }
 {

@@ -8,7 +8,7 @@ ghost use Rattle.lattice.specs.laws.Totals.{total_of};
 
 use crate::curved::curved_tree;
 use crate::flat::{all_flat, flat_tree};
-use terms::Check;
+use floats::Refusal;
 
 // Layers, transitions and spacings, or 21 to 24, 26, 27.
 pub fn lattice_transitions(
@@ -21,7 +21,7 @@ pub fn lattice_transitions(
     probabilities: &mut [f64],
     one: usize,
     two: usize,
-) -> Check
+) -> Result<(), Refusal>
     requires variances_nonzero { (0 < length variances.now) × (length variances.now < 2 ^ 32) }
     requires counts_len { (length counts.old ≡ length variances.now + 1) × (length spacings.old ≡ length variances.now) }
     ensures { LaysTree (all_flat variances.now) one two 1 root_layer (lattice (room_left nodes.old probabilities.old one two) alpha dt variances.now) result counts.new spacings.new nodes.new probabilities.new }
@@ -48,10 +48,8 @@ pub fn node_count(counts: &[usize]) -> u64
     ensures { result ≡ total_of counts.now }
 {
     let mut total: u64 = 0;
-    let mut i = 0;
-    while i < counts.len() {
-        total += counts[i] as u64;
-        i += 1;
+    for count in counts {
+        total += *count as u64;
     }
     total
 }

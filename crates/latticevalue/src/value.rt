@@ -5,31 +5,20 @@ ghost use Rattle.std.specs.Float.{binary64};
 ghost use Rattle.std.specs.Float.Ieee.{div};
 ghost use Rattle.terms.specs.Numbers.{float};
 ghost use Rattle.terms.specs.Curve.{curve_over};
-ghost use Rattle.terms.specs.Outcomes.{follow, finite_then};
+ghost use Rattle.floats.specs.Answers.{when_finite, follow};
 ghost use Rattle.hullwhite.specs.laws.Filled.{model_of};
 ghost use Rattle.lattice.specs.laws.Growing.{room_left};
 ghost use Rattle.backwardinduction.specs.laws.WalkMore.{calls_of};
 ghost use Rattle.treebasedbondpricer.specs.laws.FittedIn.{fitted_over};
-ghost use Rattle.treebasedbondpricer.specs.laws.Valued.{tree_of, counted_value, walked};
+ghost use Rattle.treebasedbondpricer.specs.laws.Valued.{tree_of, walked};
 
 use bondevents::BondEventGrid;
 use bondevents::marks::{step_marks, step_prices};
-use floats::Answer;
-use floats::refusals::refusal_of;
+use floats::Refusal;
 use latticetransitions::transitions::node_count;
 use rollback::walking::root_value;
 use treebasedbondpricer::TreeValue;
 use treebasedbondpricer::fitted::{FittedTree, fitted_tree};
-
-// The root's value beside the node count, or the refusal.
-fn counted_value(answer: Answer, count: u64) -> TreeValue
-    ensures { result ≡ counted_value answer count }
-{
-    let Answer::Value(value) = answer else {
-        return TreeValue::Refused(refusal_of(answer));
-    };
-    TreeValue::Value(value, count)
-}
 
 // Fit, then walk. Counts, spacings and shifts have room for the steps.
 fn value_over(
@@ -51,12 +40,12 @@ fn value_over(
     probabilities: &mut [f64],
     first: &mut [f64],
     second: &mut [f64],
-) -> TreeValue
+) -> Result<TreeValue, Refusal>
     requires steps_nonzero { (0 < steps) × (steps ≤ 512) × (length cashflows.now ≡ 513) × (length marks.now ≡ 513) × (length prices.now ≡ 1026) }
     requires counts_len { (length counts.old ≡ steps + 1) × (length spacings.old ≡ steps) × (length shifts.old ≡ steps) }
-    ensures { result ≡ tree_of (follow (finite_then (div binary64 maturity (float steps)) 0 λ dt. fitted_over (curve_over curve_times.now factors.now) (model_of alpha times.now sigmas.now) (room_left nodes.old probabilities.old (length first.old) (length second.old)) steps dt) λ f. walked spread cashflows.now (calls_of marks.now prices.now) f) }
+    ensures { result ≡ tree_of (follow (when_finite (div binary64 maturity (float steps)) 0 λ dt. fitted_over (curve_over curve_times.now factors.now) (model_of alpha times.now sigmas.now) (room_left nodes.old probabilities.old (length first.old) (length second.old)) steps dt) λ f. walked spread cashflows.now (calls_of marks.now prices.now) f) }
 {
-    let f = fitted_tree(
+    let FittedTree { dt, flat } = fitted_tree(
         maturity,
         steps,
         alpha,
@@ -71,11 +60,8 @@ fn value_over(
         probabilities,
         first,
         second,
-    );
-    let FittedTree::Fitted(dt, flat) = f else {
-        return TreeValue::Refused(f.refusal());
-    };
-    let answer = root_value(
+    )?;
+    let value = root_value(
         nodes,
         probabilities,
         counts,
@@ -89,8 +75,11 @@ fn value_over(
         spread,
         first,
         second,
-    );
-    counted_value(answer, node_count(counts))
+    )?;
+    Ok(TreeValue {
+        value,
+        nodes: node_count(counts),
+    })
 }
 
 // The root's value is the answer.
@@ -106,9 +95,9 @@ pub fn lattice_value(
     probabilities: &mut [f64],
     first: &mut [f64],
     second: &mut [f64],
-) -> TreeValue
+) -> Result<TreeValue, Refusal>
     requires { (0 < grid.steps) × (grid.steps ≤ 512) }
-    ensures { result ≡ tree_of (follow (finite_then (div binary64 grid.maturity_time (float grid.steps)) 0 λ dt. fitted_over (curve_over curve_times.now factors.now) (model_of alpha times.now sigmas.now) (room_left nodes.old probabilities.old (length first.old) (length second.old)) grid.steps dt) λ f. walked spread grid.cashflows grid.calls f) }
+    ensures { result ≡ tree_of (follow (when_finite (div binary64 grid.maturity_time (float grid.steps)) 0 λ dt. fitted_over (curve_over curve_times.now factors.now) (model_of alpha times.now sigmas.now) (room_left nodes.old probabilities.old (length first.old) (length second.old)) grid.steps dt) λ f. walked spread grid.cashflows grid.calls f) }
 {
     let maturity = grid.maturity_time;
     let steps = grid.steps;

@@ -17,54 +17,42 @@ ghost use Rattle.layers.specs.laws.Known.{Known, Before, KnownCount, SameWhere};
 ghost use Rattle.layers.specs.laws.Behind.{GrownBehind};
 
 use crate::layers::{count_next, fill, spread};
-use floats::finite::not_finite;
-use floats::refusals::{overflow, overflow_refusal, refusal_of};
-use floats::{Answer, Refusal};
+use floats::finite::tested;
+use floats::{Reason, Refusal};
 use lattice::{MadeStep, NextLayer};
 use rounded::sqrt::sqrt_at;
-use terms::Check;
 
 // sqrt(variance × 3).
-pub fn spacing_of(variance: f64, place: u32) -> Answer
+pub fn spacing_of(variance: f64, place: u32) -> Result<f64, Refusal>
     ensures { result ≡ spacing_of variance place }
 {
-    let x = variance * 3.0;
-    if not_finite(x) {
-        return overflow(place);
-    }
-    sqrt_at(x, place)
+    sqrt_at(tested(variance * 3.0, place)?, place)
 }
 
 // The two divisors beside the new spacing.
-fn divisors(variance: f64, new_spacing: f64, place: u32) -> MadeStep
+fn divisors(variance: f64, new_spacing: f64, place: u32) -> Result<MadeStep, Refusal>
     ensures { DivisorsMade variance new_spacing place result }
 {
-    let not_finite_here = overflow_refusal(place);
-    let denominator = variance * 6.0;
-    if not_finite(denominator) {
-        return MadeStep::Refused(not_finite_here);
-    }
-    let scale = new_spacing * 2.0;
-    if not_finite(scale) {
-        return MadeStep::Refused(not_finite_here);
-    }
-    MadeStep::Made(new_spacing, denominator, scale)
+    let denominator = tested(variance * 6.0, place)?;
+    let scale = tested(new_spacing * 2.0, place)?;
+    Ok(MadeStep {
+        spacing: new_spacing,
+        denominator,
+        scale,
+    })
 }
 
 // 22, then the new spacing and the two divisors.
-fn step_of(variance: f64, place: u32) -> MadeStep
+fn step_of(variance: f64, place: u32) -> Result<MadeStep, Refusal>
     ensures { StepMade variance place result }
 {
     if variance <= MadeStep::EPSILON {
-        return MadeStep::Refused(Refusal {
-            number: Refusal::NO_VARIANCE,
+        return Err(Refusal {
+            reason: Reason::NoVariance,
             place,
         });
     }
-    let found = spacing_of(variance, place);
-    let Answer::Value(new_spacing) = found else {
-        return MadeStep::Refused(refusal_of(found));
-    };
+    let new_spacing = spacing_of(variance, place)?;
     divisors(variance, new_spacing, place)
 }
 
@@ -81,19 +69,7 @@ pub fn has_room(
     ensures { result ≡ fits (room_of nodes probabilities one two) (count + next) next }
 {
     let all = count + next;
-    if nodes < 2 * all {
-        return false;
-    }
-    if probabilities < 3 * all {
-        return false;
-    }
-    if one < next {
-        return false;
-    }
-    if two < next {
-        return false;
-    }
-    true
+    2 * all <= nodes && 3 * all <= probabilities && next <= one && next <= two
 }
 
 // The next layer of one whose middles are there: counted, its room tried, then laid behind it.
@@ -105,7 +81,7 @@ fn lay_next(
     probabilities: usize,
     one: usize,
     two: usize,
-) -> NextLayer
+) -> Result<NextLayer, Refusal>
     requires { (0 < count) × (2 * count ≤ length nodes.old) × AllWithin (middles_from nodes.old 0 count) × (step + 1 < 2 ^ 32) }
     ensures { LaidNext (room_of (length nodes.old) probabilities one two) spacing step count result nodes.old nodes.new }
 {
@@ -113,10 +89,13 @@ fn lay_next(
     let next = reached.count;
     if has_room(nodes.len(), probabilities, one, two, count, next) {
         spread(count, nodes);
-        return NextLayer::Laid(spacing, next);
+        return Ok(NextLayer {
+            spacing,
+            count: next,
+        });
     }
-    NextLayer::Refused(Refusal {
-        number: Refusal::NO_ROOM,
+    Err(Refusal {
+        reason: Reason::NoRoom,
         place: step + 1,
     })
 }
@@ -166,12 +145,12 @@ fn grow_by(
     two: usize,
     before: usize,
     known: usize,
-) -> NextLayer
+) -> Result<NextLayer, Refusal>
     requires front { (Front count spacing decay (drop (before * 2) nodes.old) (drop (before * 3) probabilities.old)) × (Upright (step_from spacing decay new_spacing denominator scale step)) × (step + 1 < 2 ^ 32) }
     requires known_le_before { (known ≤ before) × Known (step_from spacing decay new_spacing denominator scale step) known nodes.old probabilities.old }
     ensures { GrownBehind (grown_from (room_left (drop (before * 2) nodes.old) (drop (before * 3) probabilities.old) one two) (step_from spacing decay new_spacing denominator scale step) (numbers_in (front_nodes count (drop (before * 2) nodes.old)))) before count result nodes.old nodes.new probabilities.old probabilities.new }
 {
-    let filled = fill(
+    fill(
         spacing,
         decay,
         new_spacing,
@@ -183,10 +162,7 @@ fn grow_by(
         probabilities,
         before,
         known,
-    );
-    if let Check::Refused(refusal) = filled {
-        return NextLayer::Refused(refusal);
-    }
+    )?;
     let pairs = before * 2;
     let threes = probabilities.len() - before * 3;
     lay_next(
@@ -215,22 +191,19 @@ pub fn grow(
     before: usize,
     was_spacing: f64,
     was_variance: f64,
-) -> NextLayer
+) -> Result<NextLayer, Refusal>
     requires front { (Front count spacing decay (drop (before * 2) nodes.old) (drop (before * 3) probabilities.old)) × (step + 1 < 2 ^ 32) }
     requires before { Before decay was_spacing was_variance before nodes.old probabilities.old }
     ensures { GrownBehind (grown_next (room_left (drop (before * 2) nodes.old) (drop (before * 3) probabilities.old) one two) decay spacing (numbers_in (front_nodes count (drop (before * 2) nodes.old))) step variance) before count result nodes.old nodes.new probabilities.old probabilities.new }
 {
-    let made = step_of(variance, step);
-    let MadeStep::Made(new_spacing, denominator, scale) = made else {
-        return NextLayer::Refused(made.refusal());
-    };
+    let made = step_of(variance, step)?;
     let known = known_count(before, was_spacing, was_variance, spacing, variance);
     grow_by(
         spacing,
         decay,
-        new_spacing,
-        denominator,
-        scale,
+        made.spacing,
+        made.denominator,
+        made.scale,
         step,
         count,
         nodes,

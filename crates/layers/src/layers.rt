@@ -1,9 +1,8 @@
 // The layers of the tree in the lent slices: a node's number and middle side by side, and its three probabilities.
 
 ghost use Rattle.std.specs.Prelude.{◌≡◌, ◌+◌, ◌*◌, ◌≤◌, ◌<◌, length, get_or, pos};
-ghost use Rattle.hullwhite.specs.laws.Filled.{check_of};
 ghost use Rattle.lattice.specs.Transitions.{transition_of};
-ghost use Rattle.lattice.specs.laws.Making.{made_outcome, step_from};
+ghost use Rattle.lattice.specs.laws.Making.{step_from};
 ghost use Rattle.lattice.specs.laws.Bounds.{Within, Numbered, AllWithin};
 ghost use Rattle.lattice.specs.laws.Reaching.{reach_one, reach, reach_all, nothing_below};
 ghost use Rattle.lattice.specs.laws.Laying.{Pushed, pushed, pushed_three, pushed_all};
@@ -11,20 +10,10 @@ ghost use Rattle.lattice.specs.laws.Counting.{middles_from};
 ghost use Rattle.layers.specs.laws.Known.{Known, StandsAt, stored_at};
 ghost use Rattle.layers.specs.laws.Behind.{FilledBehind};
 
+use floats::Refusal;
 use lattice::Transition;
-use lattice::node::{MadeTransition, transition_of};
+use lattice::node::transition_of;
 use lattice::reach::{Reach, nothing_below, reached};
-use terms::Check;
-
-// A refusal met on the way is handed up unchanged.
-fn unmade(made: MadeTransition) -> Check
-    ensures { result ≡ check_of (made_outcome made) }
-{
-    match made {
-        MadeTransition::Made(_) => Check::Passed,
-        MadeTransition::Refused(refusal) => Check::Refused(refusal),
-    }
-}
 
 // The first of `known` nodes from `at` on that isn't below this one.
 fn not_below(at: usize, known: usize, node: i32, nodes: &[i32]) -> usize
@@ -81,12 +70,12 @@ fn known_or_made(
     known: usize,
     nodes: &[i32],
     probabilities: &[f64],
-) -> MadeTransition
+) -> Result<Transition, Refusal>
     requires { Known (step_from spacing decay new_spacing denominator scale place) known nodes.now probabilities.now }
-    ensures { made_outcome result ≡ transition_of (step_from spacing decay new_spacing denominator scale place) node }
+    ensures { result ≡ transition_of (step_from spacing decay new_spacing denominator scale place) node }
 {
     if stands_at(j, known, node, nodes) {
-        return MadeTransition::Made(known_at(j, nodes, probabilities));
+        return Ok(known_at(j, nodes, probabilities));
     }
     transition_of(spacing, decay, new_spacing, denominator, scale, place, node)
 }
@@ -104,7 +93,7 @@ pub fn fill(
     probabilities: &mut [f64],
     before: usize,
     known: usize,
-) -> Check
+) -> Result<(), Refusal>
     requires count_in_bounds { ((before + count) * 2 ≤ length nodes.old) × ((before + count) * 3 ≤ length probabilities.old) × (known ≤ before) }
     requires known { Known (step_from spacing decay new_spacing denominator scale place) known nodes.old probabilities.old }
     ensures { FilledBehind (step_from spacing decay new_spacing denominator scale place) before count result nodes.old nodes.new probabilities.old probabilities.new }
@@ -115,7 +104,7 @@ pub fn fill(
         let at = before + i;
         let node = nodes[2 * at];
         j = not_below(j, known, node, nodes);
-        let made = known_or_made(
+        let t = known_or_made(
             spacing,
             decay,
             new_spacing,
@@ -127,10 +116,7 @@ pub fn fill(
             known,
             nodes,
             probabilities,
-        );
-        let MadeTransition::Made(t) = made else {
-            return unmade(made);
-        };
+        )?;
         let middle = t.middle;
         nodes[2 * at + 1] = middle;
         probabilities[3 * at] = t.probability_down;
@@ -138,7 +124,7 @@ pub fn fill(
         probabilities[3 * at + 2] = t.probability_up;
         i += 1;
     }
-    Check::Passed
+    Ok(())
 }
 
 // How many nodes of the next layer the middles of a layer of `count` nodes reach.

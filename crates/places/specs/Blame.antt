@@ -1,8 +1,8 @@
 -- Definitions only. The checks that look at each entry of a market, and whose entry a refusal is about.
-use Rattle.std.specs.Prelude.{ℕ, cond, List, [], ◌∷◌, ◌++◌, eqb}
+use Rattle.floats.specs.Reasons.{reason_number}
+use Rattle.std.specs.Prelude.{ℕ, cond, List, [], ◌∷◌, ◌++◌, eqb, Ok}
 use Rattle.floats.specs.declared.Refusal.{Refusal}
-use Rattle.terms.specs.declared.Check.{Check}
-use Rattle.terms.specs.declared.Check.TheVariants.{Passed}
+use Rattle.floats.specs.Answers.{Check}
 use Rattle.terms.specs.Numbers.{float}
 use Rattle.terms.specs.Terms.{CallSchedule, Market}
 use Rattle.terms.specs.Checks.{first_of, settings, day_count, settlement_day, leg_days, call_days, pillar_days, units_range, within, amount_range, strike_range, sigma_range, factor_range, call_order, sigma_order, any_paid, maturity_apart, positive_factors}
@@ -30,15 +30,15 @@ pillar_orders m = curve_orders m.settlement m.bond.leg m.pillars ++ positive_fac
 
 -- Passed where there is no such check.
 unfoldable pub checks_of : Market → CallSchedule → Whose → Looks
-checks_of m calls Nobody = looks Passed Passed Passed
-checks_of m calls Steps = looks Passed Passed (settings m.controls)
-checks_of m calls Settlement = looks (settlement_day m.settlement.day) Passed (first_of (settlement_orders m))
-checks_of m calls Units = looks Passed (units_range m.bond.units) Passed
-checks_of m calls Alpha = looks Passed (within (float 10) m.model.alpha) Passed
-checks_of m calls Spread = looks Passed (within (float 1) m.spread) Passed
-checks_of m calls Cashflow = looks (leg_days m.bond.leg) (amount_range m.bond.leg) Passed
+checks_of m calls Nobody = looks (Ok tt) (Ok tt) (Ok tt)
+checks_of m calls Steps = looks (Ok tt) (Ok tt) (settings m.controls)
+checks_of m calls Settlement = looks (settlement_day m.settlement.day) (Ok tt) (first_of (settlement_orders m))
+checks_of m calls Units = looks (Ok tt) (units_range m.bond.units) (Ok tt)
+checks_of m calls Alpha = looks (Ok tt) (within (float 10) m.model.alpha) (Ok tt)
+checks_of m calls Spread = looks (Ok tt) (within (float 1) m.spread) (Ok tt)
+checks_of m calls Cashflow = looks (leg_days m.bond.leg) (amount_range m.bond.leg) (Ok tt)
 checks_of m calls Call = looks (call_days calls) (strike_range calls) (call_order calls)
-checks_of m calls Sigma = looks Passed (sigma_range m.model.sigma) (sigma_order m.model.sigma)
+checks_of m calls Sigma = looks (Ok tt) (sigma_range m.model.sigma) (sigma_order m.model.sigma)
 checks_of m calls Pillar = looks (pillar_days m.pillars) (factor_range m.pillars) (first_of (pillar_orders m))
 
 abbrev pub day_check : Market → CallSchedule → Whose → Check
@@ -78,8 +78,8 @@ blamed_number m calls place =
 -- 3 by the days, 4 by the numbers, any other by itself.
 abbrev pub blamed : Market → CallSchedule → Refusal → Whose
 blamed m calls r =
-    cond (eqb r.number 3) (blamed_day m calls r.place)
-    (cond (eqb r.number 4) (blamed_number m calls r.place) (whose_order r.number))
+    cond (eqb (reason_number r.reason) 3) (blamed_day m calls r.place)
+    (cond (eqb (reason_number r.reason) 4) (blamed_number m calls r.place) (whose_order r.reason))
 
 -- The check of that number that looks there.
 abbrev pub check_of : Market → CallSchedule → ℕ → Whose → Check

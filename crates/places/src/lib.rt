@@ -1,6 +1,6 @@
 // Whose entry a refused input is about, so that a file's line can be named.
 
-#![tactic(auto)]
+#![tactic(auto, unfolding(floats::specs::Answers::on_outcome))]
 
 pub mod days;
 pub mod numbers;

@@ -3,38 +3,19 @@ ghost use Rattle.std.specs.Prelude.{◌≡◌};
 ghost use Rattle.places.specs.Places.{whose_order};
 
 use crate::Whose;
-use floats::Refusal;
+use floats::Reason;
 
-// Whose it is by the number alone: 1, 5 to 8, 33 to 35 and 44.
-pub fn whose_order(number: u32) -> Whose
-    ensures { result ≡ whose_order number }
+// Whose it is by the reason alone: 1, 5 to 8, 33 to 35 and 44.
+#[tactic(auto, unfolding(crate::specs::Places::whose_order))]
+pub fn whose_order(reason: Reason) -> Whose
+    ensures { result ≡ whose_order reason }
 {
-    if number == Refusal::SETTING {
-        return Whose::Steps;
+    match reason {
+        Reason::Setting => Whose::Steps,
+        Reason::CallOrder => Whose::Call,
+        Reason::SigmaOrder => Whose::Sigma,
+        Reason::NothingPaid | Reason::DayCount | Reason::NoTime => Whose::Settlement,
+        Reason::PillarOrder | Reason::SameTime | Reason::FactorNotPositive => Whose::Pillar,
+        _ => Whose::Nobody,
     }
-    if number == Refusal::CALL_ORDER {
-        return Whose::Call;
-    }
-    if number == Refusal::SIGMA_ORDER {
-        return Whose::Sigma;
-    }
-    if number == Refusal::NOTHING_PAID {
-        return Whose::Settlement;
-    }
-    if number == Refusal::PILLAR_ORDER {
-        return Whose::Pillar;
-    }
-    if number == Refusal::DAY_COUNT {
-        return Whose::Settlement;
-    }
-    if number == Refusal::SAME_TIME {
-        return Whose::Pillar;
-    }
-    if number == Refusal::NO_TIME {
-        return Whose::Settlement;
-    }
-    if number == Refusal::FACTOR_NOT_POSITIVE {
-        return Whose::Pillar;
-    }
-    Whose::Nobody
 }

@@ -3,7 +3,7 @@ use crate::printing::print;
 use crate::warnings::number_at;
 use bondfile::singles::fields_of;
 use bondfile::stored::{cashflows_of, pillars_of, sigmas_of};
-use digest::{NOTHING, bits_of, mix, of_bytes, of_days, of_numbers};
+use digest::{NOTHING, bits_of, mix, of_all};
 use filebond::parts::{bytes_of, days_of, numbers_of};
 use reportlines::lines::{count_line, number_line};
 use std::rt::Stdout;
@@ -14,7 +14,7 @@ fn curve_digest(text: &[u8]) -> u64 {
     let mut factors = [0.0; 256];
     let mut lines = [0usize; 256];
     let n = pillars_of(text, &mut days, &mut factors, &mut lines);
-    of_numbers(of_days(NOTHING, days_of(&days, n)), numbers_of(&factors, n))
+    of_all(of_all(NOTHING, days_of(&days, n)), numbers_of(&factors, n))
 }
 
 // The cashflows' days, kinds and amounts.
@@ -24,8 +24,8 @@ fn cashflow_digest(text: &[u8]) -> u64 {
     let mut amounts = [0.0; 256];
     let mut lines = [0usize; 256];
     let n = cashflows_of(text, &mut days, &mut kinds, &mut amounts, &mut lines);
-    let paid = of_days(NOTHING, days_of(&days, n));
-    of_numbers(of_bytes(paid, bytes_of(&kinds, n)), numbers_of(&amounts, n))
+    let paid = of_all(NOTHING, days_of(&days, n));
+    of_all(of_all(paid, bytes_of(&kinds, n)), numbers_of(&amounts, n))
 }
 
 // The single fields.
@@ -51,10 +51,10 @@ fn print_inputs(out: Stdout, text: &[u8], times: &[f64], sigmas: &[f64]) {
     print(out, count_line(b"Sigma entries", sigmas.len() as u64));
     print(out, count_line(b"Curve digest", curve_digest(text)));
     print(out, count_line(b"Cashflow digest", cashflow_digest(text)));
-    let settings = of_numbers(fields_digest(text), times);
+    let settings = of_all(fields_digest(text), times);
     print(
         out,
-        count_line(b"Settings digest", of_numbers(settings, sigmas)),
+        count_line(b"Settings digest", of_all(settings, sigmas)),
     );
 }
 

@@ -1,8 +1,8 @@
 // Why a bond file isn't read: a plain sentence or two for each cause.
 use crate::printing::{print, say, say_number};
 use crate::typed::kind_typed;
-use bondfile::FileCheck;
-use bondline::{Cause, Fault};
+use bondfile::FileError;
+use bondline::{Cause, Fault, Kind};
 use reportlines::lines::text_line;
 use std::rt::Stdout;
 
@@ -12,26 +12,27 @@ fn at_line(out: Stdout, line: usize) {
 }
 
 fn say_byte(out: Stdout, byte: u8) {
-    if byte == 9 {
-        print(out, text_line(b"A tab stands here (byte 9): type spaces."));
-        return;
-    }
-    if byte == 13 {
-        print(
-            out,
-            text_line(b"The line ends with a CR (byte 13). Run: dos2unix FILE"),
-        );
-        return;
-    }
-    if byte == 239 {
-        print(
+    match byte {
+        b'\t' => {
+            print(out, text_line(b"A tab stands here (byte 9): type spaces."));
+            return;
+        }
+        b'\r' => {
+            print(
+                out,
+                text_line(b"The line ends with a CR (byte 13). Run: dos2unix FILE"),
+            );
+            return;
+        }
+        0xef => print(
             out,
             text_line(b"A byte order mark starts with byte 239. Run: dos2unix FILE"),
-        );
+        ),
+        _ => {}
     }
     say(out, b"                 Byte ");
     say_number(out, byte as u64);
-    if byte > 126 {
+    if byte > b'~' {
         say(
             out,
             b" stands here: such letters may stand in comments alone.\n",
@@ -44,37 +45,37 @@ fn say_byte(out: Stdout, byte: u8) {
     );
 }
 
-// What a line of a kind takes; the kinds are counted from 0 here.
-fn say_values(out: Stdout, kind: usize) {
+// What a line of a kind takes.
+fn say_values(out: Stdout, kind: Kind) {
     match kind {
-        0 => print(
+        Kind::Settlement => print(
             out,
             text_line(b"settlement takes a day: settlement 2026-11-17"),
         ),
-        1 => print(out, text_line(b"units takes a number: units 100")),
-        2 => print(
+        Kind::Units => print(out, text_line(b"units takes a number: units 100")),
+        Kind::Steps => print(
             out,
             text_line(b"steps takes two counts, a year and at most: steps 12 512"),
         ),
-        3 => print(out, text_line(b"alpha takes a number: alpha 0.03")),
-        4 => print(out, text_line(b"spread takes a number: spread 0.0085")),
-        5 => print(
+        Kind::Alpha => print(out, text_line(b"alpha takes a number: alpha 0.03")),
+        Kind::Spread => print(out, text_line(b"spread takes a number: spread 0.0085")),
+        Kind::Cashflow => print(
             out,
             text_line(b"cashflow takes a day, coupon or redemption, and an amount."),
         ),
-        6 => print(
+        Kind::Call => print(
             out,
             text_line(b"call takes two days and a strike, as 2029-11-15 2029-11-15 102"),
         ),
-        7 => print(
+        Kind::Sigma => print(
             out,
             text_line(b"sigma takes a time in years and a volatility: sigma 0 0.0092"),
         ),
-        8 => print(
+        Kind::Pillar => print(
             out,
             text_line(b"pillar takes a day and a factor: pillar 2027-11-17 0.9662"),
         ),
-        9 => print(
+        Kind::Yield => print(
             out,
             text_line(b"yield takes a price, a compounding and a frequency."),
         ),
@@ -137,7 +138,7 @@ fn say_value(out: Stdout, cause: Cause) {
     }
 }
 
-fn say_cause(out: Stdout, cause: Cause, kind: usize) {
+fn say_cause(out: Stdout, cause: Cause, kind: Kind) {
     match cause {
         Cause::Byte(b) => say_byte(out, b),
         Cause::UnknownWord => say_words(out),
@@ -169,23 +170,23 @@ fn wrong(out: Stdout, text: &[u8], line: usize, fault: Fault) {
 }
 
 // The name of a line of a kind.
-fn say_name(out: Stdout, kind: usize) {
+fn say_name(out: Stdout, kind: Kind) {
     match kind {
-        1 => say(out, b"settlement"),
-        2 => say(out, b"units"),
-        3 => say(out, b"steps"),
-        4 => say(out, b"alpha"),
-        5 => say(out, b"spread"),
-        6 => say(out, b"cashflow"),
-        7 => say(out, b"call"),
-        8 => say(out, b"sigma"),
-        9 => say(out, b"pillar"),
-        10 => say(out, b"yield"),
+        Kind::Settlement => say(out, b"settlement"),
+        Kind::Units => say(out, b"units"),
+        Kind::Steps => say(out, b"steps"),
+        Kind::Alpha => say(out, b"alpha"),
+        Kind::Spread => say(out, b"spread"),
+        Kind::Cashflow => say(out, b"cashflow"),
+        Kind::Call => say(out, b"call"),
+        Kind::Sigma => say(out, b"sigma"),
+        Kind::Pillar => say(out, b"pillar"),
+        Kind::Yield => say(out, b"yield"),
         _ => say(out, b"quote"),
     }
 }
 
-fn twice(out: Stdout, line: usize, kind: usize) {
+fn twice(out: Stdout, line: usize, kind: Kind) {
     at_line(out, line);
     say(out, b"\n                 A second line for ");
     say_name(out, kind);
@@ -193,18 +194,18 @@ fn twice(out: Stdout, line: usize, kind: usize) {
 }
 
 // At most 256 cashflows and pillars, 64 calls and sigma entries.
-fn too_many(out: Stdout, line: usize, kind: usize) {
+fn too_many(out: Stdout, line: usize, kind: Kind) {
     at_line(out, line);
     say(out, b"\n                 One ");
     say_name(out, kind);
-    if kind == 6 || kind == 9 {
+    if kind == Kind::Cashflow || kind == Kind::Pillar {
         say(out, b" too many: 256 are the most.\n");
         return;
     }
     say(out, b" too many: 64 are the most.\n");
 }
 
-fn missing(out: Stdout, kind: usize) {
+fn missing(out: Stdout, kind: Kind) {
     say(
         out,
         b"Refused          the file as a whole\n                 No line for ",
@@ -221,16 +222,16 @@ fn too_large(out: Stdout) {
 }
 
 // Says what is wrong with a file; whether nothing is.
-pub(crate) fn is_good(out: Stdout, text: &[u8], found: FileCheck) -> bool {
-    match found {
-        FileCheck::Good => {
-            return true;
-        }
-        FileCheck::TooLarge => too_large(out),
-        FileCheck::Wrong(line, fault) => wrong(out, text, line, fault),
-        FileCheck::Twice(line, kind) => twice(out, line, kind),
-        FileCheck::TooMany(line, kind) => too_many(out, line, kind),
-        FileCheck::Missing(kind) => missing(out, kind),
+pub(crate) fn is_good(out: Stdout, text: &[u8], found: Result<(), FileError>) -> bool {
+    let Err(error) = found else {
+        return true;
+    };
+    match error {
+        FileError::TooLarge => too_large(out),
+        FileError::Wrong(line, fault) => wrong(out, text, line, fault),
+        FileError::Twice(line, kind) => twice(out, line, kind),
+        FileError::TooMany(line, kind) => too_many(out, line, kind),
+        FileError::Missing(kind) => missing(out, kind),
     }
     false
 }

@@ -32,11 +32,11 @@ fn small(line: usize) -> u32 {
 
 // A label, and in place of a figure the number of the refusal.
 pub(crate) fn blank_line(out: Stdout, label: &[u8], q: Refusal) {
-    print(out, count_line(label, q.number as u64));
+    print(out, count_line(label, q.reason.number() as u64));
 }
 
 // A refusal of the pricer, the file's line where there is one, and what to do.
 pub(crate) fn refuse(out: Stdout, q: Refusal, line: usize) {
-    print(out, refused_line(q.number, small(line)));
-    print(out, what_to_do(q.number));
+    print(out, refused_line(q.reason.number(), small(line)));
+    print(out, what_to_do(q.reason.number()));
 }

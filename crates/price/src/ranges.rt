@@ -1,7 +1,7 @@
 // Refusals of what was typed, with what the field takes.
 use crate::printing::{print, refuse};
 use fileline::origin::{line_behind, whose};
-use floats::Refusal;
+use floats::{Reason, Refusal};
 use places::Whose;
 use reportlines::lines::text_line;
 use std::rt::Stdout;
@@ -40,21 +40,21 @@ fn say_range(out: Stdout, field: Whose) {
 // Of the bond's terms.
 pub(crate) fn refuse_input(out: Stdout, text: &[u8], q: Refusal) {
     refuse(out, q, line_behind(text, q));
-    if q.number == Refusal::DAY {
+    if q.reason == Reason::Day {
         print(
             out,
             text_line(b"A day number is at most 200,000; a date has dashes: 2026-11-15."),
         );
     }
-    if q.number == Refusal::NUMBER {
-        say_range(out, whose(text, q.number, q.place as usize));
+    if q.reason == Reason::Number {
+        say_range(out, whose(text, q));
     }
 }
 
 // Of a price that was asked about.
 pub(crate) fn refuse_price(out: Stdout, q: Refusal, line: usize) {
     refuse(out, q, line);
-    if q.number == Refusal::NUMBER {
+    if q.reason == Reason::Number {
         print(
             out,
             text_line(b"A price lies within 1,000,000,000,000,000 of 0."),

@@ -8,15 +8,13 @@ use crate::typed::print_name;
 use crate::warnings::warnings;
 use bondfile::singles::{fields_of, first_of};
 use bondfile::stored::calls_of;
-use bondline::Entry;
-use bondreport::order::{Call, at_rank, call_at};
-use brackets::Root;
+use bondline::{Entry, Kind};
+use bondreport::order::{Call, Calls};
 use filebond::parts::{days_of, numbers_of};
 use filecheck::check::checked;
-use fileline::lines::{CALL, PILLAR, QUOTE, YIELD, line_of};
+use fileline::lines::line_of;
 use filevalue::pricing::{straight, yielded};
 use filevalue::{Ask, Reply};
-use floats::Answer;
 use reportlines::lines::{
     call_heading, call_line, count_line, day_line, no_calls, no_pillar, number_line, said_line,
     stands_apart, strike_line,
@@ -33,13 +31,14 @@ fn print_call(out: Stdout, call: Call, strike: &[u8]) {
 }
 
 // The calls as they are read out, in whatever order they were typed.
-fn calls(out: Stdout, text: &[u8], starts: &[u32], ends: &[u32], strikes: &[f64]) {
-    let mut k = 0;
-    while k < starts.len() {
-        let i = at_rank(starts, ends, strikes, k);
-        let call = call_at(starts, ends, strikes, i);
-        print_call(out, call, typed_word(text, line_of(text, CALL, i), 3));
-        k += 1;
+fn calls(out: Stdout, text: &[u8], typed: Calls) {
+    for k in 0..typed.starts.len() {
+        let i = typed.at_rank(k);
+        print_call(
+            out,
+            typed.at(i),
+            typed_word(text, line_of(text, Kind::Call, i), 3),
+        );
     }
 }
 
@@ -54,18 +53,17 @@ fn call_list(out: Stdout, text: &[u8]) {
         return;
     }
     print(out, call_heading());
-    calls(
-        out,
-        text,
-        days_of(&starts, n),
-        days_of(&ends, n),
-        numbers_of(&strikes, n),
-    );
+    let typed = Calls {
+        starts: days_of(&starts, n),
+        ends: days_of(&ends, n),
+        strikes: numbers_of(&strikes, n),
+    };
+    calls(out, text, typed);
 }
 
 // The day of the first pillar.
 fn curve_date(out: Stdout, text: &[u8]) {
-    let Entry::Pillar(day, _) = first_of(text, PILLAR) else {
+    let Entry::Pillar(day, _) = first_of(text, Kind::Pillar) else {
         print(out, no_pillar());
         return;
     };
@@ -90,11 +88,11 @@ fn head(out: Stdout, text: &[u8]) {
 // What the bond is worth without its calls, on no tree; whether that is accepted.
 fn straight_part(out: Stdout, text: &[u8], quiet: bool) -> bool {
     match straight(text) {
-        Answer::Refused(q) => {
+        Err(q) => {
             refuse(out, q, 0);
             false
         }
-        Answer::Value(x) => {
+        Ok(x) => {
             if !quiet {
                 print(out, number_line(b"Straight value", x, 2));
             }
@@ -106,41 +104,41 @@ fn straight_part(out: Stdout, text: &[u8], quiet: bool) -> bool {
 // What the calls are worth; where the tree without them has no value, its refusal's number alone.
 fn calls_part(out: Stdout, text: &[u8]) {
     match asked(text, Ask::Calls) {
-        Reply::Refused(q) => blank_line(out, b"Calls are worth  refused with", q),
-        Reply::Found(x, _) => print(out, number_line(b"Calls are worth", x, 2)),
+        Err(q) => blank_line(out, b"Calls are worth  refused with", q),
+        Ok(Reply { found: x, .. }) => print(out, number_line(b"Calls are worth", x, 2)),
     }
 }
 
 fn yield_part(out: Stdout, text: &[u8], quiet: bool) -> bool {
-    let Entry::Yield(price, compounding, frequency) = first_of(text, YIELD) else {
+    let Entry::Yield(price, compounding, frequency) = first_of(text, Kind::Yield) else {
         return true;
     };
     match yielded(text, price, compounding, frequency) {
-        Root::Refused(q, _) => {
-            refuse_price(out, q, line_of(text, YIELD, 0));
+        Err(none) => {
+            refuse_price(out, none.refusal, line_of(text, Kind::Yield, 0));
             false
         }
-        Root::Found(x, n) => {
+        Ok(root) => {
             if quiet {
                 return true;
             }
-            print(out, number_line(b"Yield", x, 4));
-            print(out, count_line(b"Yield tries", n as u64));
+            print(out, number_line(b"Yield", root.at, 4));
+            print(out, count_line(b"Yield tries", root.evaluations as u64));
             true
         }
     }
 }
 
 fn quote_part(out: Stdout, text: &[u8], quiet: bool) -> bool {
-    let Entry::Quote(price) = first_of(text, QUOTE) else {
+    let Entry::Quote(price) = first_of(text, Kind::Quote) else {
         return true;
     };
     match asked(text, Ask::Spread(price)) {
-        Reply::Refused(q) => {
-            refuse_price(out, q, line_of(text, QUOTE, 0));
+        Err(q) => {
+            refuse_price(out, q, line_of(text, Kind::Quote, 0));
             false
         }
-        Reply::Found(x, n) => {
+        Ok(Reply { found: x, count: n }) => {
             if quiet {
                 return true;
             }
@@ -166,11 +164,11 @@ fn value_part(out: Stdout, text: &[u8], quiet: bool, value: f64, nodes: u64) -> 
 // Whether all that the file asks for is accepted.
 fn priced(out: Stdout, text: &[u8], quiet: bool) -> bool {
     match asked(text, Ask::Value) {
-        Reply::Refused(q) => {
+        Err(q) => {
             refuse_input(out, text, q);
             false
         }
-        Reply::Found(x, n) => value_part(out, text, quiet, x, n),
+        Ok(Reply { found: x, count: n }) => value_part(out, text, quiet, x, n),
     }
 }
 

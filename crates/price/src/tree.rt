@@ -5,10 +5,10 @@ use crate::rooms::{
 };
 use filevalue::tree::with_flows;
 use filevalue::{Ask, Reply};
-use floats::Refusal;
+use floats::{Reason, Refusal};
 
 // With room for 250 steps.
-fn in_250(text: &[u8], ask: Ask) -> Reply {
+fn in_250(text: &[u8], ask: Ask) -> Result<Reply, Refusal> {
     let mut nodes = nodes_of_250();
     let mut probabilities = probabilities_of_250();
     let mut first = row();
@@ -24,7 +24,7 @@ fn in_250(text: &[u8], ask: Ask) -> Reply {
 }
 
 // With room for 512 steps.
-fn in_512(text: &[u8], ask: Ask) -> Reply {
+fn in_512(text: &[u8], ask: Ask) -> Result<Reply, Refusal> {
     let mut nodes = nodes_of_512();
     let mut probabilities = probabilities_of_512();
     let mut first = row();
@@ -40,7 +40,7 @@ fn in_512(text: &[u8], ask: Ask) -> Reply {
 }
 
 // With room for a million nodes.
-fn in_million(text: &[u8], ask: Ask) -> Reply {
+fn in_million(text: &[u8], ask: Ask) -> Result<Reply, Refusal> {
     let mut nodes = nodes_of_million();
     let mut probabilities = probabilities_of_million();
     let mut first = row();
@@ -56,16 +56,13 @@ fn in_million(text: &[u8], ask: Ask) -> Reply {
 }
 
 // Whether a reply asks for more room.
-fn is_short(reply: Reply) -> bool {
-    match reply {
-        Reply::Found(_, _) => false,
-        Reply::Refused(q) => q.number == Refusal::NO_ROOM,
-    }
+fn is_short(reply: Result<Reply, Refusal>) -> bool {
+    matches!(reply, Err(q) if q.reason == Reason::NoRoom)
 }
 
 // In the smallest room, or where that is too small in one of the larger ones. It calls itself so that no compiler joins the
 // rooms' frames: not every stack holds the larger ones, and few trees need them.
-fn in_rooms(text: &[u8], ask: Ask, larger: u32) -> Reply {
+fn in_rooms(text: &[u8], ask: Ask, larger: u32) -> Result<Reply, Refusal> {
     if larger == 0 {
         return in_250(text, ask);
     }
@@ -79,6 +76,6 @@ fn in_rooms(text: &[u8], ask: Ask, larger: u32) -> Reply {
     in_million(text, ask)
 }
 
-pub(crate) fn asked(text: &[u8], ask: Ask) -> Reply {
+pub(crate) fn asked(text: &[u8], ask: Ask) -> Result<Reply, Refusal> {
     in_rooms(text, ask, 2)
 }

@@ -2,11 +2,12 @@
 use crate::printing::{say, say_number};
 use bondfile::singles::fields_of;
 use bondfile::stored::{cashflows_of, pillars_of, sigmas_of};
+use bondline::Kind;
 use filebond::parts::{bytes_of, days_of, numbers_of};
-use fileline::lines::{CASHFLOW, PILLAR, SIGMA, SPREAD, line_of};
+use fileline::lines::line_of;
 use std::rt::Stdout;
 
-fn warn(out: Stdout, text: &[u8], kind: usize, place: usize) {
+fn warn(out: Stdout, text: &[u8], kind: Kind, place: usize) {
     say(out, b"Warning          line ");
     say_number(out, line_of(text, kind, place) as u64);
     say(out, b": ");
@@ -53,9 +54,9 @@ fn doubles(out: Stdout, text: &[u8], days: &[u32], kinds: &[u8], amounts: &[f64]
     while i < days.len() {
         let j = alike(days, kinds, amounts, i);
         if j < i {
-            warn(out, text, CASHFLOW, i);
+            warn(out, text, Kind::Cashflow, i);
             say(out, b"the same cashflow stands on line ");
-            say_number(out, line_of(text, CASHFLOW, j) as u64);
+            say_number(out, line_of(text, Kind::Cashflow, j) as u64);
             say(out, b".\n");
         }
         i += 1;
@@ -84,7 +85,7 @@ fn gaps(out: Stdout, text: &[u8], days: &[u32], kinds: &[u8], life: u32) {
         let day = day_at(days, i);
         if kind_at(kinds, i) == 0 && day > f.settlement {
             if coupons > 0 && is_short(before, day, life, f.yearly, f.maximum) {
-                warn(out, text, CASHFLOW, i);
+                warn(out, text, Kind::Cashflow, i);
                 say(
                     out,
                     b"fewer than two steps lie between this coupon and the one before.\n",
@@ -131,11 +132,11 @@ fn of_factors(out: Stdout, text: &[u8], factors: &[f64]) {
     while i < factors.len() {
         if i == 0 {
             if number_at(factors, 0) != 1.0 {
-                warn(out, text, PILLAR, 0);
+                warn(out, text, Kind::Pillar, 0);
                 say(out, b"the first factor isn't 1.\n");
             }
         } else if number_at(factors, i) > 1.1 * number_at(factors, i - 1) {
-            warn(out, text, PILLAR, i);
+            warn(out, text, Kind::Pillar, i);
             say(
                 out,
                 b"this factor is above the one before it by more than a tenth.\n",
@@ -157,7 +158,7 @@ fn of_levels(out: Stdout, text: &[u8], sigmas: &[f64]) {
     let mut i = 0;
     while i < sigmas.len() {
         if number_at(sigmas, i) > 0.1 {
-            warn(out, text, SIGMA, i);
+            warn(out, text, Kind::Sigma, i);
             say(out, b"this sigma is above 0.1: 0.01 is 1 percent a year.\n");
         }
         i += 1;
@@ -175,7 +176,7 @@ fn of_sigmas(out: Stdout, text: &[u8]) {
 fn of_spread(out: Stdout, text: &[u8]) {
     let f = fields_of(text);
     if f.spread > 0.2 || f.spread < -0.2 {
-        warn(out, text, SPREAD, 0);
+        warn(out, text, Kind::Spread, 0);
         say(
             out,
             b"the spread is beyond 0.2: 0.0085 is 85 basis points.\n",

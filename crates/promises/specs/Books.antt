@@ -1,20 +1,18 @@
 -- Definitions only. A book in one go, as a C caller meets it: all or none, each bond as alone, and what call lists and put lists may change, whatever the curve.
-use Rattle.std.specs.Prelude.{ℕ, ◌<◌, ◌≡◌, false, ◌⊎◌, List, T, get_or, replicate, Float}
+use Rattle.std.specs.Prelude.{ℕ, ◌<◌, ◌≡◌, false, ◌⊎◌, List, T, get_or, replicate, Float, Ok}
 use Rattle.std.specs.Float.Ieee.{le}
-use Rattle.floats.specs.declared.Answer.{Answer}
+use Rattle.floats.specs.Answers.{Answer, plus_zero, Outcome}
+use Rattle.floats.specs.Reasons.{reason_number, refusal_number}
 use Rattle.floats.specs.declared.Refusal.{Refusal}
-use Rattle.floats.specs.Answers.{plus_zero}
 use Rattle.terms.specs.Terms.{CallSchedule, Market, bond_with_puts, with_puts}
 use Rattle.terms.specs.CallLists.{MadeFrom, LoweredFrom, Reordered, StrikeAbove}
 use Rattle.terms.specs.Entries.{tree_checks}
 use Rattle.bondevents.specs.Grid.{grid_answer}
 use Rattle.lattice.specs.Layers.{Room}
 use Rattle.treebasedbondpricer.specs.declared.TreeValue.{TreeValue}
-use Rattle.treebasedbondpricer.specs.declared.TreeValue.TheVariants.{Value}
 use Rattle.treebasedbondpricer.specs.Tree.{tree_value_over, number_of, value_of, room_of}
-use Rattle.bookchecks.specs.declared.BookCheck.TheVariants as book
 use Rattle.bookchecks.specs.Book.{Book, size_of, holding, market_at, calls_at}
-use Rattle.bookchecks.specs.Checks.{leg_lengths, entry_lengths, cut_amiss, bond_check, first_refused, book_checks}
+use Rattle.bookchecks.specs.Checks.{leg_lengths, entry_lengths, cut_amiss, bond_check, first_refused, book_checks, Passed}
 use Rattle.bookvalue.specs.declared.BookAnswer.{BookAnswer}
 use Rattle.bookvalue.specs.Values.{placed, sum_check, desk_of, refused_book, accepted_book, book_by}
 use Rattle.promises.specs.HostCallLists.{TreeCall, BookCall}
@@ -57,7 +55,7 @@ BookRule = (b : Book) (c : BookCall b) → AllOrNone c
 -- ---- whatever the curve
 
 -- Each bond valued over a curve of its own, any function at all. The book's answer is that over the curves of the shared pillars, timed by each bond's day count.
-abbrev pub over_curves : (ℕ → Float → ℕ → Answer) → Book → Room → ℕ → TreeValue
+abbrev pub over_curves : (ℕ → Float → ℕ → Answer) → Book → Room → ℕ → Outcome TreeValue
 over_curves curves b room i = tree_value_over (curves i) (market_at b i) (calls_at b i) room
 
 abbrev pub book_over : (ℕ → Float → ℕ → Answer) → Book → Room → BookAnswer
@@ -65,11 +63,11 @@ book_over curves b room = book_by (over_curves curves b room) b
 
 -- An accepted book: each bond has a value, and their sum is finite.
 pub record Accepted (curves : ℕ → Float → ℕ → Answer) (b : Book) (room : Room) : Type 0 where
-  pub checked : book_checks b ≡ book.Passed
+  pub checked : book_checks b ≡ Passed
   pub values : ℕ → Float
   pub counts : ℕ → ℕ
-  pub valued : (i : ℕ) → i < size b → over_curves curves b room i ≡ Value (values i) (counts i)
-  pub summed : first_refused (sum_check (placed plus_zero (λ i. value_of (over_curves curves b room i)) (size b))) (size b) 0 ≡ book.Passed
+  pub valued : (i : ℕ) → i < size b → over_curves curves b room i ≡ Ok (record { value = (values i); nodes = (counts i) })
+  pub summed : first_refused (sum_check (placed plus_zero (λ i. value_of (over_curves curves b room i)) (size b))) (size b) 0 ≡ Passed
 
 -- The answer of an accepted book holds its values and counts. Any other has a refusal, and beside it no values, no sum and no counts.
 pub data AllOrNoneOver (curves : ℕ → Float → ℕ → Answer) (b : Book) (room : Room) : BookAnswer → Type 0 where
@@ -95,11 +93,11 @@ pub record LowestAbove (b : Book) (bond : ℕ) : Type 0 where
 -- Accepted with each value no lower, or refused with 27, a bond's or the sum's.
 pub data NoLowerBook (values : ℕ → Float) (n : ℕ) : BookAnswer → Type 0 where
   accepted : (ys : List Float) (desk : ℕ → ℕ) (counts : List ℕ) → ((i : ℕ) → i < n → T (le (values i) (get_or ys i plus_zero))) → NoLowerBook values n (accepted_book ys desk counts n)
-  refused_27 : {bond : ℕ} {q : Refusal} → q.number ≡ 27 → NoLowerBook values n (refused_book bond q)
+  refused_27 : {bond : ℕ} {q : Refusal} → reason_number q.reason ≡ 27 → NoLowerBook values n (refused_book bond q)
 
 -- Refused with 4, naming that bond, where there is one; else no lower.
 pub record ThinnedBook (values : ℕ → Float) (second : Book) (answer : BookAnswer) : Type 0 where
-  pub with_4 : (bond : ℕ) → LowestAbove second bond → (answer.refusal.number ≡ 4) × (answer.bond ≡ bond)
+  pub with_4 : (bond : ℕ) → LowestAbove second bond → (refusal_number answer.refusal ≡ 4) × (answer.bond ≡ bond)
   pub otherwise : ((bond : ℕ) → LowestAbove second bond → ⊥) → NoLowerBook values (size second) answer
 
 -- The same of what two calls hand back: 4 naming the lowest bond with a strike above 1,000,000, exactly then. Otherwise accepted with each value no lower, or 27.
@@ -145,11 +143,11 @@ BookPutListRule =
 -- A bond that stays as it is, or whose calls or puts, which the grid accepts, come in another order.
 pub data Moved : Market → CallSchedule → Market → CallSchedule → Type 0 where
   kept : {m : Market} {calls : CallSchedule} → Moved m calls m calls
-  calls_moved : {m : Market} {first second : CallSchedule} → Reordered first second → (grid_answer m.settlement m.bond first m.controls).refusal.number ≡ 0 → Moved m first m second
+  calls_moved : {m : Market} {first second : CallSchedule} → Reordered first second → refusal_number (grid_answer m.settlement m.bond first m.controls).refusal ≡ 0 → Moved m first m second
   puts_moved :
       (m : Market) (calls first second : CallSchedule)
       → Reordered first second
-      → (grid_answer m.settlement (bond_with_puts m.bond first) calls m.controls).refusal.number ≡ 0
+      → refusal_number (grid_answer m.settlement (bond_with_puts m.bond first) calls m.controls).refusal ≡ 0
       → Moved (with_puts m first) calls (with_puts m second) calls
 
 -- Entries change places inside a bond's own part of the lists, so that all counts and lengths stay.
@@ -186,7 +184,7 @@ pub record BooksOverCurves (curves : ℕ → Float → ℕ → Answer) : Type 0 
       (b : Book) (room : Room)
       → (a : Accepted curves b room)
       → (i : ℕ) → i < size b
-      → (other : Room) → (over_curves curves b other i ≡ Value (a.values i) (a.counts i)) ⊎ (number_of (over_curves curves b other i) ≡ 21)
+      → (other : Room) → (over_curves curves b other i ≡ Ok (record { value = (a.values i); nodes = (a.counts i) })) ⊎ (number_of (over_curves curves b other i) ≡ 21)
   pub counts :
       (b : Book) (room : Room)
       → (a : Accepted curves b room)

@@ -1,20 +1,16 @@
 -- Definitions only. The bond without puts, as it was defined before there were any: its checks, its grid, the walk, the tree value, sizing and the spread. A step has a call alone.
-use Rattle.std.specs.Prelude.{ℕ, zero, suc, true, false, cond, List, [], ◌∷◌, ◌++◌, length, get_or, replicate, ltb, ℤ, pos, Float}
+use Rattle.std.specs.Prelude.{ℕ, zero, suc, true, false, cond, List, [], ◌∷◌, ◌++◌, length, get_or, replicate, ltb, ℤ, pos, Float, Ok, Err, Option, Some, None}
 use Rattle.std.specs.Float.{binary64}
 use Rattle.std.specs.Float.Ieee.{add, mul, sub, neg, lt}
 use Rattle.floats.specs.declared.Refusal.{Refusal}
-use Rattle.floats.specs.declared.Answer.{Answer}
-use Rattle.floats.specs.declared.Answer.TheVariants as answer
-use Rattle.floats.specs.Answers.{plus_zero, one, refusal, and_then, tested, when_finite}
+use Rattle.floats.specs.Answers.{Answer, plus_zero, one, refusal, follow, tested, when_finite, Check, Outcome, on_outcome}
 use Rattle.floats.specs.Extremes.{min_of}
 use Rattle.elementary.specs.Exponential.{exp_at}
 use Rattle.terms.specs.declared.Settlement.{Settlement}
-use Rattle.terms.specs.declared.Check.{Check}
 use Rattle.terms.specs.Numbers.{float, target_limit}
 use Rattle.terms.specs.Terms.{CallSchedule, Bond, TimeGrid, Market}
 use Rattle.terms.specs.Checks.{on_check, first_of, leg_count, call_count, settlement_day, leg_days, call_days, pillar_days, units_range, amount_range, strike_range, call_order, sigma_order, any_paid, maturity_apart}
 use Rattle.terms.specs.Entries.{setting_checks, model_counts, tree_fields, model_numbers, late_checks}
-use Rattle.terms.specs.Outcomes.{Outcome, given, follow, on_outcome, valued}
 use Rattle.bondevents.specs.declared.Exercise.{Exercise}
 use Rattle.bondevents.specs.Steps.{Axis, step_cashflows}
 use Rattle.bondevents.specs.Calls.{Entry, eligible, call_price}
@@ -24,16 +20,14 @@ use Rattle.lattice.specs.Layers.{At, value_at, node_float, Room}
 use Rattle.lattice.specs.Lattice.{Layer, node_count}
 use Rattle.backwardinduction.specs.Walk.{expected, final_row}
 use Rattle.treebasedbondpricer.specs.declared.TreeValue.{TreeValue}
-use Rattle.treebasedbondpricer.specs.declared.TreeValue.TheVariants.{Value, Refused}
 use Rattle.treebasedbondpricer.specs.Tree.{fitted_tree, Lent, zeroed}
-use Rattle.sizing.specs.declared.Sizes.{Sizes}
-use Rattle.sizing.specs.declared.Sizes.TheVariants as sizes
+use Rattle.sizing.specs.declared.Lengths.{Lengths}
 use Rattle.sizing.specs.Sizing.{tree_widths, sizes_from}
 use Rattle.brackets.specs.declared.Root.{Root}
-use Rattle.brackets.specs.declared.Root.TheVariants as root
-use Rattle.brackets.specs.Brackets.{bracketed_root}
+use Rattle.brackets.specs.Brackets.{Searched, no_root, bracketed_root}
 use Rattle.sought.specs.Objectives.{first_lower, first_upper}
 use Rattle.spreads.specs.Spreads.{Quoted, at_spread, on_tree_value}
+use Rattle.floats.specs.declared.Reason.TheVariants as reason
 
 -- ---- the checks
 
@@ -72,24 +66,24 @@ unfoldable pub over_steps : Axis → Bond → Entry → ℕ → ℕ → List Exe
 unfolding eligible call_price keep_lowest
 over_steps a bond e (suc count) step (c ∷ cs) =
     follow
-    (cond (eligible a e step) (valued (call_price a bond e step) λ price. given (keep_lowest c price)) (given c))
-    λ c. follow (over_steps a bond e count (suc step) cs) λ cs. given (c ∷ cs)
-over_steps a bond e (suc count) step [] = given []
-over_steps a bond e zero step cs = given cs
+    (cond (eligible a e step) (follow (call_price a bond e step) λ price. Ok (keep_lowest c price)) (Ok c))
+    λ c. follow (over_steps a bond e count (suc step) cs) λ cs. Ok (c ∷ cs)
+over_steps a bond e (suc count) step [] = Ok []
+over_steps a bond e zero step cs = Ok cs
 
 -- Entries ending before settlement are skipped; steps 0 to steps−1 are tried.
 unfoldable pub with_entry : Axis → Bond → Entry → List Exercise → Outcome (List Exercise)
 unfolding over_steps
-with_entry a bond e cs = cond (ltb e.end a.settlement) (given cs) (over_steps a bond e a.steps 0 cs)
+with_entry a bond e cs = cond (ltb e.end a.settlement) (Ok cs) (over_steps a bond e a.steps 0 cs)
 
 -- Entry 0 over all its steps, then entry 1.
 unfoldable pub over_entries : Axis → Bond → List ℕ → List ℕ → List Float → List Exercise → Outcome (List Exercise)
 unfolding with_entry
 over_entries a bond (s ∷ starts) (e ∷ ends) (k ∷ strikes) cs =
     follow (with_entry a bond (record { start = s; end = e; strike = k }) cs) λ cs. over_entries a bond starts ends strikes cs
-over_entries a bond (s ∷ starts) (e ∷ ends) [] cs = given cs
-over_entries a bond (s ∷ starts) [] strikes cs = given cs
-over_entries a bond [] ends strikes cs = given cs
+over_entries a bond (s ∷ starts) (e ∷ ends) [] cs = Ok cs
+over_entries a bond (s ∷ starts) [] strikes cs = Ok cs
+over_entries a bond [] ends strikes cs = Ok cs
 
 -- A step without a call.
 abbrev pub uncalled : Exercise
@@ -110,11 +104,11 @@ unfolding axis_of over_entries
 event_grid settlement bond calls controls =
     let a = axis_of settlement bond.leg controls in
     follow (call_steps a bond calls) λ cs.
-    given (record { maturity = a.maturity; steps = a.steps; cashflows = step_cashflows a bond.leg; calls = cs })
+    Ok (record { maturity = a.maturity; steps = a.steps; cashflows = step_cashflows a bond.leg; calls = cs })
 
 -- A refused grid is all zero.
 pub record GridAnswer : Type 0 where
-  pub refusal : Refusal
+  pub refusal : Option Refusal
   pub grid : Grid
 
 abbrev pub zero_grid : Grid
@@ -123,9 +117,9 @@ zero_grid = record { maturity = plus_zero; steps = 0; cashflows = replicate 513 
 unfoldable pub grid_answer : Settlement → Bond → CallSchedule → TimeGrid → GridAnswer
 unfolding grid_checks event_grid
 grid_answer settlement bond calls controls =
-    on_check (grid_checks settlement bond calls controls) (λ r. record { refusal = r; grid = zero_grid })
-    (on_outcome (event_grid settlement bond calls controls) (λ r. record { refusal = r; grid = zero_grid })
-    λ g. record { refusal = record { number = 0; place = 0 }; grid = g })
+    on_check (grid_checks settlement bond calls controls) (λ r. record { refusal = Some r; grid = zero_grid })
+    (on_outcome (event_grid settlement bond calls controls) (λ r. record { refusal = Some r; grid = zero_grid })
+    λ g. record { refusal = None; grid = g })
 
 -- ---- the walk
 
@@ -154,18 +148,18 @@ called c continuation = cond c.marked (min_of continuation c.price) continuation
 unfoldable pub node_value : Reads → ℤ → Transition → List At → ℕ → Answer
 unfolding value_at min_of add mul neg
 node_value r node t next place =
-    and_then (expected t next place) λ e.
-    and_then (discount_of r node place) λ d.
+    follow (expected t next place) λ e.
+    follow (discount_of r node place) λ d.
     when_finite (mul binary64 e d) place λ continuation. tested (add binary64 (called r.call continuation) r.cashflow) place
 
 -- One layer, nodes rising.
 unfoldable pub rolled : Reads → List ℤ → List Transition → List At → ℕ → Outcome (List At)
 unfolding node_value
 rolled r (n ∷ ns) (t ∷ ts) next place =
-    valued (node_value r n t next place) λ v.
-    follow (rolled r ns ts next place) λ row. given (record { node = n; value = v } ∷ row)
-rolled r (n ∷ ns) [] next place = given []
-rolled r [] ts next place = given []
+    follow (node_value r n t next place) λ v.
+    follow (rolled r ns ts next place) λ row. Ok (record { node = n; value = v } ∷ row)
+rolled r (n ∷ ns) [] next place = Ok []
+rolled r [] ts next place = Ok []
 
 -- The row of step k, from the row of step k+1.
 unfoldable pub walk_from : Float → Float → List Float → List Exercise → ℕ → List Layer → List Float → List ℤ → Outcome (List At)
@@ -185,26 +179,26 @@ walk_from dt spread cashflows calls k (l ∷ layers) (shift ∷ shifts) final =
     l.transitions
     next
     k
-walk_from dt spread cashflows calls k (l ∷ layers) [] final = given (final_row (get_or cashflows k plus_zero) final)
-walk_from dt spread cashflows calls k [] shifts final = given (final_row (get_or cashflows k plus_zero) final)
+walk_from dt spread cashflows calls k (l ∷ layers) [] final = Ok (final_row (get_or cashflows k plus_zero) final)
+walk_from dt spread cashflows calls k [] shifts final = Ok (final_row (get_or cashflows k plus_zero) final)
 
 -- ---- the tree value, over the curve of the market's pillars
 
 -- The root's value is the answer.
-unfoldable pub lattice_value : Market → Room → Grid → Outcome TreeValue
+unfoldable pub lattice_value : Market → Room → Grid → Outcome (Outcome TreeValue)
 unfolding walk_from
 lattice_value m room grid =
     follow (fitted_tree m room grid.maturity grid.steps) λ f.
     follow
     (walk_from f.dt m.spread grid.cashflows grid.calls 0 f.tree.layers f.shifts f.tree.final)
-    λ row. given (Value (value_at (pos 0) row) (node_count f.tree))
+    λ row. Ok (Ok (record { value = (value_at (pos 0) row); nodes = (node_count f.tree) }))
 
 -- The terms are checked, the grid is built, then the tree.
-unfoldable pub tree_value : Market → CallSchedule → Room → TreeValue
+unfoldable pub tree_value : Market → CallSchedule → Room → Outcome TreeValue
 unfolding market_checks event_grid lattice_value
 tree_value m calls room =
-    on_check (market_checks (float 1) m calls) Refused
-    (on_outcome (follow (event_grid m.settlement m.bond calls m.controls) λ grid. lattice_value m room grid) Refused λ v. v)
+    on_check (market_checks (float 1) m calls) Err
+    (on_outcome (follow (event_grid m.settlement m.bond calls m.controls) λ grid. lattice_value m room grid) Err λ v. v)
 
 -- Untouched after an input refusal; all zero after everything else.
 unfoldable pub lent_after : Market → CallSchedule → Lent → Lent
@@ -213,9 +207,9 @@ lent_after m calls l = on_check (market_checks (float 1) m calls) (λ r. l) (zer
 
 -- ---- sizing
 
-unfoldable pub sizes_of : Market → CallSchedule → ℕ → Sizes
+unfoldable pub sizes_of : Market → CallSchedule → ℕ → Outcome Lengths
 unfolding market_checks tree_widths
-sizes_of m calls room = on_check (market_checks (float 1) m calls) sizes.Refused (on_outcome (tree_widths m room) sizes.Refused sizes_from)
+sizes_of m calls room = on_check (market_checks (float 1) m calls) Err (on_outcome (tree_widths m room) Err sizes_from)
 
 unfoldable pub nodes_after : Market → CallSchedule → List ℤ → List ℤ
 unfolding market_checks
@@ -227,14 +221,14 @@ nodes_after m calls nodes = on_check (market_checks (float 1) m calls) (λ r. no
 unfoldable pub spread_objective : Quoted → CallSchedule → Room → Float → Answer
 unfolding tree_value on_tree_value sub lt
 spread_objective q calls room s =
-    cond (lt one s) (refusal 36 0)
-    (on_tree_value (tree_value (at_spread q s) calls room) answer.Refused λ x. tested (sub binary64 x q.target) 0)
+    cond (lt one s) (refusal reason.SpreadAbove 0)
+    (on_tree_value (tree_value (at_spread q s) calls room) Err λ x. tested (sub binary64 x q.target) 0)
 
 -- The spread and the number of spreads tried, 0 where the input is refused.
-unfoldable pub spread_from_price : Quoted → CallSchedule → Room → Root
+unfoldable pub spread_from_price : Quoted → CallSchedule → Room → Searched Root
 unfolding market_checks bracketed_root spread_objective
 spread_from_price q calls room =
-    on_check (market_checks target_limit (at_spread q q.target) calls) (λ r. root.Refused r 0)
+    on_check (market_checks target_limit (at_spread q q.target) calls) (λ r. no_root r 0)
     (bracketed_root (spread_objective q calls room) first_lower first_upper (neg one))
 
 unfoldable pub lent_after_spread : Quoted → CallSchedule → Lent → Lent

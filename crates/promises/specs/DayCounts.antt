@@ -1,9 +1,9 @@
 -- Definitions only. Document 02, Ask 5: what is promised of a day's time. Each is proved in laws/DayCounts.antt, the last in laws/ActualNumbers.antt. The call-list rules are unchanged: the code is a part of `Market`, which both lists of a rule share.
-use Rattle.std.specs.Prelude.{ℕ, ◌≤◌, ◌<◌, ◌≡◌, T, Float}
+use Rattle.std.specs.Prelude.{ℕ, ◌≤◌, ◌<◌, ◌≡◌, T, Float, Ok}
 use Rattle.std.specs.Float.{binary64}
 use Rattle.std.specs.Float.Ieee.{sub, div, le, lt}
+use Rattle.floats.specs.Reasons.{refusal_number}
 use Rattle.terms.specs.declared.Settlement.{Settlement}
-use Rattle.terms.specs.declared.Check.TheVariants.{Passed}
 use Rattle.terms.specs.Numbers.{float}
 use Rattle.terms.specs.Terms.{Leg, CallSchedule, Pillars, Bond, TimeGrid, Market}
 use Rattle.terms.specs.Times.{year_fraction}
@@ -48,17 +48,17 @@ pub record NeverGiven : Type 0 where
   pub never_34 :
       (s : Settlement) (p : Pillars) (maturity : ℕ)
       → s.code ≤ 1
-      → pillar_days p ≡ Passed
-      → pillar_order s.day maturity p ≡ Passed
-      → pillars_apart s p ≡ Passed
+      → pillar_days p ≡ Ok tt
+      → pillar_order s.day maturity p ≡ Ok tt
+      → pillars_apart s p ≡ Ok tt
   -- 2, 3 and 7 come before 35.
   pub never_35 :
       (s : Settlement) (l : Leg)
       → s.code ≤ 1
-      → leg_count l ≡ Passed
-      → leg_days l ≡ Passed
-      → any_paid s.day l ≡ Passed
-      → maturity_apart s l ≡ Passed
+      → leg_count l ≡ Ok tt
+      → leg_days l ≡ Ok tt
+      → any_paid s.day l ≡ Ok tt
+      → maturity_apart s l ≡ Ok tt
 
 -- And so no entry answers 34 or 35 under codes 0 and 1, whatever else it is given.
 abbrev pub Neither34Nor35 : ℕ → Type 0
@@ -68,7 +68,7 @@ pub record NeverAnswered : Type 0 where
   pub grid :
       (s : Settlement) (bond : Bond) (calls : CallSchedule) (controls : TimeGrid)
       → s.code ≤ 1
-      → Neither34Nor35 (grid_answer s bond calls controls).refusal.number
+      → Neither34Nor35 (refusal_number (grid_answer s bond calls controls).refusal)
   pub tree : (m : Market) (calls : CallSchedule) (room : Room) → m.settlement.code ≤ 1 → Neither34Nor35 (number_of (tree_value m calls room))
   pub straight :
       (s : Settlement) (l : Leg) (spread : Float) (p : Pillars)

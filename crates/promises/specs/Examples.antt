@@ -1,10 +1,10 @@
 -- The starred examples of document 01, proved together by computation.
-use Rattle.std.specs.Prelude.{ℕ, ◌≡◌, refl, List, [], ◌∷◌, ◌++◌, map, replicate, ℤ, pos, Float}
+use Rattle.floats.specs.Reasons.{refusal_number}
+use Rattle.std.specs.Prelude.{ℕ, ◌≡◌, refl, List, [], ◌∷◌, ◌++◌, map, replicate, ℤ, pos, Float, Ok, Err}
 use Rattle.std.specs.Float.{binary64}
 use Rattle.std.specs.Float.Ieee.{of_bits}
 use Rattle.std.specs.Float.Ieee as ieee
-use Rattle.floats.specs.declared.Answer.TheVariants as answer
-use Rattle.floats.specs.Answers.{plus_zero, one, on_answer}
+use Rattle.floats.specs.Answers.{plus_zero, one, on_outcome, Outcome}
 use Rattle.floats.specs.Whole.{round_alone, rounded}
 use Rattle.rounded.specs.Root.{sqrt_at}
 use Rattle.elementary.specs.Exponential.{exp_alone, exp_at}
@@ -14,14 +14,13 @@ use Rattle.terms.specs.declared.Settlement.{Settlement}
 use Rattle.terms.specs.Terms.{CallSchedule, Bond, TimeGrid, HullWhite, Market, no_entries}
 use Rattle.terms.specs.Numbers.{float, epsilon}
 use Rattle.terms.specs.Checks.{lowest, on_check}
-use Rattle.terms.specs.Outcomes.{Outcome, given, refused, on_outcome}
 use Rattle.bondevents.specs.Steps.{Axis, step_of, raw_step, paid_into}
 use Rattle.bondevents.specs.Calls.{new_step}
 use Rattle.bondevents.specs.Grid.{grid_answer, axis_of}
 use Rattle.hullwhite.specs.Variance.{piecewise_variance, variance_over}
-use Rattle.treebasedbondpricer.specs.declared.TreeValue.TheVariants as tree
 use Rattle.lattice.specs.Lattice.{Layer, Lattice, lattice}
 use Rattle.treebasedbondpricer.specs.Tree.{tree_value, Lent, room_of, lent_after, zeroed}
+use Rattle.floats.specs.declared.Reason.TheVariants as reason
 
 -- Doubles of the examples: −0.5, −1, −701, 1 + 2^−52, 1 − 2^−52, −2^−104, 0.5, 5, 99, 100.
 abbrev pub minus_half : Float
@@ -80,8 +79,8 @@ model times sigmas = record { alpha = plus_zero; sigma = record { times = times;
 
 -- The nodes of each layer, the last one included.
 abbrev pub nodes_of : Outcome Lattice → List (List ℤ)
-nodes_of (given t) = map (λ (l : Layer). l.nodes) t.layers ++ t.final ∷ []
-nodes_of (refused r) = []
+nodes_of (Ok t) = map (λ (l : Layer). l.nodes) t.layers ++ t.final ∷ []
+nodes_of (Err r) = []
 
 -- Factors 1, spread 0.
 abbrev pub market_on : ℕ → TimeGrid → HullWhite → Market
@@ -118,28 +117,28 @@ pub record Starred : Type 0 where
   pub day_46 : step_of year_axis 46 ≡ 2
   -- One step, discrete call between: no call price anywhere.
   pub call-between : (grid_answer settled (bond_on 365) (call_from 100 100) (steps 1 512)).grid.calls ≡ replicate 513 new_step
-  pub call-accepted : (grid_answer settled (bond_on 365) (call_from 100 100) (steps 1 512)).refusal.number ≡ 0
+  pub call-accepted : (refusal_number (grid_answer settled (bond_on 365) (call_from 100 100) (steps 1 512)).refusal) ≡ 0
   -- Alpha 0, sigma (0.5, 0.5), (1.0, 1.0), from 0 to 1.25: 0.5.
-  pub variance : piecewise_variance (model (half ∷ one ∷ []) (half ∷ one ∷ [])) plus_zero (of_bits binary64 0x3ff4_0000_0000_0000) 0 ≡ answer.Value half
+  pub variance : piecewise_variance (model (half ∷ one ∷ []) (half ∷ one ∷ [])) plus_zero (of_bits binary64 0x3ff4_0000_0000_0000) 0 ≡ Ok half
   -- Variance 2^−52 on every step: one node per layer.
   pub flat : nodes_of (lattice (room_of lent) plus_zero one (epsilon ∷ epsilon ∷ [])) ≡ (pos 0 ∷ []) ∷ (pos 0 ∷ []) ∷ (pos 0 ∷ []) ∷ []
   -- Alpha 0, sigma (0, 0.5), (1, 0), two one-year steps: 22, place 1.
   pub no_variance :
       tree_value (market_on 730 (steps 1 512) (model (plus_zero ∷ one ∷ []) (half ∷ plus_zero ∷ []))) no_calls (room_of lent)
-      ≡ tree.Refused (record { number = 22; place = 1 })
+      ≡ Err (record { reason = reason.NoVariance; place = 1 })
   -- round(−0.5) = −1; exp(0) = 1; ln(1) = 0; exp(−701) = 0.
-  pub round-half : round_alone minus_half ≡ answer.Value minus_one
-  pub exp-zero : exp_alone plus_zero ≡ answer.Value one
-  pub ln_one : ln_alone one ≡ answer.Value plus_zero
-  pub exp-low : exp_alone minus701 ≡ answer.Value plus_zero
+  pub round-half : round_alone minus_half ≡ Ok minus_one
+  pub exp-zero : exp_alone plus_zero ≡ Ok one
+  pub ln_one : ln_alone one ≡ Ok plus_zero
+  pub exp-low : exp_alone minus701 ≡ Ok plus_zero
   -- mul_add(1 + 2^−52, 1 − 2^−52, −1) = −2^−104.
-  pub fused : mul_add_alone one_plus one_less minus_one ≡ answer.Value tiny
+  pub fused : mul_add_alone one_plus one_less minus_one ≡ Ok tiny
   -- Redemption 100 and coupon 5 at 365 days, factors 1, sigma 0, one step, window from settlement to maturity, strike 99, units 100, spread 0: value 99, 2 nodes; the slices are left all zero.
-  pub window : tree_value market99 (call_from 0 365) (room_of lent) ≡ tree.Value (float 99) 2
+  pub window : tree_value market99 (call_from 0 365) (room_of lent) ≡ Ok (record { value = (float 99); nodes = 2 })
   pub slices : lent_after market99 (call_from 0 365) lent ≡ zeroed lent
 
 pub starred : Starred
-unfolding grid_answer axis_of raw_step variance_over lattice tree_value lent_after rounded exp_at ln_at sqrt_at mul_add on_answer on_outcome on_check lowest paid_into ieee.of_bits ieee.add ieee.sub ieee.mul ieee.div ieee.neg ieee.lt ieee.le ieee.of_int ieee.to_unsigned
+unfolding grid_answer axis_of raw_step variance_over lattice tree_value lent_after rounded exp_at ln_at sqrt_at mul_add on_outcome on_check lowest paid_into ieee.of_bits ieee.add ieee.sub ieee.mul ieee.div ieee.neg ieee.lt ieee.le ieee.of_int ieee.to_unsigned
 starred =
     record {
       twelve-steps = refl;

@@ -1,10 +1,10 @@
 -- Times at month ends by 30E/360, and what rests on the day and what on the time, computed. Day 29 is 30 January 1900: the checker counts from there.
-use Rattle.std.specs.Prelude.{ℕ, ◌≡◌, refl, true, false, [], ◌∷◌, get_or}
+use Rattle.floats.specs.Reasons.{refusal_number}
+use Rattle.std.specs.Prelude.{ℕ, ◌≡◌, refl, true, false, [], ◌∷◌, get_or, Ok, Err}
 use Rattle.std.specs.Float.{binary64}
 use Rattle.std.specs.Float.Ieee.{div}
 use Rattle.std.specs.Float.Ieee as ieee
-use Rattle.floats.specs.declared.Answer.TheVariants as answer
-use Rattle.floats.specs.Answers.{one, on_answer}
+use Rattle.floats.specs.Answers.{one, on_outcome}
 use Rattle.floats.specs.Whole.{rounded}
 use Rattle.elementary.specs.Exponential.{exp_at}
 use Rattle.elementary.specs.Logarithm.{ln_at}
@@ -14,17 +14,16 @@ use Rattle.terms.specs.Numbers.{float}
 use Rattle.terms.specs.Terms.{Leg, CallSchedule, Pillars, no_entries}
 use Rattle.terms.specs.Times.{time_from, year_fraction}
 use Rattle.terms.specs.Checks.{lowest, on_check}
-use Rattle.terms.specs.Outcomes.{on_outcome}
 use Rattle.terms.specs.Curve.{curve_over}
 use Rattle.bondevents.specs.declared.Exercise.{Exercise}
 use Rattle.bondevents.specs.Steps.{raw_step, paid_into}
 use Rattle.bondevents.specs.Calls.{new_step}
 use Rattle.bondevents.specs.Grid.{grid_answer}
 use Rattle.bondpricer.specs.Straight.{straight_value}
-use Rattle.interestrate.specs.declared.YieldPrice.TheVariants as price
 use Rattle.interestrate.specs.Prices.{on_price}
 use Rattle.interestrate.specs.Rates.{with_code}
 use Rattle.bondanalytics.specs.Yields.{price_from_yield}
+use Rattle.floats.specs.declared.Reason.TheVariants as reason
 
 abbrev by : ℕ → ℕ → Settlement
 by code day = record { day = day; code = code }
@@ -46,7 +45,7 @@ call_at day calls yearly step =
 
 abbrev number_of : ℕ → CallSchedule → ℕ → ℕ
 number_of day calls yearly =
-    (grid_answer (by 2 29) (record { leg = redeemed day; units = float 100; puts = no_entries }) calls (record { per_year = yearly; maximum = 512 })).refusal.number
+    (refusal_number (grid_answer (by 2 29) (record { leg = redeemed day; units = float 100; puts = no_entries }) calls (record { per_year = yearly; maximum = 512 })).refusal)
 
 pub record Starred : Type 0 where
   -- 30E: no day from 30 to 31 January 1900, nor back; 3 from 28 February 1901 to 1 March; 31 from 29 February 1904 to 31 March; 30 from 31 December 1900 to 31 January.
@@ -70,16 +69,16 @@ pub record Starred : Type 0 where
   pub window-only-there : (call_at 759 (called_on 394 395) 1 0).marked ≡ false
   -- All paid on the 31st after a settlement on the 30th: 35 in the grid, a value in the straight value and a price of a yield.
   pub grid_35 : number_of 30 (called_on 30 30) 1 ≡ 35
-  pub straight-kept : straight_value (by 2 29) (redeemed 30) (float 0) (pillars_on 29 40) ≡ answer.Value (float 100)
-  pub price-kept : price_from_yield (by 2 29) (redeemed 30) 2 1 (float 1) ≡ price.Price (float 100) (float 0)
+  pub straight-kept : straight_value (by 2 29) (redeemed 30) (float 0) (pillars_on 29 40) ≡ Ok (float 100)
+  pub price-kept : price_from_yield (by 2 29) (redeemed 30) 2 1 (float 1) ≡ Ok (record { price = (float 100); derivative = (float 0) })
   -- 34 in the straight value too; a last pillar on the 30th and a maturity on the 31st are 8, by the day.
-  pub straight_34 : straight_value (by 2 29) (redeemed 30) (float 0) (pillars_on 29 30) ≡ answer.Refused (record { number = 34; place = 1 })
-  pub straight_8 : straight_value (by 2 19) (redeemed 30) (float 0) (pillars_on 19 29) ≡ answer.Refused (record { number = 8; place = 1 })
+  pub straight_34 : straight_value (by 2 29) (redeemed 30) (float 0) (pillars_on 29 30) ≡ Err (record { reason = reason.SameTime; place = 1 })
+  pub straight_8 : straight_value (by 2 19) (redeemed 30) (float 0) (pillars_on 19 29) ≡ Err (record { reason = reason.PillarOrder; place = 1 })
   -- 33 comes before the counts.
-  pub straight_33 : straight_value (by 3 19) (redeemed 30) (float 0) (record { days = []; factors = [] }) ≡ answer.Refused (record { number = 33; place = 0 })
+  pub straight_33 : straight_value (by 3 19) (redeemed 30) (float 0) (record { days = []; factors = [] }) ≡ Err (record { reason = reason.DayCount; place = 0 })
 
 pub starred : Starred
-unfolding time_from thirties grid_answer raw_step paid_into straight_value curve_over exp_at ln_at price_from_yield with_code on_price on_outcome on_check lowest on_answer rounded ieee.of_bits ieee.add ieee.sub ieee.mul ieee.div ieee.neg ieee.lt ieee.le ieee.eq ieee.of_int ieee.to_unsigned ieee.to_signed
+unfolding time_from thirties grid_answer raw_step paid_into straight_value curve_over exp_at ln_at price_from_yield with_code on_price on_outcome on_check lowest rounded ieee.of_bits ieee.add ieee.sub ieee.mul ieee.div ieee.neg ieee.lt ieee.le ieee.eq ieee.of_int ieee.to_unsigned ieee.to_signed
 starred =
     record {
       thirty_first = refl;

@@ -1,10 +1,10 @@
 -- Definitions only. What is promised of the tree value with a call list that notices give.
-use Rattle.std.specs.Prelude.{ℕ, ◌≡◌, [], Float}
+use Rattle.floats.specs.Reasons.{refusal_number}
+use Rattle.std.specs.Prelude.{ℕ, ◌≡◌, [], Float, Ok}
 use Rattle.terms.specs.Terms.{CallSchedule, Market}
 use Rattle.terms.specs.Entries.{tree_checks}
 use Rattle.terms.specs.CallLists.{MadeFrom}
 use Rattle.lattice.specs.Layers.{Room}
-use Rattle.treebasedbondpricer.specs.declared.TreeValue.TheVariants.{Value}
 use Rattle.treebasedbondpricer.specs.Tree.{tree_value}
 use Rattle.treebasedbondpricer.specs.CallLists.{NoLowerOr27}
 use Rattle.callnotices.specs.Notices.{Notices}
@@ -16,7 +16,7 @@ calls_of n = schedule_of (call_list n)
 
 -- Accepted means not refused.
 abbrev pub Accepted : Notices → Type 0
-Accepted n = (call_list n).refusal.number ≡ 0
+Accepted n = (refusal_number (call_list n).refusal) ≡ 0
 
 abbrev pub no_calls : CallSchedule
 no_calls = record { starts = []; ends = []; strikes = [] }
@@ -31,5 +31,5 @@ NoticeRule =
     (first second : Notices) → Accepted first → Accepted second
     → MadeFrom (calls_of first) (calls_of second)
     → (m : Market) (room : Room) (x : Float) (n : ℕ)
-    → tree_value m (calls_of first) room ≡ Value x n
+    → tree_value m (calls_of first) room ≡ Ok (record { value = x; nodes = n })
     → NoLowerOr27 x (tree_value m (calls_of second) room)

@@ -1,12 +1,11 @@
 -- Definitions only. Document 02, Ask 9: what is promised of the probabilities of a transition, and of 24. Each is proved in laws/ProbabilityPromise.antt.
-use Rattle.std.specs.Prelude.{ℕ, ◌*◌, ◌≤◌, ◌≡◌, List, T, ℤ, Float}
+use Rattle.std.specs.Prelude.{ℕ, ◌*◌, ◌≤◌, ◌≡◌, List, T, ℤ, Float, Ok}
 use Rattle.std.specs.Float.{binary64}
 use Rattle.std.specs.Float.Ieee.{of_bits, neg, le, lt, to_signed}
 use Rattle.std.specs.Float.Ieee.Positive.{num, den}
 use Rattle.floats.specs.Answers.{plus_zero, one}
 use Rattle.terms.specs.Numbers.{epsilon, million}
 use Rattle.terms.specs.Terms.{CallSchedule, Market}
-use Rattle.terms.specs.Outcomes.{given}
 use Rattle.lattice.specs.declared.Transition.{Transition}
 use Rattle.lattice.specs.Layers.{Room}
 use Rattle.lattice.specs.Transitions.{Step, clamped, transition_of}
@@ -24,7 +23,7 @@ pub record FourHundredths : Type 0 where
 
 -- Each probability before clamping is at least 0.04; these three are what `transitionOf` clamps, in the step that `step_of` makes.
 pub record BeforeClamping (spacing decay variance : Float) (k : ℕ) (s : Step) (n : ℤ) : Type 0 where
-  pub step : step_of spacing decay variance k ≡ given s
+  pub step : step_of spacing decay variance k ≡ Ok s
   pub transition : transition_of s n ≡ clamped (to_signed 31 (middle_of s n)) (down_of s n) (mid_of s n) (up_of s n) k
   pub down : T (le least_probability (down_of s n))
   pub middle : T (le least_probability (mid_of s n))
@@ -53,7 +52,7 @@ pub record HandedOn (t : Transition) : Type 0 where
 abbrev pub BetweenZeroAndOne : Type 0
 BetweenZeroAndOne =
     (room : Room) (alpha dt : Float) (variances : List Float) (t : Lattice)
-    → lattice room alpha dt variances ≡ given t
+    → lattice room alpha dt variances ≡ Ok t
     → Each (λ (l : Layer). Each HandedOn l.transitions) t.layers
 
 -- 24 is never given, whatever the input.

@@ -1,5 +1,6 @@
 -- Values on the sheet as it once was, a half going away from zero, beside the rule in force, and lines of answers that are no number, computed by the checker.
-use Rattle.std.specs.Prelude.{ℕ, ◌≡◌, refl, false, true, [], ◌∷◌, ◌++◌, Float}
+use Rattle.floats.specs.declared.Reason.TheVariants as reason
+use Rattle.std.specs.Prelude.{ℕ, ◌≡◌, refl, false, true, [], ◌∷◌, ◌++◌, Float, Ok, Some}
 use Prim.Native.String.{String}
 use Rattle.std.specs.Float.{nan, inf, binary64}
 use Rattle.std.specs.Float.Ieee.{of_bits}
@@ -7,8 +8,7 @@ use Rattle.std.specs.Float.Ieee as ieee
 use Rattle.decimal.specs.Examples.{bytes}
 use Rattle.bondreport.specs.Columns.{put_at}
 use Rattle.bondreport.specs.Numbers.{byte_left, digits_left, width_of, whole_left}
-use Rattle.bondreport.specs.Figures.{on_decimals, point_left, minus_left}
-use Rattle.treebasedbondpricer.specs.declared.TreeValue.TheVariants.{Value}
+use Rattle.bondreport.specs.Figures.{point_left, minus_left}
 use Rattle.closingsheet.specs.declared.ValueCell.{ValueCell}
 use Rattle.closingsheet.specs.declared.ClosingLine.{ClosingLine}
 use Rattle.closingsheet.specs.Cells.{printed_of, value_cell}
@@ -25,12 +25,12 @@ pub record Prints (bits : ℕ) (once now : String) : Type 0 where
 
 -- Bond 1's line of 32: value and count are blank.
 abbrev line32 : ClosingLine
-line32 = record { refusal = at 32 0; line = bytes "     1                          32" ++ (10 ∷ []) }
+line32 = record { refusal = Some (at reason.TooWide 0); line = bytes "     1                          32" ++ (10 ∷ []) }
 
 -- Bond 1's line of a value with 2 nodes, as it was and as it is.
 pub record NotShown (x : Float) : Type 0 where
-  pub half_away_lem : away_sheet 1 (Value x 2) ≡ line32
-  pub half_to_even : sheet_of 1 (Value x 2) ≡ line32
+  pub half_away_lem : away_sheet 1 (Ok (record { value = x; nodes = 2 })) ≡ line32
+  pub half_to_even : sheet_of 1 (Ok (record { value = x; nodes = 2 })) ≡ line32
 
 pub record Starred : Type 0 where
   -- 0.125, -0.125 and 0.375 are exact halves: the last goes up either way.
@@ -45,7 +45,7 @@ pub record Starred : Type 0 where
   pub no_number : NotShown nan
 
 pub starred : Starred
-unfolding printed_away put_at byte_left digits_left width_of whole_left on_decimals point_left minus_left printed_of answer_sheet sheet_by ieee.of_bits
+unfolding printed_away put_at byte_left digits_left width_of whole_left point_left minus_left printed_of answer_sheet sheet_by ieee.of_bits
 starred =
     record {
       half = record { half_away_lem = refl; half_to_even = refl };

@@ -1,22 +1,21 @@
 -- Definitions only. How large must the slices be: what sizing promises a C caller of the tree value, of a closing line, of spread from price and of a book, and which numbers it ends in.
-use Rattle.std.specs.Prelude.{ℕ, ◌≤◌, ◌<◌, ◌≡◌, ◌⊎◌, List, [], ◌∷◌, Float}
+use Rattle.std.specs.Prelude.{ℕ, ◌≤◌, ◌<◌, ◌≡◌, ◌⊎◌, List, [], ◌∷◌, Float, Err}
 use Rattle.std.specs.Float.{binary64}
 use Rattle.std.specs.Float.Ieee.{div}
+use Rattle.floats.specs.Reasons.{reason_number}
 use Rattle.floats.specs.declared.Refusal.{Refusal}
-use Rattle.terms.specs.declared.Check.{Check}
+use Rattle.floats.specs.Answers.{Check, Outcome, follow, when_finite}
 use Rattle.terms.specs.Numbers.{float}
 use Rattle.terms.specs.Terms.{CallSchedule, Market, with_spread}
 use Rattle.terms.specs.Checks.{on_check}
 use Rattle.terms.specs.Entries.{tree_checks, spread_checks}
-use Rattle.terms.specs.Outcomes.{Outcome, refused, follow, finite_then}
 use Rattle.bondevents.specs.Grid.{event_grid}
 use Rattle.hullwhite.specs.Variance.{transition_variances, variances_from}
 use Rattle.lattice.specs.Layers.{Room}
 use Rattle.lattice.specs.Lattice.{Lattice, lattice}
 use Rattle.treebasedbondpricer.specs.Tree.{Lent, room_of}
-use Rattle.bookchecks.specs.declared.BookCheck.TheVariants as book
 use Rattle.bookchecks.specs.Book.{Book, size_of, market_at, calls_at}
-use Rattle.bookchecks.specs.Checks.{book_checks}
+use Rattle.bookchecks.specs.Checks.{book_checks, Passed}
 use Rattle.sizing.specs.declared.Lengths.{Lengths}
 use Rattle.promises.specs.RefusalNumbers.{Among}
 use Rattle.promises.specs.HostCallLists.{TreeCall, SpreadCall, SheetCall, SizesCall, BookCall}
@@ -43,24 +42,32 @@ pub data Shorter (l : Lengths) (room : Room) : Type 0 where
 unfoldable pub before_fit : Check → Market → CallSchedule → Room → Outcome Lattice
 unfolding event_grid variances_from lattice div
 before_fit checks m calls room =
-    on_check checks refused
+    on_check checks Err
     (follow (event_grid m.settlement m.bond calls m.controls) λ grid.
-    finite_then (div binary64 grid.maturity_time (float grid.steps)) 0 λ dt.
+    when_finite (div binary64 grid.maturity_time (float grid.steps)) 0 λ dt.
     follow (transition_variances m.model grid.steps dt) λ variances. lattice room m.model.alpha dt variances)
 
--- 21; or, for another cause, the very refusal that checks, grid, variances or layers give in ample slices. Never 0, so never accepted.
-pub data Stops (l : Lengths) (before : Room → Outcome Lattice) : Refusal → Type 0 where
-  with_21 : {k : ℕ} → Stops l before (record { number = 21; place = k })
-  earlier : {q : Refusal} → (q.number ≡ 21 → ⊥) → (q.number ≡ 0 → ⊥) → ((ample : Room) → AsLong l ample → before ample ≡ refused q) → Stops l before q
+-- The number and the place of a refusal, as a call hands them back.
+pub record Answered : Type 0 where
+  pub number : ℕ
+  pub place : ℕ
 
--- Of all calls of one function: what was lent, and the refusal, number 0 where accepted.
-pub record RightLengths (l : Lengths) (before : Room → Outcome Lattice) (Call : Type 0) (lent : Call → Lent) (refusal : Call → Refusal) : Type 0 where
+abbrev pub answered : Refusal → Answered
+answered q = record { number = reason_number q.reason; place = q.place }
+
+-- 21; or, for another cause, the very refusal that checks, grid, variances or layers give in ample slices. Never 0, so never accepted.
+pub data Stops (l : Lengths) (before : Room → Outcome Lattice) : Answered → Type 0 where
+  with_21 : {k : ℕ} → Stops l before (record { number = 21; place = k })
+  earlier : {q : Refusal} → (reason_number q.reason ≡ 21 → ⊥) → (reason_number q.reason ≡ 0 → ⊥) → ((ample : Room) → AsLong l ample → before ample ≡ Err q) → Stops l before (answered q)
+
+-- Of all calls of one function: what was lent, and the refusal that it hands back, number 0 where accepted.
+pub record RightLengths (l : Lengths) (before : Room → Outcome Lattice) (Call : Type 0) (lent : Call → Lent) (refusal : Call → Answered) : Type 0 where
   -- With slices of the lengths given the call never answers 21.
   pub never_21 : (c : Call) → AsLong l (room_of (lent c)) → (refusal c).number ≡ 21 → ⊥
   -- With any one of them shorter it does, unless it stops earlier for another cause.
   pub shorter : (c : Call) → Shorter l (room_of (lent c)) → Stops l before (refusal c)
   -- What refuses before the fit is what the call answers.
-  pub first_cause : (c : Call) (q : Refusal) → before (room_of (lent c)) ≡ refused q → refusal c ≡ q
+  pub first_cause : (c : Call) (q : Refusal) → before (room_of (lent c)) ≡ Err q → refusal c ≡ answered q
 
 -- ---- the promise
 
@@ -118,10 +125,10 @@ pub record ShortBook (b : Book) (c : BookCall b) (sizes : BookSizes b) (bond : �
   -- 21; or the very refusal, with its place and bond, that every call of the book has in ample slices.
   pub refused : (c.number ≡ 21) ⊎ ((ample : BookCall b) → AmpleFor b sizes (room_of ample.lent) → (ample.number ≡ c.number) × (ample.place ≡ c.place) × (ample.bond ≡ c.bond))
   -- Behind the book's checks it names that bond or one before it.
-  pub no_later : book_checks b ≡ book.Passed → c.bond ≤ bond
+  pub no_later : book_checks b ≡ Passed → c.bond ≤ bond
   -- A bond that it names, and for which a slice is too short, stops as it does alone: never by fit or walk.
   pub stops :
-      book_checks b ≡ book.Passed
+      book_checks b ≡ Passed
       → Shorter (lengths_in (sizes c.bond)) (room_of c.lent)
       → Stops (lengths_in (sizes c.bond)) (bond_before_fit b c.bond) (record { number = c.number; place = c.place })
 

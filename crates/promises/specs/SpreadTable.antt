@@ -1,13 +1,11 @@
 -- Definitions only. What is promised of a spread by sigma table, as a C caller meets it.
 use Rattle.std.specs.Prelude.{ℕ, ◌+◌, ◌-◌, ◌*◌, ◌<◌, ◌≡◌, ◌↔◌, Bool, true, false, not, List, [], ◌∷◌, ◌++◌, T, length, get_or, take, drop, replicate, Float}
-use Rattle.floats.specs.declared.Refusal.{Refusal}
-use Rattle.floats.specs.Answers.{plus_zero}
+use Rattle.floats.specs.Answers.{plus_zero, Outcome}
 use Rattle.decimal.specs.Examples.{bytes}
 use Rattle.terms.specs.Numbers.{float}
 use Rattle.terms.specs.Terms.{CallSchedule, Market, with_spread, with_puts}
 use Rattle.terms.specs.CallLists.{MadeFrom, LoweredFrom}
 use Rattle.terms.specs.Entries.{tree_checks}
-use Rattle.terms.specs.Outcomes.{Outcome}
 use Rattle.lattice.specs.Layers.{Room}
 use Rattle.lattice.specs.Lattice.{Lattice}
 use Rattle.treebasedbondpricer.specs.Tree.{room_of, zeroed}
@@ -20,7 +18,7 @@ use Rattle.spreadtable.specs.Table.{shifted, with_shift, any_outside, wrong_coun
 use Rattle.promises.specs.RefusalNumbers.{member}
 use Rattle.promises.specs.Examples.{market99, call_from, lent}
 use Rattle.promises.specs.HostCallLists.{TreeCall, SizesCall, TableCall}
-use Rattle.promises.specs.Sizing.{AsLong, Shorter, before_fit, Stops, lengths_in}
+use Rattle.promises.specs.Sizing.{AsLong, Shorter, before_fit, Stops, lengths_in, Answered}
 
 -- ---- where things stand on the page
 
@@ -158,7 +156,7 @@ RowSized =
 -- A cell that stops for want of room, or before it: a number behind a hash sign, never a value.
 pub record ShortCell (l : Lengths) (before : Room → Outcome Lattice) (cell : List ℕ) : Type 0 where
   pub no_value : ShowsValue cell → ⊥
-  pub refusal : Refusal
+  pub refusal : Answered
   pub shows : cell ≡ hash_cell refusal.number
   pub stops : Stops l before refusal
 

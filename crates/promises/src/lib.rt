@@ -1,3 +1,3 @@
 // No function: theorems about what the entries answer stand in specs.
 
-#![tactic(auto)]
+#![tactic(auto, unfolding(floats::specs::Answers::on_outcome))]

@@ -2,7 +2,7 @@
 // fields of a bond have lengths of their own, so that they need not add up.
 
 use crate::lists::{eight_bytes, eight_floats, eight_numbers};
-use crate::record::{float, number, word};
+use crate::record::{float, is_refused, number, word};
 use bookchecks::cut::{cut_days, cut_kinds, cut_numbers};
 use bookvalue::BookAnswer;
 use bookvalue::entry::book_value;
@@ -40,10 +40,7 @@ fn same_counts(counts: [u64; 8], record: &[u8; 1784]) -> bool {
 // Whether an answer is the number, the place, the bond, the sum, the values and the counts that a record holds.
 fn is_answer(answer: BookAnswer, record: &[u8; 1784]) -> bool {
     let refusal = answer.refusal;
-    if refusal.number != number(record, 93) {
-        return false;
-    }
-    if refusal.place != number(record, 94) {
+    if !is_refused(refusal, record) {
         return false;
     }
     if answer.bond != number(record, 96) {

@@ -1,9 +1,9 @@
 // The elementary functions, kinds 1 to 11.
 
 use crate::record::{float, number};
-use floats::Answer;
+use floats::Refusal;
 
-fn answer_to(kind: u64, a: f64, b: f64, c: f64) -> Answer {
+fn answer_to(kind: u64, a: f64, b: f64, c: f64) -> Result<f64, Refusal> {
     match kind {
         1 => rounded::sqrt::sqrt(a),
         2 => floats::round::round(a),
@@ -20,12 +20,10 @@ fn answer_to(kind: u64, a: f64, b: f64, c: f64) -> Answer {
 }
 
 // Whether an answer is the number, the place and the value that a record holds.
-fn is_answer(answer: Answer, number: u32, place: u32, value: f64) -> bool {
+fn is_answer(answer: Result<f64, Refusal>, number: u32, place: u32, value: f64) -> bool {
     match answer {
-        Answer::Value(x) => number == 0 && place == 0 && x == value,
-        Answer::Refused(refusal) => refusal.number == number
-            && refusal.place == place
-            && value == 0.0,
+        Ok(x) => number == 0 && place == 0 && x == value,
+        Err(refusal) => refusal.reason.number() == number && refusal.place == place && value == 0.0,
     }
 }
 

@@ -1,7 +1,7 @@
 // The event grid, kind 12: at most 8 cashflows, 4 call and 4 put entries and 24 steps.
 
 use crate::lists::{eight_bytes, eight_floats, eight_numbers};
-use crate::record::{float, number, settlement_of};
+use crate::record::{float, is_refused, number, settlement_of};
 use bondevents::{Exercise, GridAnswer};
 
 // Whether a step is what the record holds of it.
@@ -42,10 +42,7 @@ fn same_steps(answer: GridAnswer, record: &[u8; 1784]) -> bool {
 fn same_grid(answer: GridAnswer, record: &[u8; 1784]) -> bool {
     let refusal = answer.refusal;
     let grid = answer.grid;
-    if refusal.number != number(record, 93) {
-        return false;
-    }
-    if refusal.place != number(record, 94) {
+    if !is_refused(refusal, record) {
         return false;
     }
     if grid.steps != number(record, 97) {

@@ -1,7 +1,7 @@
 // The call list of notices, kind 18: at most 8 notices.
 
 use crate::lists::{eight_floats, eight_numbers};
-use crate::record::{float, number};
+use crate::record::{float, is_refused, number};
 use callnotices::CallList;
 use callnotices::entry::call_list;
 
@@ -31,10 +31,7 @@ fn same_places(answer: CallList, record: &[u8; 1784]) -> bool {
 
 fn same_list(answer: CallList, record: &[u8; 1784]) -> bool {
     let refusal = answer.refusal;
-    if refusal.number != number(record, 93) {
-        return false;
-    }
-    if refusal.place != number(record, 94) {
+    if !is_refused(refusal, record) {
         return false;
     }
     if answer.count != number(record, 97) {

@@ -2,16 +2,22 @@
 
 use crate::lists::{eight_bytes, eight_floats, eight_numbers};
 use crate::record::{float, number, settlement_of};
-use brackets::Root;
+use brackets::{NoRoot, Root};
 
 // Whether an answer is the number, the place, the spread and the tries that a record holds.
-fn is_answer(answer: Root, number: u32, place: u32, spread: f64, tried: u32) -> bool {
+fn is_answer(
+    answer: Result<Root, NoRoot>,
+    number: u32,
+    place: u32,
+    spread: f64,
+    tried: u32,
+) -> bool {
     match answer {
-        Root::Found(x, n) => number == 0 && place == 0 && x == spread && n == tried,
-        Root::Refused(refusal, n) => refusal.number == number
-            && refusal.place == place
+        Ok(root) => number == 0 && place == 0 && root.at == spread && root.evaluations == tried,
+        Err(none) => none.refusal.reason.number() == number
+            && none.refusal.place == place
             && spread == 0.0
-            && n == tried,
+            && none.evaluations == tried,
     }
 }
 

@@ -1,6 +1,7 @@
 // A record of the sample: 223 words of 64 bits, little-endian. A word past the end is 0.
 ghost use Rattle.std.specs.Prelude.{◌<◌};
 
+use floats::Refusal;
 use terms::Settlement;
 
 fn wide(byte: u8) -> u64
@@ -81,4 +82,13 @@ pub(crate) fn any_nan(record: &[u8; 1784]) -> bool {
         at += 1;
     }
     false
+}
+
+// Whether a refusal, or none, is the number and the place that a record holds behind its inputs.
+pub(crate) fn is_refused(refusal: Option<Refusal>, record: &[u8; 1784]) -> bool {
+    let (why, place) = match refusal {
+        Some(r) => (r.reason.number(), r.place),
+        None => (0, 0),
+    };
+    why == number(record, 93) && place == number(record, 94)
 }

@@ -1,20 +1,9 @@
 // A line of the closing sheet, kind 19: a bond number and an answer of the tree value, a value with its count or a refusal with its place.
 
-use crate::record::{float, number, word};
-use closingsheet::line::line_of;
-use floats::Refusal;
+use crate::record::{float, is_refused, number, word};
+use closingsheet::ClosingLine;
+use closingsheet::line::{line_of, refused_line};
 use treebasedbondpricer::TreeValue;
-
-// The answer that a record holds.
-fn answer(record: &[u8; 1784]) -> TreeValue {
-    if number(record, 2) == 0 {
-        return TreeValue::Value(float(record, 3), word(record, 4));
-    }
-    TreeValue::Refused(Refusal {
-        number: number(record, 3),
-        place: number(record, 4),
-    })
-}
 
 // Whether a line is the 35 bytes that a record holds.
 fn same_bytes(line: [u8; 35], record: &[u8; 1784]) -> bool {
@@ -28,15 +17,21 @@ fn same_bytes(line: [u8; 35], record: &[u8; 1784]) -> bool {
     true
 }
 
+// A refusal may have any number; it is handed on as it is, unless the bond's number is out of range.
 pub(crate) fn same(record: &[u8; 1784]) -> bool {
-    let filed = line_of(number(record, 1), answer(record));
-    let refusal = filed.refusal;
-    if refusal.number != number(record, 93) {
-        return false;
+    let bond = number(record, 1);
+    let why = number(record, 3);
+    if number(record, 2) == 0 || bond < ClosingLine::FIRST_BOND || bond > ClosingLine::LAST_BOND {
+        let answer = TreeValue {
+            value: float(record, 3),
+            nodes: word(record, 4),
+        };
+        let filed = line_of(bond, Ok(answer));
+        let refusal = filed.refusal;
+        let line = filed.line;
+        return is_refused(refusal, record) && same_bytes(line, record);
     }
-    if refusal.place != number(record, 94) {
-        return false;
-    }
-    let line = filed.line;
-    same_bytes(line, record)
+    why == number(record, 93)
+        && number(record, 4) == number(record, 94)
+        && same_bytes(refused_line(bond, why), record)
 }

@@ -3,7 +3,8 @@
 use crate::lists::{eight_bytes, eight_floats, eight_numbers};
 use crate::record::{float, number, settlement_of, word};
 use crate::trees::{all_numbers, of_input};
-use sizing::{Lengths, Sizes};
+use floats::Refusal;
+use sizing::Lengths;
 
 fn are_lengths(l: Lengths, record: &[u8; 1784]) -> bool {
     l.nodes == word(record, 97)
@@ -13,12 +14,10 @@ fn are_lengths(l: Lengths, record: &[u8; 1784]) -> bool {
 }
 
 // Whether an answer is the number, the place and the lengths that a record holds.
-fn is_answer(answer: Sizes, record: &[u8; 1784]) -> bool {
+fn is_answer(answer: Result<Lengths, Refusal>, record: &[u8; 1784]) -> bool {
     match answer {
-        Sizes::Sized(l) => number(record, 93) == 0
-            && number(record, 94) == 0
-            && are_lengths(l, record),
-        Sizes::Refused(refusal) => refusal.number == number(record, 93)
+        Ok(l) => number(record, 93) == 0 && number(record, 94) == 0 && are_lengths(l, record),
+        Err(refusal) => refusal.reason.number() == number(record, 93)
             && refusal.place == number(record, 94)
             && word(record, 100) == 0,
     }

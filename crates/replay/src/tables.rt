@@ -1,7 +1,7 @@
 // The spread by sigma table, kind 21: the lists of a tree value, up to 4 spreads and 2 shifts, and the first 130 bytes of the page, which hold all of it.
 
 use crate::lists::{eight_bytes, eight_floats, eight_numbers};
-use crate::record::{float, number, settlement_of};
+use crate::record::{float, is_refused, number, settlement_of};
 use spreadtable::SpreadTable;
 use spreadtable::entry::spread_table;
 
@@ -32,10 +32,7 @@ fn zero_behind(page: [u8; 4112]) -> bool {
 // Whether an answer is the number, the place, the length and the page that a record holds.
 fn is_answer(answer: SpreadTable, record: &[u8; 1784]) -> bool {
     let refusal = answer.refusal;
-    if refusal.number != number(record, 93) {
-        return false;
-    }
-    if refusal.place != number(record, 94) {
+    if !is_refused(refusal, record) {
         return false;
     }
     if answer.length != number(record, 97) {

@@ -4,13 +4,23 @@
 use crate::lists::{eight_bytes, eight_floats, eight_numbers};
 use crate::record::{float, number, settlement_of, word};
 use crate::{books, quotes, tables};
+use floats::Refusal;
 use treebasedbondpricer::TreeValue;
 
 // Whether an answer is the number, the place, the value and the node count that a record holds.
-fn is_answer(answer: TreeValue, number: u32, place: u32, value: f64, count: u64) -> bool {
+fn is_answer(
+    answer: Result<TreeValue, Refusal>,
+    number: u32,
+    place: u32,
+    value: f64,
+    count: u64,
+) -> bool {
     match answer {
-        TreeValue::Value(x, n) => number == 0 && place == 0 && x == value && n == count,
-        TreeValue::Refused(refusal) => refusal.number == number
+        Ok(TreeValue { value: x, nodes: n }) => number == 0
+            && place == 0
+            && x == value
+            && n == count,
+        Err(refusal) => refusal.reason.number() == number
             && refusal.place == place
             && value == 0.0
             && count == 0,

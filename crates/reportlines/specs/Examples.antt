@@ -9,11 +9,10 @@ use Rattle.decimal.specs.Writing.{decimals_of, hex_digits}
 use Rattle.decimal.specs.Examples.{bytes}
 use Rattle.bondreport.specs.Columns.{blank_line, put_at, used_of}
 use Rattle.bondreport.specs.Numbers.{byte_left, digits_left, width_of, whole_left}
-use Rattle.bondreport.specs.Figures.{on_dating, on_decimals, point_left, minus_left}
+use Rattle.bondreport.specs.Figures.{point_left, minus_left}
 use Rattle.bondreport.specs.Lines.{call_heading, no_calls, put_strike, stands_apart, strike_line, call_line, day_line, no_pillar, number_line, count_line, refused_line, text_line}
 use Rattle.bondreport.specs.Sentences.{Advice, advice, sentence_for}
 use Rattle.bondreport.specs.Order.{before, how_many, first_from, at_rank}
-use Rattle.bondline.specs.Bytes.{leading}
 use Rattle.bondline.specs.Words.{span_of}
 use Rattle.bondfile.specs.File.{lines_of}
 use Rattle.reportlines.specs.Typed.{typed_word}
@@ -71,7 +70,7 @@ pub record Starred : Type 0 where
   pub no_fourth : ranked 3 ≡ 3
 
 pub starred : Starred
-unfolding put_at used_of byte_left digits_left width_of whole_left on_dating on_decimals point_left minus_left sentence_for before how_many first_from dating decimals_of hex_digits leading span_of lines_of ieee.of_bits ieee.to_bits ieee.eq ieee.lt
+unfolding put_at used_of byte_left digits_left width_of whole_left point_left minus_left sentence_for before how_many first_from dating decimals_of hex_digits span_of lines_of ieee.of_bits ieee.to_bits ieee.eq ieee.lt
 starred =
     record {
       heading = refl;

@@ -1,6 +1,5 @@
 -- Definitions only. What stands on a line of a file, as it was typed.
-use Rattle.std.specs.Prelude.{ℕ, ◌-◌, ◌≤◌, ◌≡◌, List, [], map, length, get_or, drop}
-use Rattle.decimal.specs.declared.ReadDecimal.TheVariants.{Number}
+use Rattle.std.specs.Prelude.{ℕ, ◌-◌, ◌≤◌, ◌≡◌, List, [], map, length, get_or, drop, Ok}
 use Rattle.decimal.specs.Decimal.{read_decimal}
 use Rattle.bondline.specs.Words.{word_at}
 use Rattle.bondline.specs.Lines.{uncommented}
@@ -23,4 +22,4 @@ pub record Begins (text : List ℕ) (line at : ℕ) : Type 0 where
 -- A promise: what stands in the report as the strike of a call, the fourth word of its line, reads back as the strike that is priced. 7: calls.
 abbrev pub StrikesReadBack : List ℕ → Type 0
 StrikesReadBack text =
-    map (λ e. read_decimal (typed_word text e.line 3)) (of_kind 7 (entries_of text)) ≡ map (λ e. Number (first_number e.entry)) (of_kind 7 (entries_of text))
+    map (λ e. read_decimal (typed_word text e.line 3)) (of_kind 7 (entries_of text)) ≡ map (λ e. Ok (first_number e.entry)) (of_kind 7 (entries_of text))

@@ -11,10 +11,8 @@ fn line_start(text: &[u8], line: usize) -> usize
     ensures { Begins text.now line result }
 {
     let mut at = 0;
-    let mut i = 1;
-    while i < line {
+    for _ in 1..line {
         at = next_line(text, at);
-        i += 1;
     }
     at
 }
@@ -24,10 +22,10 @@ fn typed_line(text: &[u8], line: usize) -> &[u8]
     ensures { result.now ≡ typed_line text.now line }
 {
     let start = line_start(text, line);
-    let end = until(text, start, 10);
+    let end = until(text, start, b'\n');
     let whole = &text[start..end];
-    let comment = until(whole, 0, 35);
-    &whole[0..comment]
+    let comment = until(whole, 0, b'#');
+    &whole[..comment]
 }
 
 // A word of a line.

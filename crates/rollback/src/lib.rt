@@ -1,4 +1,4 @@
 // The walk back over all layers.
-#![tactic(auto)]
+#![tactic(auto, unfolding(floats::specs::Answers::on_outcome))]
 
 pub mod walking;

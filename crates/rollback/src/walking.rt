@@ -1,9 +1,8 @@
 // The walk back over all layers, the two lent rows alternating, to the root's value.
 
-ghost use Rattle.std.specs.Prelude.{◌≡◌, ◌+◌, ◌*◌, ◌^◌, ◌<◌, ◌≤◌, length, get_or, replicate, pos};
-ghost use Rattle.floats.specs.declared.Answer.TheVariants.{Value, Refused};
+ghost use Rattle.std.specs.Prelude.{◌≡◌, ◌+◌, ◌*◌, ◌^◌, ◌<◌, ◌≤◌, length, get_or, replicate, pos, Ok, Err};
 ghost use Rattle.bondevents.specs.Calls.{new_step};
-ghost use Rattle.terms.specs.Outcomes.{given, follow, on_outcome};
+ghost use Rattle.floats.specs.Answers.{follow, on_outcome};
 ghost use Rattle.lattice.specs.Layers.{value_at};
 ghost use Rattle.lattice.specs.Lattice.{root_layer};
 ghost use Rattle.backwardinduction.specs.Walk.{walk_from};
@@ -17,20 +16,8 @@ ghost use Rattle.forwardinduction.specs.laws.Fitting.{row_in};
 
 use backwardinduction::walk::{Rates, roll};
 use bondevents::{CallStep, Exercise};
-use floats::Answer;
+use floats::Refusal;
 use forwardinduction::rows::current;
-use terms::Check;
-
-// Every place of a row the same value.
-fn fill_row(row: &mut [f64], value: f64)
-    ensures { row.new ≡ replicate (length row.old) value }
-{
-    let mut i = 0;
-    while i < row.len() {
-        row[i] = value;
-        i += 1;
-    }
-}
 
 // The current row of the last step: the same value at each node.
 fn final_row(first: &mut [f64], second: &mut [f64], count: usize, value: f64, step: u32)
@@ -38,10 +25,10 @@ fn final_row(first: &mut [f64], second: &mut [f64], count: usize, value: f64, st
     ensures { current_part step count first.new second.new ≡ replicate count value }
 {
     if step % 2 == 0 {
-        fill_row(&mut first[..count], value);
-        return;
+        first[..count].fill(value);
+    } else {
+        second[..count].fill(value);
     }
-    fill_row(&mut second[..count], value);
 }
 
 // The current row of a step from the `next` entries of the other one: at an even step from the second to the first.
@@ -57,7 +44,7 @@ fn roll_step(
     call: CallStep,
     cashflow: f64,
     step: u32,
-) -> Check
+) -> Result<(), Refusal>
     requires count_in_bounds { (count ≤ length first.old) × (count ≤ length second.old) × (next ≤ length first.old) × (next ≤ length second.old) }
     requires layered { Layered flat next nodes.now probabilities.now count }
     ensures { outcome_of result (current_part step count first.new second.new) ≡ rolled_at rates call cashflow step flat (current_part (step + 1) next first.old second.old) (start_of nodes.now) 0 nodes.now probabilities.now (current_part step count first.old second.old) }
@@ -123,21 +110,21 @@ fn walk(
     step: u32,
     first: &mut [f64],
     second: &mut [f64],
-) -> Check
+) -> Result<(), Refusal>
     requires laid { Laid flat (length first.old) (length second.old) counts.now spacings.now nodes.now probabilities.now }
     requires shifts_len { (length shifts.now ≡ length spacings.now) × (step + length spacings.now < length cashflows.now) × (length cashflows.now < 2 ^ 32) }
     requires marks_len { (length marks.now ≡ length cashflows.now) × (length prices.now ≡ length cashflows.now * 2) }
-    ensures { (follow (outcome_of result (record { first = first.exit.now; second = second.new })) λ rows. given (row_in step (get_or counts.now 0 0) nodes.now rows)) ≡ walk_from dt spread cashflows.now (calls_of marks.now prices.now) step (layers_in flat counts.now spacings.now nodes.now probabilities.now) shifts.now (final_in counts.now spacings.now nodes.now) }
+    ensures { (follow (outcome_of result (record { first = first.exit.now; second = second.new })) λ rows. Ok (row_in step (get_or counts.now 0 0) nodes.now rows)) ≡ walk_from dt spread cashflows.now (calls_of marks.now prices.now) step (layers_in flat counts.now spacings.now nodes.now probabilities.now) shifts.now (final_in counts.now spacings.now nodes.now) }
 {
     let count = counts[0];
     let cashflow = cashflows[step as usize];
     if spacings.len() == 0 {
         final_row(first, second, count, cashflow, step);
-        return Check::Passed;
+        return Ok(());
     }
     let pairs = count * 2;
     let threes = count * 3;
-    let behind = walk(
+    walk(
         &nodes[pairs..],
         &probabilities[threes..],
         &counts[1..],
@@ -152,10 +139,7 @@ fn walk(
         step + 1,
         first,
         second,
-    );
-    let Check::Passed = behind else {
-        return behind;
-    };
+    )?;
     let rates = Rates {
         spacing: spacings[0],
         dt,
@@ -193,14 +177,14 @@ pub fn root_value(
     spread: f64,
     first: &mut [f64],
     second: &mut [f64],
-) -> Answer
+) -> Result<f64, Refusal>
     requires laid { Laid flat (length first.old) (length second.old) counts.now spacings.now nodes.now probabilities.now }
     requires counts_value { (get_or counts.now 0 0 ≡ 1) × (numbers_in (front_nodes 1 nodes.now) ≡ root_layer) }
     requires shifts_len { (length shifts.now ≡ length spacings.now) × (length spacings.now < length cashflows.now) × (length cashflows.now < 2 ^ 32) }
     requires marks_len { (length marks.now ≡ length cashflows.now) × (length prices.now ≡ length cashflows.now * 2) }
-    ensures { result ≡ on_outcome (walk_from dt spread cashflows.now (calls_of marks.now prices.now) 0 (layers_in flat counts.now spacings.now nodes.now probabilities.now) shifts.now (final_in counts.now spacings.now nodes.now)) Refused (λ row. Value (value_at (pos 0) row)) }
+    ensures { result ≡ on_outcome (walk_from dt spread cashflows.now (calls_of marks.now prices.now) 0 (layers_in flat counts.now spacings.now nodes.now probabilities.now) shifts.now (final_in counts.now spacings.now nodes.now)) Err (λ row. Ok (value_at (pos 0) row)) }
 {
-    let behind = walk(
+    walk(
         nodes,
         probabilities,
         counts,
@@ -215,10 +199,7 @@ pub fn root_value(
         0,
         first,
         second,
-    );
-    let Check::Refused(q) = behind else {
-        let row = current(first, second, 0, 1);
-        return Answer::Value(row[0]);
-    };
-    Answer::Refused(q)
+    )?;
+    let row = current(first, second, 0, 1);
+    Ok(row[0])
 }

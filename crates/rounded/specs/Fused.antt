@@ -3,8 +3,7 @@ use Rattle.std.specs.Prelude.{ℕ, ◌+◌, ◌*◌, Bool, cond, false, eqb, Flo
 use Rattle.std.specs.Float.{nan, inf, fin, binary64}
 use Rattle.std.specs.Float.Ieee.{unlike, sum}
 use Rattle.std.specs.Float.Ieee.Positive.{num, den}
-use Rattle.floats.specs.declared.Answer.{Answer}
-use Rattle.floats.specs.Answers.{plus_zero, tested, when_finite, when_given}
+use Rattle.floats.specs.Answers.{Answer, plus_zero, tested, when_finite, when_given}
 
 abbrev pub is_negative : Float → Bool
 is_negative nan = false

@@ -3,8 +3,8 @@ use Rattle.std.specs.Prelude.{ℕ, zero, suc, ◌+◌, ◌*◌, ◌/◌, ◌^◌
 use Rattle.std.specs.Float.{binary64}
 use Rattle.std.specs.Float.Ieee.{lt, round}
 use Rattle.std.specs.Float.Ieee.Positive.{num, den}
-use Rattle.floats.specs.declared.Answer.{Answer}
-use Rattle.floats.specs.Answers.{refusal, plus_zero, tested, when_finite, when_given}
+use Rattle.floats.specs.Answers.{Answer, refusal, plus_zero, tested, when_finite, when_given}
+use Rattle.floats.specs.declared.Reason.TheVariants as reason
 
 -- The root of n is r, or r + 1 where that one's square isn't above n.
 unfoldable pub with_digit : ℕ → ℕ → ℕ
@@ -33,7 +33,7 @@ root_of x = cond (eqb (num x) 0) x (round binary64 false (doubled_root (num x) (
 -- sqrt(x): below 0 refused with 26. −0 isn't below 0, and its root is −0.
 unfoldable pub sqrt_at : Float → ℕ → Answer
 unfolding root_of lt
-sqrt_at x place = when_finite x place λ x. cond (lt x plus_zero) (refusal 26 place) (tested (root_of x) place)
+sqrt_at x place = when_finite x place λ x. cond (lt x plus_zero) (refusal reason.Outside place) (tested (root_of x) place)
 
 abbrev pub sqrt_alone : Float → Answer
 sqrt_alone x = when_given x (sqrt_at x 0)

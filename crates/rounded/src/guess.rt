@@ -1,5 +1,11 @@
 // A guess at a root, in floats. Nothing rests on how near it is.
+
 ghost use Rattle.std.specs.Prelude.{◌≤◌, ◌<◌, ◌^◌};
+
+use floats::fields::FIELD_ONE;
+
+// Its bits less half those of a number are near the bits of 1 / √ of the number.
+const INVERSE_ROOT: u64 = 0x5fe6_eb50_c7b5_37a9;
 
 // One step of Newton's method toward 1 / √(2 × half).
 fn nearer(y: f64, half: f64) -> f64 {
@@ -13,14 +19,15 @@ pub(crate) fn guess(bits: u64) -> u64
 {
     let a = f64::from_bits(bits);
     let half = a * 0.5;
-    let first = f64::from_bits(0x5fe6_eb50_c7b5_37a9 - bits / 2);
-    let second = nearer(first, half);
-    let third = nearer(second, half);
-    let inverse = nearer(third, half);
+    let mut inverse = f64::from_bits(INVERSE_ROOT - bits / 2);
+    for _ in 0..3 {
+        inverse = nearer(inverse, half);
+    }
     let near = a * inverse;
     let s = (near + a / near) * 0.5;
     if s < 2.0 {
-        return f64::to_bits(s) % 4503599627370496 * 2 + 9007199254740992;
+        f64::to_bits(s) % FIELD_ONE * 2 + 2 * FIELD_ONE
+    } else {
+        4 * FIELD_ONE - 1
     }
-    18014398509481983
 }

@@ -1,6 +1,6 @@
 // What is worked out in whole numbers and rounded once: mul_add and sqrt, each equal to its definition bit for bit.
 
-#![tactic(auto)]
+#![tactic(auto, unfolding(floats::specs::Answers::on_outcome))]
 
 mod digits;
 mod guess;
@@ -9,4 +9,3 @@ pub mod pack;
 pub mod product;
 mod split;
 pub mod sqrt;
-mod words;

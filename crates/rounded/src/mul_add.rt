@@ -1,82 +1,82 @@
 // mul_add: the exact a * b + c, rounded once.
-ghost use Rattle.std.specs.Prelude.{◌≡◌, ◌+◌, ◌*◌, ◌^◌, ◌≤◌, ◌<◌, T};
+
+ghost use Rattle.std.specs.Prelude.{◌≡◌, ◌+◌, ◌-◌, ◌*◌, ◌/◌, ◌^◌, ◌≤◌, ◌<◌, T};
 ghost use Rattle.std.specs.Float.Ieee.Scale.{finite};
 ghost use Rattle.rounded.specs.Fused.{rounded_sum, mul_add, mul_add_at, mul_add_alone};
 ghost use Rattle.rounded.specs.laws.Packing.{scale};
-ghost use Rattle.rounded.specs.laws.Parts.{Digits, Joinable};
+ghost use Rattle.rounded.specs.laws.Parts.{Joinable};
+ghost use Rattle.rounded.specs.laws.RoundToOdd.{Odd};
 
-use crate::pack::pack_wide;
+use crate::pack::{pack_wide, shift};
 use crate::product::product;
-use crate::split::split;
-use crate::words::{below, less, plus, shift};
-use floats::finite::not_finite;
-use floats::refusals::overflow;
-use floats::{Answer, Refusal};
+use crate::split::{Parts, split};
+use floats::Refusal;
+use floats::finite::{given, tested};
 
-// A number of two words, and +0 for 0.
-fn unless_zero(neg: bool, high: u64, low: u64, e: u32) -> f64
-    requires { (64 ≤ e) × (e ≤ 9000) }
-    ensures { result ≡ rounded_sum neg ((high * 2 ^ 64 + low) * 2 ^ e) neg 0 (2 ^ scale) }
+// A number by its parts, and +0 for 0.
+fn unless_zero(x: Parts<u128>) -> f64
+    requires { (64 ≤ x.place) × (x.place ≤ 9000) }
+    ensures { result ≡ rounded_sum x.neg (x.digits * 2 ^ x.place) x.neg 0 (2 ^ scale) }
 {
-    if high > 0 {
-        return pack_wide(neg, high, low, e);
+    if x.digits == 0 {
+        0.0
+    } else {
+        pack_wide(x.neg, x.digits, x.place)
     }
-    if low > 0 {
-        return pack_wide(neg, high, low, e);
-    }
-    0.0
 }
 
-// The sum of two numbers of two words with their signs, at the same place.
-fn combine(neg: bool, high: u64, low: u64, neg2: bool, high2: u64, low2: u64, e: u32) -> f64
-    requires { (high + high2 < 18446744073709551615) × (64 ≤ e) × (e ≤ 9000) }
-    ensures { result ≡ rounded_sum neg ((high * 2 ^ 64 + low) * 2 ^ e) neg2 ((high2 * 2 ^ 64 + low2) * 2 ^ e) (2 ^ scale) }
+// The sum of two numbers at the same place.
+fn combine(x: Parts<u128>, y: Parts<u128>) -> f64
+    requires sum { x.digits + y.digits < 2 ^ 128 }
+    requires same { x.place ≡ y.place }
+    requires le_e { (64 ≤ x.place) × (x.place ≤ 9000) }
+    ensures { result ≡ rounded_sum x.neg (x.digits * 2 ^ x.place) y.neg (y.digits * 2 ^ y.place) (2 ^ scale) }
 {
-    if neg == neg2 {
-        let w = plus(high, low, high2, low2);
-        return unless_zero(neg, w.high, w.low, e);
+    if x.neg == y.neg {
+        unless_zero(Parts {
+            digits: x.digits + y.digits,
+            ..x
+        })
+    } else if x.digits < y.digits {
+        unless_zero(Parts {
+            digits: y.digits - x.digits,
+            ..y
+        })
+    } else {
+        unless_zero(Parts {
+            digits: x.digits - y.digits,
+            ..x
+        })
     }
-    if below(high, low, high2, low2) {
-        let w = less(high2, low2, high, low);
-        return unless_zero(neg2, w.high, w.low, e);
-    }
-    let w = less(high, low, high2, low2);
-    unless_zero(neg, w.high, w.low, e)
 }
 
-// A product of two words and an addend in its high word: the one with the lower place is moved down to the other.
-fn join(neg: bool, high: u64, low: u64, e: u32, neg2: bool, top: u64, e2: u32) -> f64
-    requires joinable { Joinable high low top }
-    requires le_e { (64 ≤ e) × (e ≤ 9000) × (64 ≤ e2) × (e2 ≤ 9000) }
-    ensures { result ≡ rounded_sum neg ((high * 2 ^ 64 + low) * 2 ^ e) neg2 (top * 2 ^ 64 * 2 ^ e2) (2 ^ scale) }
+// The same number at a place that is no lower, rounded to odd.
+fn lowered(x: Parts<u128>, place: u32) -> Parts<u128>
+    requires { (1 ≤ x.digits) × (x.place ≤ place) }
+    ensures sign { result.neg ≡ x.neg }
+    ensures place { result.place ≡ place }
+    ensures odd { Odd x.digits (2 ^ (place - x.place)) result.digits }
+    ensures least { result.digits ≤ x.digits }
 {
-    if e >= e2 {
-        let w = shift(top, 0, e - e2);
-        return combine(neg, high, low, neg2, w.high, w.low, e);
+    Parts {
+        neg: x.neg,
+        digits: shift(x.digits, place - x.place),
+        place,
     }
-    let w = shift(high, low, e2 - e);
-    combine(neg, w.high, w.low, neg2, top, 0, e2)
 }
 
-// The product of two numbers and an addend, each by its digits.
-fn gathered(neg: bool, a: u64, b: u64, e: u32, neg2: bool, c: u64, e2: u32) -> f64
-    requires digits { Digits a × Digits b × Digits c }
-    requires le_e { (64 ≤ e) × (e ≤ 9000) × (64 ≤ e2) × (e2 ≤ 9000) }
-    ensures { result ≡ rounded_sum neg (a * b * 2 ^ e) neg2 (c * 2 ^ 64 * 2 ^ e2) (2 ^ scale) }
+// The sum of a product and an addend: the one with the lower place is moved down to the other.
+fn join(x: Parts<u128>, y: Parts<u128>) -> f64
+    requires joinable { Joinable x.digits y.digits }
+    requires le_x { (64 ≤ x.place) × (x.place ≤ 9000) }
+    requires le_y { (64 ≤ y.place) × (y.place ≤ 9000) }
+    ensures { result ≡ rounded_sum x.neg (x.digits * 2 ^ x.place) y.neg (y.digits * 2 ^ y.place) (2 ^ scale) }
 {
-    if a == 0 {
-        return unless_zero(neg2, c, 0, e2);
+    if x.place >= y.place {
+        combine(x, lowered(y, x.place))
+    } else {
+        combine(lowered(x, y.place), y)
     }
-    if b == 0 {
-        return unless_zero(neg2, c, 0, e2);
-    }
-    let p = product(a, b);
-    let high = p.high;
-    let low = p.low;
-    if c == 0 {
-        return unless_zero(neg, high, low, e);
-    }
-    join(neg, high, low, e, neg2, c, e2)
 }
 
 // mul_add of finite numbers.
@@ -87,58 +87,36 @@ fn fused(x: f64, y: f64, z: f64) -> f64
     let a = split(x);
     let b = split(y);
     let c = split(z);
-    gathered(
-        a.neg != b.neg,
-        a.digits,
-        b.digits,
-        a.place + b.place + 64,
-        c.neg,
-        c.digits,
-        c.place + 1136,
-    )
+    let both = Parts {
+        neg: a.neg != b.neg,
+        digits: product(a.digits, b.digits),
+        place: a.place + b.place + 64,
+    };
+    let addend = Parts {
+        neg: c.neg,
+        digits: (c.digits as u128) << 64,
+        place: c.place + 1136,
+    };
+    if both.digits == 0 {
+        unless_zero(addend)
+    } else if addend.digits == 0 {
+        unless_zero(both)
+    } else {
+        join(both, addend)
+    }
 }
 
 // mul_add of numbers met on the way at a place.
-pub fn mul_add_at(x: f64, y: f64, z: f64, place: u32) -> Answer
+pub fn mul_add_at(x: f64, y: f64, z: f64, place: u32) -> Result<f64, Refusal>
     ensures { result ≡ mul_add_at x y z place }
 {
-    if not_finite(x) {
-        return overflow(place);
-    }
-    if not_finite(y) {
-        return overflow(place);
-    }
-    if not_finite(z) {
-        return overflow(place);
-    }
-    let r = fused(x, y, z);
-    if not_finite(r) {
-        return overflow(place);
-    }
-    Answer::Value(r)
+    let r = fused(tested(x, place)?, tested(y, place)?, tested(z, place)?);
+    tested(r, place)
 }
 
 // mul_add called alone.
-pub fn mul_add(x: f64, y: f64, z: f64) -> Answer
+pub fn mul_add(x: f64, y: f64, z: f64) -> Result<f64, Refusal>
     ensures { result ≡ mul_add_alone x y z }
 {
-    if not_finite(x) {
-        return Answer::Refused(Refusal {
-            number: Refusal::NUMBER,
-            place: 0,
-        });
-    }
-    if not_finite(y) {
-        return Answer::Refused(Refusal {
-            number: Refusal::NUMBER,
-            place: 0,
-        });
-    }
-    if not_finite(z) {
-        return Answer::Refused(Refusal {
-            number: Refusal::NUMBER,
-            place: 0,
-        });
-    }
-    mul_add_at(x, y, z, 0)
+    mul_add_at(given(x)?, given(y)?, given(z)?, 0)
 }

@@ -1,5 +1,6 @@
 // sqrt: the double nearest to the exact root.
-ghost use Rattle.std.specs.Prelude.{◌≡◌, ◌+◌, ◌*◌, ◌^◌, ◌<◌, T};
+
+ghost use Rattle.std.specs.Prelude.{◌≡◌, ◌^◌, ◌<◌, T};
 ghost use Rattle.std.specs.Float.Ieee.Positive.{positive};
 ghost use Rattle.rounded.specs.Root.{root_of, sqrt_at, sqrt_alone};
 ghost use Rattle.rounded.specs.laws.RootValue.{Doubled};
@@ -9,76 +10,53 @@ use crate::guess::guess;
 use crate::pack::pack;
 use crate::product::product;
 use crate::split::split;
-use floats::finite::not_finite;
-use floats::refusals::overflow;
-use floats::{Answer, Refusal};
+use floats::fields::FIELD_ONE;
+use floats::finite::{given, tested};
+use floats::{Reason, Refusal};
 
-// The root of high × 2^64 + low, doubled, and 1 more where something is cut off.
-fn doubled(start: u64, high: u64, low: u64) -> u64
-    requires { high < 2 ^ 60 }
-    ensures { Doubled (high * 2 ^ 64 + low) result }
+// The root of n, doubled, and 1 more where something is cut off.
+fn doubled(start: u64, n: u128) -> u64
+    requires { n < 2 ^ 124 }
+    ensures { Doubled n result }
 {
-    let r = mended(start, high, low);
+    let r = mended(start, n);
     let twice = 2 * r;
-    let odd = twice + 1;
-    let p = product(r, r);
-    let top = p.high;
-    let rest = p.low;
-    if top < high {
-        return odd;
-    }
-    if rest < low {
-        return odd;
-    }
-    twice
+    if product(r, r) < n { twice + 1 } else { twice }
 }
 
-// The root of a number above 0. The digits are moved up by 44 places or 45, so that an even power of two is left.
+// The root of a number above 0. The digits are moved up by 44 places or 45, so that an even power of two is left; the guess is
+// at the root of a number from 1 up to 4, by the bits that its digits make.
 fn root_of(x: f64) -> f64
     requires { T (positive x) }
     ensures { result ≡ root_of x }
 {
     let parts = split(x);
-    let digits = parts.digits;
-    let place = parts.place;
-    if place % 2 == 0 {
-        let start = guess(digits / 1024 + 0x3fe0_0000_0000_0000);
-        let w = doubled(start, digits / 1048576, digits % 1048576 * 17592186044416);
-        return pack(false, w, place / 2 + 1745);
-    }
-    let start = guess(digits / 1024 + 0x3ff0_0000_0000_0000);
-    let w = doubled(start, digits / 524288, digits % 524288 * 35184372088832);
-    pack(false, w, place / 2 + 1745)
+    let odd = parts.place % 2;
+    let start = guess(parts.digits / 1024 + (1022 + odd as u64) * FIELD_ONE);
+    let w = doubled(start, (parts.digits as u128) << (44 + odd));
+    pack(false, w, parts.place / 2 + 1745)
 }
 
 // sqrt of a finite number, met on the way at a place.
-pub fn sqrt_at(x: f64, place: u32) -> Answer
+pub fn sqrt_at(x: f64, place: u32) -> Result<f64, Refusal>
     ensures { result ≡ sqrt_at x place }
 {
-    if not_finite(x) {
-        return overflow(place);
-    }
+    let x = tested(x, place)?;
     if x < 0.0 {
-        return Answer::Refused(Refusal {
-            number: Refusal::OUTSIDE,
+        return Err(Refusal {
+            reason: Reason::Outside,
             place,
         });
     }
     if x == 0.0 {
-        return Answer::Value(x);
+        return Ok(x);
     }
-    Answer::Value(root_of(x))
+    Ok(root_of(x))
 }
 
 // sqrt called alone.
-pub fn sqrt(x: f64) -> Answer
+pub fn sqrt(x: f64) -> Result<f64, Refusal>
     ensures { result ≡ sqrt_alone x }
 {
-    if not_finite(x) {
-        return Answer::Refused(Refusal {
-            number: Refusal::NUMBER,
-            place: 0,
-        });
-    }
-    sqrt_at(x, 0)
+    sqrt_at(given(x)?, 0)
 }

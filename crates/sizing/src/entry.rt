@@ -1,40 +1,38 @@
 // The sizing entry: the terms are checked, then variances and widths; the lent slice is left all zero.
 
-ghost use Rattle.std.specs.Prelude.{◌≡◌, ◌≤◌, ◌<◌, length};
+ghost use Rattle.std.specs.Prelude.{◌≡◌, ◌*◌, ◌^◌, ◌≤◌, ◌<◌, length};
 ghost use Rattle.std.specs.Float.{binary64};
 ghost use Rattle.std.specs.Float.Ieee.{div};
 ghost use Rattle.hullwhite.specs.laws.Filled.{model_of};
 ghost use Rattle.terms.specs.Slices.{leg_in, calls_in, sigma_in, pillars_in, market_in};
 ghost use Rattle.sizing.specs.Sizing.{SizesEntered};
-ghost use Rattle.sizing.specs.laws.Sized.{FewFound, sized_of, sizes_as, widths_over, widths_at};
+ghost use Rattle.sizing.specs.laws.Sized.{lengths_for, sizes_as, widths_over, widths_at};
 
-use crate::{Lengths, Sizes};
+use crate::Lengths;
 use bondevents::steps::steps_of;
 use entrychecks::entries::tree_checks;
-use floats::finite::not_finite;
-use floats::refusals::overflow_refusal;
+use floats::Refusal;
+use floats::finite::tested;
+use hullwhite::HullWhite;
 use hullwhite::variance::transition_variances;
+use terms::Settlement;
 use terms::curve::{pillar_times, timed_pillars};
 use terms::lists::last_day;
 use terms::time::year_fraction;
-use terms::{Check, Settlement};
 use treebasedbondpricer::zero::zero_numbers;
 use widths::tree::{Widths, tree_widths};
 
 // Two places of the node slice for each node, three of the probability slice, and rows as long as the widest layer.
-fn sized(found: Widths) -> Sizes
-    requires { FewFound found }
-    ensures { result ≡ sized_of found }
+fn sized(found: Widths) -> Lengths
+    requires { 3 * found.nodes < 2 ^ 64 }
+    ensures { result ≡ lengths_for found }
 {
-    let Widths::Found(total, widest) = found else {
-        return Sizes::Refused(found.refusal());
-    };
-    Sizes::Sized(Lengths {
-        nodes: 2 * total,
-        probabilities: 3 * total,
-        row: widest,
-        count: total,
-    })
+    Lengths {
+        nodes: 2 * found.nodes,
+        probabilities: 3 * found.nodes,
+        row: found.widest,
+        count: found.nodes,
+    }
 }
 
 // Variances, then widths.
@@ -46,16 +44,18 @@ fn sizes_over(
     sigmas: &[f64],
     variances: &mut [f64],
     nodes: &mut [i32],
-) -> Sizes
+) -> Result<Lengths, Refusal>
     requires { (0 < steps) × (steps ≤ 512) × (length variances.old ≡ steps) }
     ensures { result ≡ sizes_as (widths_over (length nodes.old) (model_of alpha times.now sigmas.now) steps dt) }
 {
-    let v = transition_variances(alpha, times, sigmas, steps, dt, variances);
-    if let Check::Refused(refusal) = v {
-        return Sizes::Refused(refusal);
-    }
-    let found = tree_widths(alpha, dt, variances, nodes);
-    sized(found)
+    let model = HullWhite {
+        alpha,
+        sigma_times: times,
+        sigmas,
+    };
+    transition_variances(model, steps, dt, variances)?;
+    let found = tree_widths(alpha, dt, variances, nodes)?;
+    Ok(sized(found))
 }
 
 // time_step = T/steps, then the widths.
@@ -66,14 +66,11 @@ fn sizes_at(
     times: &[f64],
     sigmas: &[f64],
     nodes: &mut [i32],
-) -> Sizes
+) -> Result<Lengths, Refusal>
     requires { (0 < steps) × (steps ≤ 512) }
     ensures { result ≡ sizes_as (widths_at (length nodes.old) (model_of alpha times.now sigmas.now) maturity steps) }
 {
-    let dt = maturity / (steps as f64);
-    if not_finite(dt) {
-        return Sizes::Refused(overflow_refusal(0));
-    }
+    let dt = tested(maturity / (steps as f64), 0)?;
     let mut variances = [0.0; 512];
     sizes_over(
         steps,
@@ -108,7 +105,7 @@ pub fn sizes(
     pillar_days: &[u32],
     pillar_factors: &[f64],
     nodes: &mut [i32],
-) -> Sizes
+) -> Result<Lengths, Refusal>
     ensures { SizesEntered
         (market_in settlement (leg_in cashflow_days cashflow_kinds cashflow_amounts) units (calls_in put_starts put_ends put_strikes) steps_per_year max_steps alpha
         (sigma_in sigma_times sigmas) spread (pillars_in pillar_days pillar_factors))
@@ -119,7 +116,7 @@ pub fn sizes(
 {
     let table = pillar_times(settlement, pillar_days);
     let count = timed_pillars(pillar_days);
-    let check = tree_checks(
+    tree_checks(
         settlement,
         cashflow_days,
         cashflow_kinds,
@@ -140,10 +137,7 @@ pub fn sizes(
         pillar_days,
         pillar_factors,
         &table[..count],
-    );
-    if let Check::Refused(refusal) = check {
-        return Sizes::Refused(refusal);
-    }
+    )?;
     let maturity = year_fraction(settlement, last_day(cashflow_days));
     let steps = steps_of(maturity, steps_per_year, max_steps);
     let found = sizes_at(maturity, steps as u32, alpha, sigma_times, sigmas, nodes);

@@ -1,7 +1,5 @@
 // How large the slices of the tree value must be.
-#![tactic(auto)]
-
-use floats::Refusal;
+#![tactic(auto, unfolding(floats::specs::Answers::on_outcome))]
 
 pub mod entry;
 
@@ -12,11 +10,4 @@ pub struct Lengths {
     pub probabilities: u64,
     pub row: u64,
     pub count: u64,
-}
-
-// The lengths, or a refusal.
-#[derive(Drop)]
-pub enum Sizes {
-    Sized(Lengths),
-    Refused(Refusal),
 }

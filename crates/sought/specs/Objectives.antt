@@ -1,10 +1,8 @@
 -- Definitions only. What bracketed_root works on: the objective of a yield, and the ends of the first bracket.
-use Rattle.std.specs.Prelude.{Float}
+use Rattle.std.specs.Prelude.{Float, Err}
 use Rattle.std.specs.Float.{binary64}
 use Rattle.std.specs.Float.Ieee.{of_bits, sub}
-use Rattle.floats.specs.declared.Answer.{Answer}
-use Rattle.floats.specs.declared.Answer.TheVariants as answer
-use Rattle.floats.specs.Answers.{tested}
+use Rattle.floats.specs.Answers.{Answer, tested}
 use Rattle.terms.specs.declared.Epoch.{Epoch}
 use Rattle.terms.specs.Terms.{Leg}
 use Rattle.interestrate.specs.declared.RateDefinition.{RateDefinition}
@@ -14,7 +12,7 @@ use Rattle.interestrate.specs.Prices.{flows, on_price, price_and_derivative}
 unfoldable pub objective : Epoch → Leg → RateDefinition → Float → Float → Answer
 unfolding flows on_price sub
 objective settlement leg rate target y =
-    on_price (price_and_derivative settlement leg rate y) answer.Refused λ p d. tested (sub binary64 p target) 0
+    on_price (price_and_derivative settlement leg rate y) Err λ p d. tested (sub binary64 p target) 0
 
 -- −0.05 and 0.10
 abbrev pub first_lower : Float

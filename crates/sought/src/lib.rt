@@ -1,5 +1,5 @@
 // What bracketed_root evaluates: a yield's price or a spread's tree value, less the target.
-#![tactic(auto)]
+#![tactic(auto, unfolding(floats::specs::Answers::on_outcome))]
 
 use interestrate::RateDefinition;
 use terms::Epoch;

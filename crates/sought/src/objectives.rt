@@ -7,36 +7,27 @@ ghost use Rattle.sought.specs.Objectives.{objective};
 ghost use Rattle.sought.specs.laws.Sought.{tree_parts, spread_at, sought_at, Walkable, Ready};
 
 use crate::{Priced, Sought};
-use floats::finite::not_finite;
-use floats::refusals::overflow;
-use floats::{Answer, Refusal};
-use interestrate::YieldPrice;
+use floats::finite::tested;
+use floats::{Reason, Refusal};
 use interestrate::prices::yield_price_and_derivative;
 use rollback::walking::root_value;
 use terms::limits::Spread;
 use terms::ranges::not_within;
 
 // Value less target.
-fn above_target(value: f64, target: f64) -> Answer
+fn above_target(value: f64, target: f64) -> Result<f64, Refusal>
     ensures { result ≡ tested (sub binary64 value target) 0 }
 {
-    let above = value - target;
-    if not_finite(above) {
-        return overflow(0);
-    }
-    Answer::Value(above)
+    tested(value - target, 0)
 }
 
 // Price less target at a yield. The derivative is worked out too.
-fn at_yield(sought: Sought, days: &[u32], amounts: &[f64], y: f64) -> Answer
+fn at_yield(sought: Sought, days: &[u32], amounts: &[f64], y: f64) -> Result<f64, Refusal>
     requires { length amounts.now ≡ length days.now }
     ensures { result ≡ objective sought.settlement (record { days = days.now; kinds = []; amounts = amounts.now }) sought.rate sought.target y }
 {
-    let rate = sought.rate;
-    match yield_price_and_derivative(sought.settlement, days, amounts, rate, y) {
-        YieldPrice::Price(p, _) => above_target(p, sought.target),
-        YieldPrice::Refused(q) => Answer::Refused(q),
-    }
+    let at_y = yield_price_and_derivative(sought.settlement, days, amounts, sought.rate, y)?;
+    above_target(at_y.price, sought.target)
 }
 
 // The root's value less target at a spread.
@@ -53,23 +44,23 @@ fn at_spread(
     first: &mut [f64],
     second: &mut [f64],
     spread: f64,
-) -> Answer
+) -> Result<f64, Refusal>
     requires { Walkable sought.flat (tree_parts nodes.now probabilities.now counts.now spacings.now shifts.now cashflows.now marks.now prices.now) (length first.old) (length second.old) }
     ensures { result ≡ spread_at sought.dt sought.flat sought.target (tree_parts nodes.now probabilities.now counts.now spacings.now shifts.now cashflows.now marks.now prices.now) spread }
 {
     if 1.0 < spread {
-        return Answer::Refused(Refusal {
-            number: Refusal::SPREAD_ABOVE,
+        return Err(Refusal {
+            reason: Reason::SpreadAbove,
             place: 0,
         });
     }
     if not_within(Spread::MOST, spread) {
-        return Answer::Refused(Refusal {
-            number: Refusal::NUMBER,
+        return Err(Refusal {
+            reason: Reason::Number,
             place: 0,
         });
     }
-    let a = root_value(
+    let value = root_value(
         nodes,
         probabilities,
         counts,
@@ -83,10 +74,7 @@ fn at_spread(
         spread,
         first,
         second,
-    );
-    let Answer::Value(value) = a else {
-        return a;
-    };
+    )?;
     above_target(value, sought.target)
 }
 
@@ -106,12 +94,11 @@ pub fn objective(
     first: &mut [f64],
     second: &mut [f64],
     x: f64,
-) -> Answer
+) -> Result<f64, Refusal>
     requires { Ready sought days.now amounts.now (tree_parts nodes.now probabilities.now counts.now spacings.now shifts.now cashflows.now marks.now prices.now) (length first.old) (length second.old) }
     ensures { result ≡ sought_at sought days.now amounts.now (tree_parts nodes.now probabilities.now counts.now spacings.now shifts.now cashflows.now marks.now prices.now) x }
 {
-    let priced = sought.priced;
-    match priced {
+    match sought.priced {
         Priced::Yield => at_yield(sought, days, amounts, x),
         Priced::Spread => at_spread(
             sought,

@@ -1,29 +1,25 @@
 -- Definitions only. Spread from price: the spread at which the tree value is the target.
-use Rattle.std.specs.Prelude.{ℕ, ◌≡◌, cond, Float}
+use Rattle.std.specs.Prelude.{ℕ, ◌≡◌, cond, Float, Ok, Err}
 use Rattle.std.specs.Float.{binary64}
 use Rattle.std.specs.Float.Ieee.{sub, neg, lt}
 use Rattle.floats.specs.declared.Refusal.{Refusal}
-use Rattle.floats.specs.declared.Answer.{Answer}
-use Rattle.floats.specs.declared.Answer.TheVariants as answer
-use Rattle.floats.specs.Answers.{one, refusal, tested}
-use Rattle.terms.specs.declared.Check.{Check}
+use Rattle.floats.specs.Answers.{Answer, one, refusal, tested, Check, Outcome}
 use Rattle.terms.specs.declared.Settlement.{Settlement}
 use Rattle.terms.specs.Terms.{Leg, CallSchedule, SigmaSchedule, Pillars, Bond, TimeGrid, HullWhite, Market}
 use Rattle.terms.specs.Checks.{on_check}
 use Rattle.terms.specs.Entries.{spread_checks}
 use Rattle.treebasedbondpricer.specs.declared.TreeValue.{TreeValue}
-use Rattle.treebasedbondpricer.specs.declared.TreeValue.TheVariants as tree
 use Rattle.lattice.specs.Layers.{Room}
 use Rattle.treebasedbondpricer.specs.Tree.{tree_value, Lent, room_of, zeroed}
 use Rattle.brackets.specs.declared.Root.{Root}
-use Rattle.brackets.specs.declared.Root.TheVariants as root
-use Rattle.brackets.specs.Brackets.{bracketed_root}
+use Rattle.brackets.specs.Brackets.{Searched, no_root, bracketed_root}
 use Rattle.sought.specs.Objectives.{first_lower, first_upper}
+use Rattle.floats.specs.declared.Reason.TheVariants as reason
 
 -- What is done with a refusal, and with a value.
-unfoldable pub on_tree_value : {A : Type 0} → TreeValue → (Refusal → A) → (Float → A) → A
-on_tree_value (tree.Value x n) f g = g x
-on_tree_value (tree.Refused r) f g = f r
+unfoldable pub on_tree_value : {A : Type 0} → Outcome TreeValue → (Refusal → A) → (Float → A) → A
+on_tree_value (Ok v) f g = g v.value
+on_tree_value (Err r) f g = f r
 
 -- ---- what is asked
 
@@ -70,17 +66,17 @@ quoted_checks q calls = spread_checks (at_spread q q.target) calls
 unfoldable pub spread_objective : Quoted → CallSchedule → Room → Float → Answer
 unfolding tree_value on_tree_value sub lt
 spread_objective q calls room s =
-    cond (lt one s) (refusal 36 0)
-    (on_tree_value (tree_value (at_spread q s) calls room) answer.Refused λ x. tested (sub binary64 x q.target) 0)
+    cond (lt one s) (refusal reason.SpreadAbove 0)
+    (on_tree_value (tree_value (at_spread q s) calls room) Err λ x. tested (sub binary64 x q.target) 0)
 
 -- The bracket rules from −0.05 and 0.10, lowest −1.
-abbrev pub solve_spread : Quoted → CallSchedule → Room → Root
+abbrev pub solve_spread : Quoted → CallSchedule → Room → Searched Root
 solve_spread q calls room = bracketed_root (spread_objective q calls room) first_lower first_upper (neg one)
 
 -- The spread and the number of spreads tried, 0 where the input is refused.
-unfoldable pub spread_from_price : Quoted → CallSchedule → Room → Root
+unfoldable pub spread_from_price : Quoted → CallSchedule → Room → Searched Root
 unfolding spread_checks bracketed_root spread_objective
-spread_from_price q calls room = on_check (quoted_checks q calls) (λ r. root.Refused r 0) (solve_spread q calls room)
+spread_from_price q calls room = on_check (quoted_checks q calls) (λ r. no_root r 0) (solve_spread q calls room)
 
 -- Untouched after an input refusal; all zero after everything else.
 unfoldable pub lent_after : Quoted → CallSchedule → Lent → Lent
@@ -88,7 +84,7 @@ unfolding spread_checks
 lent_after q calls l = on_check (quoted_checks q calls) (λ r. l) (zeroed l)
 
 -- What the entry promises: the spread, the tries, the refusal, and the end content of the lent slices.
-pub record Solved (q : Quoted) (calls : CallSchedule) (answer : Root) (before after : Lent) : Type 0 where
+pub record Solved (q : Quoted) (calls : CallSchedule) (answer : Searched Root) (before after : Lent) : Type 0 where
   pub root : answer ≡ spread_from_price q calls (room_of before)
   pub slices : after ≡ lent_after q calls before
 

@@ -1,4 +1,4 @@
 // Spread from price.
-#![tactic(auto)]
+#![tactic(auto, unfolding(floats::specs::Answers::on_outcome))]
 
 pub mod spreads;

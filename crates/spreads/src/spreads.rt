@@ -4,7 +4,7 @@ ghost use Rattle.std.specs.Float.{binary64};
 ghost use Rattle.std.specs.Float.Ieee.{div};
 ghost use Rattle.terms.specs.Numbers.{float};
 ghost use Rattle.terms.specs.Curve.{curve_over, pillar_times};
-ghost use Rattle.terms.specs.Outcomes.{finite_then};
+ghost use Rattle.floats.specs.Answers.{when_finite};
 ghost use Rattle.backwardinduction.specs.laws.WalkMore.{calls_of};
 ghost use Rattle.treebasedbondpricer.specs.laws.FittedIn.{fitted_over};
 ghost use Rattle.spreads.specs.Spreads.{Solved, quoted_in};
@@ -16,13 +16,14 @@ ghost use Rattle.treebasedbondpricer.specs.Slices.{lent_in, lent_out, room_in};
 use bondevents::BondEventGrid;
 use bondevents::marks::{step_marks, step_prices};
 use bracketedroot::solver::bracketed_root;
-use brackets::Root;
+use brackets::brackets::counted;
+use brackets::{NoRoot, Root};
 use entrychecks::entries::spread_checks;
 use eventgrid::grid::event_grid;
 use interestrate::{Compounding, RateDefinition};
 use sought::{Priced, Sought};
 use terms::curve::{pillar_times, timed_pillars};
-use terms::{Check, Epoch, Settlement};
+use terms::{Epoch, Settlement};
 use treebasedbondpricer::fitted::{FittedTree, fitted_tree};
 use treebasedbondpricer::zero::{zero_floats, zero_numbers};
 
@@ -46,17 +47,17 @@ fn solve_over(
     probabilities: &mut [f64],
     first: &mut [f64],
     second: &mut [f64],
-) -> Root
+) -> Result<Root, NoRoot>
     requires steps_nonzero { (0 < steps) × (steps ≤ 512) × (length cashflows.now ≡ 513) × (length marks.now ≡ 513) × (length prices.now ≡ 1026) }
     requires counts_len { (length counts.old ≡ steps + 1) × (length spacings.old ≡ steps) × (length shifts.old ≡ steps) }
     ensures { result ≡ found_over target
         cashflows.now
         (calls_of marks.now prices.now)
-        (finite_then (div binary64 maturity (float steps)) 0 λ dt. fitted_over
+        (when_finite (div binary64 maturity (float steps)) 0 λ dt. fitted_over
         (curve_over curve_times.now factors.now)
         (model_in alpha times sigmas) (room_in nodes probabilities first second) steps dt) }
 {
-    let f = fitted_tree(
+    let fitted = fitted_tree(
         maturity,
         steps,
         alpha,
@@ -72,9 +73,7 @@ fn solve_over(
         first,
         second,
     );
-    let FittedTree::Fitted(dt, flat) = f else {
-        return Root::Refused(f.refusal(), 1);
-    };
+    let FittedTree { dt, flat } = counted(fitted, 1)?;
     let sought = Sought {
         priced: Priced::Spread,
         rate: RateDefinition {
@@ -122,12 +121,12 @@ fn solve_grid(
     probabilities: &mut [f64],
     first: &mut [f64],
     second: &mut [f64],
-) -> Root
+) -> Result<Root, NoRoot>
     requires { (0 < grid.steps) × (grid.steps ≤ 512) }
     ensures { result ≡ found_over target
         grid.cashflows
         grid.calls
-        (finite_then (div binary64 grid.maturity_time (float grid.steps)) 0 λ dt. fitted_over
+        (when_finite (div binary64 grid.maturity_time (float grid.steps)) 0 λ dt. fitted_over
         (curve_over curve_times.now factors.now)
         (model_in alpha times sigmas) (room_in nodes probabilities first second) grid.steps dt) }
 {
@@ -189,7 +188,7 @@ fn checked_spread(
     probabilities: &mut [f64],
     first: &mut [f64],
     second: &mut [f64],
-) -> Root
+) -> Result<Root, NoRoot>
     requires le_maximum { (1 ≤ maximum) × (maximum ≤ 512) }
     requires days_len_bound { (length days.now ≤ 256) × (length kinds.now ≡ length days.now) × (length amounts.now ≡ length days.now) }
     requires ends_len { (length ends.now ≡ length starts.now) × (length strikes.now ≡ length starts.now) }
@@ -215,11 +214,7 @@ fn checked_spread(
         yearly,
         maximum,
     );
-    let check = answer.check;
-    if let Check::Refused(refusal) = check {
-        return Root::Refused(refusal, 1);
-    }
-    let grid = answer.grid;
+    let grid = counted(answer, 1)?;
     solve_grid(
         grid,
         alpha,
@@ -260,7 +255,7 @@ pub fn spread_from_price(
     probabilities: &mut [f64],
     first_row: &mut [f64],
     second_row: &mut [f64],
-) -> Root
+) -> Result<Root, NoRoot>
     ensures { Solved
         (quoted_in settlement (leg_in cashflow_days cashflow_kinds cashflow_amounts) units (calls_in put_starts put_ends put_strikes) steps_per_year max_steps alpha
         (sigma_in sigma_times sigmas) target (pillars_in pillar_days pillar_factors))
@@ -271,7 +266,7 @@ pub fn spread_from_price(
 {
     let table = pillar_times(settlement, pillar_days);
     let count = timed_pillars(pillar_days);
-    let check = spread_checks(
+    let checked = spread_checks(
         settlement,
         cashflow_days,
         cashflow_kinds,
@@ -293,9 +288,7 @@ pub fn spread_from_price(
         pillar_factors,
         &table[..count],
     );
-    if let Check::Refused(refusal) = check {
-        return Root::Refused(refusal, 0);
-    }
+    counted(checked, 0)?;
     let root = checked_spread(
         settlement,
         cashflow_days,

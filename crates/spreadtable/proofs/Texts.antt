@@ -1,16 +1,15 @@
 -- A cell by what a call answered. Assumes nothing.
+use Rattle.std.specs.Prelude.{Ok, Err}
 use Prim.Native.Nat.{ℕ}
 use mathlib.Core.Path.{◌≡◌, refl, sym, ap, ◌∙◌}
 use mathlib.Core.Bool.{Bool, true, false, cond}
 use mathlib.Core.List.{List}
 use lib.Ieee.{Float}
 use Rattle.floats.specs.declared.Refusal.{Refusal}
-use Rattle.floats.specs.declared.Answer.{Answer}
-use Rattle.floats.specs.declared.Answer.TheVariants.{Value, Refused}
+use Rattle.floats.specs.Reasons.{reason_number}
+use Rattle.floats.specs.Answers.{Answer, Check}
 use Rattle.terms.specs.Numbers.{float}
 use Rattle.terms.specs.Checks.{beyond}
-use Rattle.terms.specs.declared.Check.{Check}
-use Rattle.terms.specs.declared.Check.TheVariants as check
 use Rattle.closingsheet.specs.declared.ValueCell.{ValueCell}
 use Rattle.closingsheet.specs.Cells.{value_cell}
 use Rattle.spreadtable.specs.Cells.{hash_cell, value_text, answer_text}
@@ -22,19 +21,19 @@ too_wide x e t p = p ∙ sym (ap (λ (b : Bool). cond b (hash_cell 32) (value_ce
 pub narrow : {v : ValueCell} (x : Float) → v ≡ value_cell x → v.wide ≡ false → v.cell ≡ value_text x
 narrow x e t = ap (λ (z : ValueCell). z.cell) e ∙ sym (ap (λ (b : Bool). cond b (hash_cell 32) (value_cell x).cell) (sym (ap (λ (z : ValueCell). z.wide) e) ∙ t))
 
-pub of_value_lem : {a : Answer} {r : List ℕ} (x : Float) → a ≡ Value x → r ≡ value_text x → r ≡ answer_text a
+pub of_value_lem : {a : Answer} {r : List ℕ} (x : Float) → a ≡ Ok x → r ≡ value_text x → r ≡ answer_text a
 unfolding answer_text
 of_value_lem x e p = p ∙ sym (ap answer_text e)
 
-pub of_refusal : {a : Answer} {r : List ℕ} (q : Refusal) → a ≡ Refused q → r ≡ hash_cell q.number → r ≡ answer_text a
+pub of_refusal : {a : Answer} {r : List ℕ} (q : Refusal) → a ≡ Err q → r ≡ hash_cell (reason_number q.reason) → r ≡ answer_text a
 unfolding answer_text
 of_refusal q e p = p ∙ sym (ap answer_text e)
 
-pub of_passed : {c : Check} {r : List ℕ} → c ≡ check.Passed → r ≡ hash_cell 0 → r ≡ check_text c
+pub of_passed : {c : Check} {r : List ℕ} → c ≡ Ok tt → r ≡ hash_cell 0 → r ≡ check_text c
 unfolding check_text
 of_passed e p = p ∙ sym (ap check_text e)
 
-pub of_refused : {c : Check} {r : List ℕ} (q : Refusal) → c ≡ check.Refused q → r ≡ hash_cell q.number → r ≡ check_text c
+pub of_refused : {c : Check} {r : List ℕ} (q : Refusal) → c ≡ Err q → r ≡ hash_cell (reason_number q.reason) → r ≡ check_text c
 unfolding check_text
 of_refused q e p = p ∙ sym (ap check_text e)
 

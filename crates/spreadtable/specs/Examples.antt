@@ -1,18 +1,18 @@
 -- Cells, shifts and pages as they are printed, computed by the checker.
-use Rattle.std.specs.Prelude.{ℕ, ◌≡◌, refl, true, false, List, [], ◌∷◌, ◌++◌, length, replicate, Float}
+use Rattle.std.specs.Prelude.{ℕ, ◌≡◌, refl, true, false, List, [], ◌∷◌, ◌++◌, length, replicate, Float, Ok, Err}
 use Rattle.std.specs.Float.{nan, inf, binary64}
 use Rattle.std.specs.Float.Ieee.{of_bits}
 use Rattle.std.specs.Float.Ieee as ieee
 use Rattle.floats.specs.Answers.{plus_zero}
 use Rattle.decimal.specs.Examples.{bytes}
 use Rattle.bondreport.specs.Numbers.{byte_left, digits_left, width_of, whole_left}
-use Rattle.bondreport.specs.Figures.{on_decimals, point_left, minus_left}
+use Rattle.bondreport.specs.Figures.{point_left, minus_left}
 use Rattle.terms.specs.Numbers.{float}
-use Rattle.treebasedbondpricer.specs.declared.TreeValue.TheVariants.{Value, Refused}
 use Rattle.closingsheet.specs.Cells.{printed_of}
 use Rattle.spreadtable.specs.Cells.{hash_cell, value_text, cell_text}
 use Rattle.spreadtable.specs.Page.{row_text, page_text, at}
 use Rattle.spreadtable.specs.Table.{shifted, any_outside, wrong_count}
+use Rattle.floats.specs.declared.Reason.TheVariants as reason
 
 abbrev minus5 : Float
 minus5 = ieee.neg (float 5)
@@ -38,10 +38,10 @@ pub record Starred : Type 0 where
   pub minus-zero : value_text (ieee.neg plus_zero) ≡ bytes "            0.00"
   pub widest : value_text (of_bits binary64 0xc26d_1a94_a1ff_ffae) ≡ bytes "-999999999999.99"
   -- 32 by the value, and not by the count.
-  pub too_wide : cell_text (Value trillion 2) ≡ bytes "             #32"
-  pub many-nodes : cell_text (Value (float 99) 100000000) ≡ bytes "           99.00"
+  pub too_wide : cell_text (Ok (record { value = trillion; nodes = 2 })) ≡ bytes "             #32"
+  pub many-nodes : cell_text (Ok (record { value = (float 99); nodes = 100000000 })) ≡ bytes "           99.00"
   -- A refusal shows its number and not its place.
-  pub refused : cell_text (Refused (at 27 3)) ≡ bytes "             #27"
+  pub refused : cell_text (Err (at reason.NotFinite 3)) ≡ bytes "             #27"
   -- 12 with a shift of -5 is 7. A sigma below 0, above 10, not finite, and one among others.
   pub inside : any_outside (shifted minus5 (float 12 ∷ [])) ≡ false
   pub below : any_outside (shifted minus5 (float 4 ∷ [])) ≡ true

@@ -1,7 +1,9 @@
 -- Definitions only. Cells as rows, and rows as a page.
-use Rattle.std.specs.Prelude.{ℕ, ◌-◌, List, [], ◌∷◌, ◌++◌, length, replicate, Float}
+use Rattle.std.specs.Prelude.{ℕ, ◌-◌, List, [], ◌∷◌, ◌++◌, length, replicate, Float, Some, None}
+use Rattle.floats.specs.declared.Reason.{Reason}
 use Rattle.floats.specs.declared.Refusal.{Refusal}
 use Rattle.spreadtable.specs.declared.SpreadTable.{SpreadTable}
+use Rattle.floats.specs.declared.Reason.TheVariants as reason
 
 -- A cell for each spread, and a newline.
 unfoldable pub row_text : (Float → List ℕ) → List Float → List ℕ
@@ -18,13 +20,13 @@ page_text cell spreads (h ∷ shifts) = row_text (cell h) spreads ++ page_text c
 abbrev pub no_page : List ℕ
 no_page = replicate 4112 0
 
-abbrev pub at : ℕ → ℕ → Refusal
-at number place = record { number = number; place = place }
+abbrev pub at : Reason → ℕ → Refusal
+at why place = record { reason = why; place = place }
 
 -- A text with its length, zero past it.
 abbrev pub printed : List ℕ → SpreadTable
-printed text = record { refusal = at 0 0; length = length text; page = text ++ replicate (4112 - length text) 0 }
+printed text = record { refusal = None; length = length text; page = text ++ replicate (4112 - length text) 0 }
 
 -- 45 writes no page.
 abbrev pub no_table : SpreadTable
-no_table = record { refusal = at 45 0; length = 0; page = no_page }
+no_table = record { refusal = Some (at reason.TableSize 0); length = 0; page = no_page }

@@ -13,15 +13,16 @@ use crate::cells::hash_cell;
 use crate::fits::checked_row;
 use crate::writing::append;
 use entrychecks::entries::tree_checks;
-use terms::{Check, Settlement};
+use floats::Refusal;
+use terms::Settlement;
 
 // A check's number. One that passed isn't asked.
-fn check_text(check: Check) -> [u8; 16]
+fn check_text(check: Result<(), Refusal>) -> [u8; 16]
     ensures { result ≡ check_text check }
 {
     match check {
-        Check::Passed => hash_cell(0),
-        Check::Refused(refusal) => hash_cell(refusal.number),
+        Ok(()) => hash_cell(0),
+        Err(refusal) => hash_cell(refusal.reason.number()),
     }
 }
 
@@ -148,7 +149,7 @@ pub fn single_row(
         factors,
         curve_times,
     );
-    let Check::Passed = check else {
+    let Ok(()) = check else {
         return unchecked_row(
             w,
             settlement,

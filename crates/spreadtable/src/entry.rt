@@ -9,7 +9,7 @@ ghost use Rattle.spreadtable.specs.laws.Writing.{as_table};
 
 use crate::pages::all_rows;
 use crate::{SpreadTable, Written};
-use floats::Refusal;
+use floats::{Reason, Refusal};
 use terms::Settlement;
 use terms::curve::{pillar_times, timed_pillars};
 use terms::ranges::out_of;
@@ -29,15 +29,14 @@ fn wrong_count(spreads: &[f64], shifts: &[f64]) -> bool
 fn no_table() -> SpreadTable
     ensures { result ≡ no_table }
 {
-    let page = [0u8; 4112];
     let refusal = Refusal {
-        number: Refusal::TABLE_SIZE,
+        reason: Reason::TableSize,
         place: 0,
     };
     SpreadTable {
-        refusal,
+        refusal: Some(refusal),
         length: 0,
-        page,
+        page: [0; 4112],
     }
 }
 
@@ -46,15 +45,10 @@ fn as_table(w: Written) -> SpreadTable
     requires { w.length ≤ 4112 }
     ensures { result ≡ as_table w }
 {
-    let refusal = Refusal {
-        number: 0,
-        place: 0,
-    };
-    let length = w.length as u32;
     let page = w.page;
     SpreadTable {
-        refusal,
-        length,
+        refusal: None,
+        length: w.length as u32,
         page,
     }
 }

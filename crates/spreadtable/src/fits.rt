@@ -2,10 +2,9 @@
 ghost use Rattle.std.specs.Prelude.{◌≡◌, ◌+◌, ◌*◌, ◌<◌, ◌≤◌, length};
 ghost use Rattle.std.specs.Float.{binary64};
 ghost use Rattle.std.specs.Float.Ieee.{div};
-ghost use Rattle.floats.specs.Answers.{plus_zero};
+ghost use Rattle.floats.specs.Answers.{plus_zero, when_finite};
 ghost use Rattle.terms.specs.Numbers.{float};
 ghost use Rattle.terms.specs.Curve.{curve_over, pillar_times};
-ghost use Rattle.terms.specs.Outcomes.{finite_then};
 ghost use Rattle.terms.specs.Slices.{leg_in, calls_in, sigma_in, pillars_in, market_in};
 ghost use Rattle.hullwhite.specs.laws.Filled.{model_of};
 ghost use Rattle.backwardinduction.specs.laws.WalkMore.{calls_of};
@@ -21,8 +20,7 @@ use crate::walks::walked_row;
 use bondevents::BondEventGrid;
 use bondevents::marks::{step_marks, step_prices};
 use eventgrid::grid::event_grid;
-use floats::Answer;
-use terms::{Check, Settlement};
+use terms::Settlement;
 use treebasedbondpricer::fitted::{FittedTree, fitted_tree};
 
 // The fit, then the row. Counts, spacings and shifts have room for the steps.
@@ -54,12 +52,12 @@ fn row_over(
         (spread_cell (walk_over
         cashflows.now
         (calls_of marks.now prices.now)
-        (finite_then (div binary64 maturity (float steps)) 0 λ dt. fitted_over
+        (when_finite (div binary64 maturity (float steps)) 0 λ dt. fitted_over
         (curve_over curve_times.now factors.now)
         (model_of alpha times.now sigmas.now) (room_in nodes probabilities first second) steps dt)))
         spreads.now) }
 {
-    let f = fitted_tree(
+    let fitted = fitted_tree(
         maturity,
         steps,
         alpha,
@@ -75,25 +73,25 @@ fn row_over(
         first,
         second,
     );
-    let FittedTree::Fitted(dt, flat) = f else {
-        return stopped_row(w, spreads, Answer::Refused(f.refusal()));
-    };
-    walked_row(
-        w,
-        nodes,
-        probabilities,
-        counts,
-        spacings,
-        shifts,
-        cashflows,
-        marks,
-        prices,
-        flat,
-        dt,
-        spreads,
-        first,
-        second,
-    )
+    match fitted {
+        Ok(FittedTree { dt, flat }) => walked_row(
+            w,
+            nodes,
+            probabilities,
+            counts,
+            spacings,
+            shifts,
+            cashflows,
+            marks,
+            prices,
+            flat,
+            dt,
+            spreads,
+            first,
+            second,
+        ),
+        Err(refusal) => stopped_row(w, spreads, Err(refusal)),
+    }
 }
 
 // The row over a grid.
@@ -117,7 +115,7 @@ fn row_on(
         (spread_cell (walk_over
         grid.cashflows
         grid.calls
-        (finite_then (div binary64 grid.maturity_time (float grid.steps)) 0 λ dt. fitted_over
+        (when_finite (div binary64 grid.maturity_time (float grid.steps)) 0 λ dt. fitted_over
         (curve_over curve_times.now factors.now)
         (model_of alpha times.now sigmas.now) (room_in nodes probabilities first second) grid.steps dt)))
         spreads.now) }
@@ -211,23 +209,21 @@ pub fn checked_row(
         yearly,
         maximum,
     );
-    let check = answer.check;
-    if let Check::Refused(refusal) = check {
-        return stopped_row(w, spreads, Answer::Refused(refusal));
+    match answer {
+        Ok(grid) => row_on(
+            w,
+            grid,
+            alpha,
+            times,
+            sigmas,
+            spreads,
+            curve_times,
+            factors,
+            nodes,
+            probabilities,
+            first,
+            second,
+        ),
+        Err(refusal) => stopped_row(w, spreads, Err(refusal)),
     }
-    let grid = answer.grid;
-    row_on(
-        w,
-        grid,
-        alpha,
-        times,
-        sigmas,
-        spreads,
-        curve_times,
-        factors,
-        nodes,
-        probabilities,
-        first,
-        second,
-    )
 }

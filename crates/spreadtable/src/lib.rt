@@ -1,5 +1,5 @@
 // The spread by sigma table: a page with a row for each shift and a column for each spread.
-#![tactic(auto)]
+#![tactic(auto, unfolding(floats::specs::Answers::on_outcome))]
 
 use floats::Refusal;
 
@@ -14,10 +14,10 @@ mod sigmas;
 mod walks;
 mod writing;
 
-// A page by value, zero past its length.
+// A page by value, zero past its length; or why there is none.
 #[derive(Drop)]
 pub struct SpreadTable {
-    pub refusal: Refusal,
+    pub refusal: Option<Refusal>,
     pub length: u32,
     pub page: [u8; 4112],
 }

@@ -13,7 +13,7 @@ use crate::cells::hash_cell;
 use crate::checks::{single_row, unchecked_row};
 use crate::rows::same_row;
 use crate::sigmas::{any_outside, shifted_sigmas};
-use floats::Refusal;
+use floats::Reason;
 use terms::Settlement;
 use terms::limits::SigmaEntries;
 
@@ -57,7 +57,7 @@ pub fn shifted_row(
         spreads.now) }
 {
     if any_outside(sigmas, shift) {
-        let cell = hash_cell(Refusal::SHIFTED_SIGMA);
+        let cell = hash_cell(Reason::ShiftedSigma.number());
         return same_row(w, spreads, cell);
     }
     if sigmas.len() > SigmaEntries::MOST {

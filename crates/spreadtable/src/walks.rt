@@ -11,7 +11,7 @@ ghost use Rattle.spreadtable.specs.laws.FittedOnce.{spread_cell, walk_in};
 use crate::Written;
 use crate::cells::{answer_text, hash_cell};
 use crate::writing::append;
-use floats::Refusal;
+use floats::Reason;
 use rollback::walking::root_value;
 use terms::limits::Spread;
 use terms::ranges::not_within;
@@ -41,7 +41,7 @@ fn walked_cell(
         spread }
 {
     if not_within(Spread::MOST, spread) {
-        return hash_cell(Refusal::NUMBER);
+        return hash_cell(Reason::Number.number());
     }
     let answer = root_value(
         nodes,

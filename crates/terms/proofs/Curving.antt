@@ -1,4 +1,5 @@
 -- A loop that looks for the two pillars around a time, from the front: what it knows at each pillar, and what the curve is where it stops. Assumes nothing.
+use Rattle.std.specs.Prelude.{Ok}
 use Prim.Native.Nat.{ℕ, suc, ◌+◌, ◌≤◌, ◌<◌}
 use native.Mathlib.Omega.{arith}
 use native.Mathlib.Numerals.{add-one}
@@ -9,9 +10,7 @@ use borrow.Author.Rules.{rules}
 use lib.ListN.{length, get_or, drop, drop_of_length-le}
 use lib.Seq.{drop-cons}
 use lib.Ieee.{Float, lt}
-use Rattle.floats.specs.declared.Answer.{Answer}
-use Rattle.floats.specs.declared.Answer.TheVariants.{Value}
-use Rattle.floats.specs.Answers.{plus_zero}
+use Rattle.floats.specs.Answers.{Answer, plus_zero}
 use Rattle.terms.specs.Curve.{between, curve_over}
 
 module _ (t : Float) (place : ℕ) where
@@ -21,29 +20,29 @@ module _ (t : Float) (place : ℕ) where
   unfolding curve_over
   curve-step t0 t1 times d0 d1 factors = refl
 
-  last_time : (t0 d0 : Float) (factors : List Float) → curve_over (t0 ∷ []) (d0 ∷ factors) t place ≡ Value d0
+  last_time : (t0 d0 : Float) (factors : List Float) → curve_over (t0 ∷ []) (d0 ∷ factors) t place ≡ Ok d0
   unfolding curve_over
   last_time t0 d0 factors = refl
 
-  last_factor : (t0 : Float) (times : List Float) (d0 : Float) → curve_over (t0 ∷ times) (d0 ∷ []) t place ≡ Value d0
+  last_factor : (t0 : Float) (times : List Float) (d0 : Float) → curve_over (t0 ∷ times) (d0 ∷ []) t place ≡ Ok d0
   unfolding curve_over
   last_factor t0 [] d0 = refl
   last_factor t0 (t1 ∷ times) d0 = refl
 
-  no_time : (factors : List Float) → curve_over [] factors t place ≡ Value plus_zero
+  no_time : (factors : List Float) → curve_over [] factors t place ≡ Ok plus_zero
   unfolding curve_over
   no_time factors = refl
 
-  no_factor : (times : List Float) → curve_over times [] t place ≡ Value plus_zero
+  no_factor : (times : List Float) → curve_over times [] t place ≡ Ok plus_zero
   unfolding curve_over
   no_factor [] = refl
   no_factor (t0 ∷ times) = refl
 
   module _ (times : List Float) (factors : List Float) where
-    pub without_times : {r : Answer} → length times ≡ 0 → r ≡ Value plus_zero → r ≡ curve_over times factors t place
+    pub without_times : {r : Answer} → length times ≡ 0 → r ≡ Ok plus_zero → r ≡ curve_over times factors t place
     without_times h p = let e : drop 0 times ≡ [] = drop_of_length-le times {i = 0} (omega arith) in p ∙ sym (rw e (no_time factors))
 
-    pub without_factors : {r : Answer} → length factors ≡ 0 → r ≡ Value plus_zero → r ≡ curve_over times factors t place
+    pub without_factors : {r : Answer} → length factors ≡ 0 → r ≡ Ok plus_zero → r ≡ curve_over times factors t place
     without_factors h p = let e : drop 0 factors ≡ [] = drop_of_length-le factors {i = 0} (omega arith) in p ∙ sym (rw e (no_factor times))
 
     -- The time is not before pillar i: what is left of the curve from there on is the whole.
@@ -93,22 +92,22 @@ module _ (t : Float) (place : ℕ) where
     found i c h k e q p = p ∙ sym (told i true h k e q) ∙ c.rest
 
     -- From the last pillar on, its factor; the same where the factors end first.
-    pub times-end : (i : ℕ) {v : Float} {r : Answer} → Curving i → length times ≤ i + 1 → v ≡ get_or factors i plus_zero → r ≡ Value v → r ≡ curve_over times factors t place
+    pub times-end : (i : ℕ) {v : Float} {r : Answer} → Curving i → length times ≤ i + 1 → v ≡ get_or factors i plus_zero → r ≡ Ok v → r ≡ curve_over times factors t place
     times-end i c h e p =
         let none : drop (suc i) times ≡ [] = drop_of_length-le times {i = suc i} (omega arith) in
         let d0 = get_or factors i plus_zero in
-        p ∙ ap Value e
+        p ∙ ap Ok e
         ∙ sym
         (ap (λ (xs : List Float). curve_over xs (drop i factors) t place) (drop-cons times i plus_zero c.time-there ∙ ap (λ (xs : List Float). get_or times i plus_zero ∷ xs) none)
         ∙ ap (λ (xs : List Float). curve_over (get_or times i plus_zero ∷ []) xs t place) (drop-cons factors i plus_zero c.factor-there)
         ∙ last_time (get_or times i plus_zero) d0 (drop (suc i) factors))
         ∙ c.rest
 
-    pub factors-end : (i : ℕ) {v : Float} {r : Answer} → Curving i → length factors ≤ i + 1 → v ≡ get_or factors i plus_zero → r ≡ Value v → r ≡ curve_over times factors t place
+    pub factors-end : (i : ℕ) {v : Float} {r : Answer} → Curving i → length factors ≤ i + 1 → v ≡ get_or factors i plus_zero → r ≡ Ok v → r ≡ curve_over times factors t place
     factors-end i c h e p =
         let none : drop (suc i) factors ≡ [] = drop_of_length-le factors {i = suc i} (omega arith) in
         let d0 = get_or factors i plus_zero in
-        p ∙ ap Value e
+        p ∙ ap Ok e
         ∙ sym
         (ap (λ (xs : List Float). curve_over xs (drop i factors) t place) (drop-cons times i plus_zero c.time-there)
         ∙ ap (λ (xs : List Float). curve_over (get_or times i plus_zero ∷ drop (suc i) times) xs t place) (drop-cons factors i plus_zero c.factor-there ∙ ap (λ (xs : List Float). d0 ∷ xs) none)

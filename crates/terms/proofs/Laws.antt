@@ -1,4 +1,5 @@
 -- Laws in the shape that `search` wants, and the set `checks` of them: what the code's tests say of a test that is made of others, and of checks that follow one another. Assumes nothing.
+use Rattle.std.specs.Prelude.{Ok, Err}
 use Prim.Native.Nat.{ℕ, zero, suc, ◌<◌}
 use native.Mathlib.Omega.{arith}
 use mathlib.Core.Path.{◌≡◌, refl, sym, ap, ◌∙◌}
@@ -8,10 +9,10 @@ use lib.ListN.{length, get_or}
 use lib.Dec.{ltb, leb-suc-zero}
 use borrow.Author.Rules.{rules}
 use borrow.Author.Tests.{lt-ltb, le-ltb, le-leb, lt-leb, eq-eqb, ne_eqb}
+use Rattle.floats.specs.declared.Reason.{Reason}
 use Rattle.floats.specs.declared.Refusal.{Refusal}
 use Rattle.terms.specs.declared.Settlement.{Settlement}
-use Rattle.terms.specs.declared.Check.{Check}
-use Rattle.terms.specs.declared.Check.TheVariants.{Passed, Refused}
+use Rattle.floats.specs.Answers.{Check}
 use Rattle.terms.specs.Checks.{on_check, first_of, single, outside, any_paid}
 use lib.Ieee.{Float}
 use Rattle.terms.specs.Terms.{Leg, CallSchedule, Pillars, Bond, TimeGrid, Market}
@@ -63,38 +64,38 @@ called_no b e t = sym e ∙ t
 
 -- ---- a cause that has one place
 
-pub refused_one : (number place : ℕ) (b : Bool) {r : Check} → b ≡ true → r ≡ Refused (record { number = number; place = place }) → r ≡ single number place b
-refused_one number place b t p = p ∙ sym (ap (single number place) t)
+pub refused_one : (why : Reason) (place : ℕ) (b : Bool) {r : Check} → b ≡ true → r ≡ Err (record { reason = why; place = place }) → r ≡ single why place b
+refused_one why place b t p = p ∙ sym (ap (single why place) t)
 
-pub passed_one : (number place : ℕ) (b : Bool) {r : Check} → b ≡ false → r ≡ Passed → r ≡ single number place b
-passed_one number place b t p = p ∙ sym (ap (single number place) t)
+pub passed_one : (why : Reason) (place : ℕ) (b : Bool) {r : Check} → b ≡ false → r ≡ Ok tt → r ≡ single why place b
+passed_one why place b t p = p ∙ sym (ap (single why place) t)
 
-pub tested_one : (number place : ℕ) {f : Bool} (b : Bool) {s : Check} → s ≡ single number place f → f ≡ b → s ≡ single number place b
-tested_one number place b e t = e ∙ ap (single number place) t
+pub tested_one : (why : Reason) (place : ℕ) {f : Bool} (b : Bool) {s : Check} → s ≡ single why place f → f ≡ b → s ≡ single why place b
+tested_one why place b e t = e ∙ ap (single why place) t
 
 -- ---- checks one after the other
 
-pub passed_first : {s r : Check} (a : Check) (cs : List Check) → s ≡ a → s ≡ Passed → r ≡ first_of cs → r ≡ first_of (a ∷ cs)
+pub passed_first : {s r : Check} (a : Check) (cs : List Check) → s ≡ a → s ≡ Ok tt → r ≡ first_of cs → r ≡ first_of (a ∷ cs)
 unfolding first_of on_check
-passed_first a cs e t p = p ∙ ap (λ (z : Check). on_check z Refused (first_of cs)) (sym t ∙ e)
+passed_first a cs e t p = p ∙ ap (λ (z : Check). on_check z Err (first_of cs)) (sym t ∙ e)
 
-pub refused_first : {s r : Check} (a : Check) (cs : List Check) {q : Refusal} → s ≡ a → s ≡ Refused q → r ≡ s → r ≡ first_of (a ∷ cs)
+pub refused_first : {s r : Check} (a : Check) (cs : List Check) {q : Refusal} → s ≡ a → s ≡ Err q → r ≡ s → r ≡ first_of (a ∷ cs)
 unfolding first_of on_check
-refused_first a cs e t p = p ∙ t ∙ ap (λ (z : Check). on_check z Refused (first_of cs)) (sym t ∙ e)
+refused_first a cs e t p = p ∙ t ∙ ap (λ (z : Check). on_check z Err (first_of cs)) (sym t ∙ e)
 
 pub only_one : {r : Check} (a : Check) → r ≡ a → r ≡ first_of (a ∷ [])
 unfolding first_of on_check
 only_one a e = e ∙ alone a
   where
     alone : (z : Check) → z ≡ first_of (z ∷ [])
-    alone Passed = refl
-    alone (Refused q) = refl
+    alone (Ok tt) = refl
+    alone (Err q) = refl
 
 -- A group of checks, then others.
-pub passed_group : {s r : Check} (xs ys : List Check) → s ≡ first_of xs → s ≡ Passed → r ≡ first_of ys → r ≡ first_of (xs ++ ys)
+pub passed_group : {s r : Check} (xs ys : List Check) → s ≡ first_of xs → s ≡ Ok tt → r ≡ first_of ys → r ≡ first_of (xs ++ ys)
 passed_group xs ys e t p = p ∙ sym (first_after xs ys (passes_of_first xs (sym e ∙ t)))
 
-pub refused_group : {s r : Check} (xs ys : List Check) {q : Refusal} → s ≡ first_of xs → s ≡ Refused q → r ≡ s → r ≡ first_of (xs ++ ys)
+pub refused_group : {s r : Check} (xs ys : List Check) {q : Refusal} → s ≡ first_of xs → s ≡ Err q → r ≡ s → r ≡ first_of (xs ++ ys)
 refused_group xs ys {q} e t p = p ∙ t ∙ sym (first_stopped xs ys q (sym e ∙ t))
 
 -- ---- an element of a list, whatever stands for one past its end

@@ -1,9 +1,9 @@
 -- The input checks of a call list made from an accepted one: refused with 4 where a strike is above 1,000,000, else accepted. A reordered list is accepted. Assumes nothing.
-use Rattle.std.specs.Prelude.{◌≡◌}
+use Rattle.std.specs.Prelude.{◌≡◌, Ok, Err}
 use Rattle.std.proofs.Common.{◌∙◌, arith}
 use Rattle.floats.specs.declared.Refusal.{Refusal}
+use Rattle.floats.specs.declared.Reason.TheVariants as reason
 use Rattle.terms.specs.declared.Settlement.{Settlement}
-use Rattle.terms.specs.declared.Check.TheVariants.{Passed, Refused}
 use Rattle.terms.specs.Terms.{CallSchedule, Bond, TimeGrid, Market}
 use Rattle.terms.specs.Checks.{call_count}
 use Rattle.terms.specs.Entries.{grid_checks, tree_checks}
@@ -16,7 +16,7 @@ use Rattle.terms.proofs.Pairing.{made-size}
 
 module _ (first second : CallSchedule) (made : MadeFrom first second) where
   module _ (accepted : CallsPassed first) where
-    pub made_counted : call_count second ≡ Passed
+    pub made_counted : call_count second ≡ Ok tt
     made_counted =
         let shorter = made-size first second made in
         let few = (call-counted first accepted.counted).few in
@@ -27,25 +27,25 @@ module _ (first second : CallSchedule) (made : MadeFrom first second) where
 
   -- ---- the checks of the tree value
 
-  pub tree-made-refused : (m : Market) → tree_checks m first ≡ Passed → SomeAbove second → (r : Refusal) × (tree_checks m second ≡ Refused r) × (r.number ≡ 4)
+  pub tree-made-refused : (m : Market) → tree_checks m first ≡ Ok tt → SomeAbove second → (r : Refusal) × (tree_checks m second ≡ Err r) × (r.reason ≡ reason.Number)
   tree-made-refused m h s =
       let k = tree-calls m first h in
       let f = made-refused first second made s in
       (f.0, tree-strike-refused m second f.0 (tree-market m first h) (made_counted k) (made-days first second made k) f.1, f.2)
 
-  pub tree-made-passed : (m : Market) → tree_checks m first ≡ Passed → AllWithin second → tree_checks m second ≡ Passed
+  pub tree-made-passed : (m : Market) → tree_checks m first ≡ Ok tt → AllWithin second → tree_checks m second ≡ Ok tt
   tree-made-passed m h w = tree-passed m second (tree-market m first h) (made-calls (tree-calls m first h) w)
 
   -- ---- the checks of the grid
 
-  module _ (settlement : Settlement) (bond : Bond) (controls : TimeGrid) (h : grid_checks settlement bond first controls ≡ Passed) where
-    pub grid-made-refused : SomeAbove second → (r : Refusal) × (grid_checks settlement bond second controls ≡ Refused r) × (r.number ≡ 4)
+  module _ (settlement : Settlement) (bond : Bond) (controls : TimeGrid) (h : grid_checks settlement bond first controls ≡ Ok tt) where
+    pub grid-made-refused : SomeAbove second → (r : Refusal) × (grid_checks settlement bond second controls ≡ Err r) × (r.reason ≡ reason.Number)
     grid-made-refused s =
         let k = grid-calls settlement bond first controls h in
         let f = made-refused first second made s in
         (f.0, grid-strike-refused settlement bond second controls f.0 (grid-terms settlement bond first controls h) (made_counted k) (made-days first second made k) f.1, f.2)
 
-    pub grid-made-passed : AllWithin second → grid_checks settlement bond second controls ≡ Passed
+    pub grid-made-passed : AllWithin second → grid_checks settlement bond second controls ≡ Ok tt
     grid-made-passed w =
         grid-passed settlement bond second controls (grid-terms settlement bond first controls h) (made-calls (grid-calls settlement bond first controls h) w)
 
@@ -59,9 +59,9 @@ module _ (first second : CallSchedule) (r : Reordered first second) where
   pub tree-reordered-alike : (m : Market) → CallsPassed first → tree_checks m second ≡ tree_checks m first
   tree-reordered-alike m k = tree-alike m first second k (reordered-calls k)
 
-  pub tree-reordered : (m : Market) → tree_checks m first ≡ Passed → tree_checks m second ≡ Passed
+  pub tree-reordered : (m : Market) → tree_checks m first ≡ Ok tt → tree_checks m second ≡ Ok tt
   tree-reordered m h = tree-reordered-alike m (tree-calls m first h) ∙ h
 
-  pub grid-reordered : (settlement : Settlement) (bond : Bond) (controls : TimeGrid) → grid_checks settlement bond first controls ≡ Passed → grid_checks settlement bond second controls ≡ Passed
+  pub grid-reordered : (settlement : Settlement) (bond : Bond) (controls : TimeGrid) → grid_checks settlement bond first controls ≡ Ok tt → grid_checks settlement bond second controls ≡ Ok tt
   grid-reordered settlement bond controls h =
       grid-passed settlement bond second controls (grid-terms settlement bond first controls h) (reordered-calls (grid-calls settlement bond first controls h))

@@ -10,7 +10,7 @@ use lib.Seq.{get_or-set_same, get_or-set_other, get_or-take, length-take-le, ext
 use lib.Ieee.{Float}
 use Rattle.terms.specs.declared.Settlement.{Settlement}
 use Rattle.terms.specs.declared.Epoch.{Epoch}
-use Rattle.terms.specs.declared.Check.{Check}
+use Rattle.floats.specs.Answers.{Check}
 use Rattle.terms.specs.Times.{epoch_of, time_from, year_fraction}
 use Rattle.terms.specs.Curve.{pillar_times, CurveTimes}
 use Rattle.terms.specs.Checks.{same_times}

@@ -1,44 +1,43 @@
 -- Definitions only. The input checks, number by number; the place is the lowest index, 0 for single fields, counts and 7.
-use Rattle.std.specs.Prelude.{ℕ, zero, suc, ◌-◌, Bool, not, cond, ◌&&◌, ◌||◌, List, [], ◌∷◌, length, get_or, eqb, ltb, leb, Float}
+use Rattle.std.specs.Prelude.{ℕ, zero, suc, ◌-◌, Bool, not, cond, ◌&&◌, ◌||◌, List, [], ◌∷◌, length, get_or, eqb, ltb, leb, Float, Ok, Err}
 use Rattle.std.specs.Float.Ieee.{neg, lt, le, eq}
+use Rattle.floats.specs.declared.Reason.{Reason}
 use Rattle.floats.specs.declared.Refusal.{Refusal}
-use Rattle.floats.specs.declared.Answer.{Answer}
-use Rattle.floats.specs.Answers.{plus_zero, on_answer, not_finite}
+use Rattle.floats.specs.Answers.{Answer, plus_zero, on_outcome, not_finite, Check}
 use Rattle.terms.specs.declared.Settlement.{Settlement}
-use Rattle.terms.specs.declared.Check.{Check}
-use Rattle.terms.specs.declared.Check.TheVariants.{Passed, Refused}
 use Rattle.terms.specs.Numbers.{float, amount_limit, million}
 use Rattle.terms.specs.Terms.{Leg, CallSchedule, SigmaSchedule, Pillars, TimeGrid}
 use Rattle.terms.specs.Times.{year_fraction}
 use Rattle.terms.specs.Curve.{pillar_times}
+use Rattle.floats.specs.declared.Reason.TheVariants as reason
 
 -- ---- how checks follow one another
 
 unfoldable pub on_check {ℓ} : {A : Type ℓ} → Check → (Refusal → A) → A → A
-on_check Passed f a = a
-on_check (Refused r) f a = f r
+on_check (Ok tt) f a = a
+on_check (Err r) f a = f r
 
 -- What an answer refuses; a value refuses nothing.
 abbrev pub refused_by : Answer → Check
-refused_by a = on_answer a Refused λ x. Passed
+refused_by a = on_outcome a Err λ x. Ok tt
 
 -- The first refusal of a list of checks.
 unfoldable pub first_of : List Check → Check
 unfolding on_check
-first_of [] = Passed
-first_of (c ∷ cs) = on_check c Refused (first_of cs)
+first_of [] = Ok tt
+first_of (c ∷ cs) = on_check c Err (first_of cs)
 
 -- A cause that has one place.
-abbrev pub single : ℕ → ℕ → Bool → Check
-single number place bad = cond bad (Refused (record { number = number; place = place })) Passed
+abbrev pub single : Reason → ℕ → Bool → Check
+single why place bad = cond bad (Err (record { reason = why; place = place })) (Ok tt)
 
 -- The lowest index from i on, of count indices, at which the cause holds.
-unfoldable pub lowest : ℕ → (ℕ → Bool) → ℕ → ℕ → Check
-lowest number bad zero i = Passed
-lowest number bad (suc count) i = cond (bad i) (Refused (record { number = number; place = i })) (lowest number bad count (suc i))
+unfoldable pub lowest : Reason → (ℕ → Bool) → ℕ → ℕ → Check
+lowest why bad zero i = Ok tt
+lowest why bad (suc count) i = cond (bad i) (Err (record { reason = why; place = i })) (lowest why bad count (suc i))
 
-abbrev pub indexed : {A : Type 0} → ℕ → (ℕ → Bool) → List A → Check
-indexed number bad xs = lowest number bad (length xs) 0
+abbrev pub indexed : {A : Type 0} → Reason → (ℕ → Bool) → List A → Check
+indexed why bad xs = lowest why bad (length xs) 0
 
 -- ---- ranges
 
@@ -66,99 +65,99 @@ not_up_to limit x = not_finite x || (lt x plus_zero || lt limit x)
 
 -- Steps per year 1 to 366, maximum steps 1 to 512.
 abbrev pub settings : TimeGrid → Check
-settings g = single 1 0 (outside 1 366 g.per_year || outside 1 512 g.maximum)
+settings g = single reason.Setting 0 (outside 1 366 g.per_year || outside 1 512 g.maximum)
 
 -- ---- 33: a day-count code that is unknown
 
 -- 0 Actual/365, 1 Actual/360, 2 30E/360.
 abbrev pub day_count : ℕ → Check
-day_count code = single 33 0 (ltb 2 code)
+day_count code = single reason.DayCount 0 (ltb 2 code)
 
 -- ---- 2: a list's count outside its limits, or parallel slices of unequal length
 
 -- 1 to 256 cashflows.
 abbrev pub leg_count : Leg → Check
 leg_count l =
-    single 2 0
+    single reason.Count 0
     (outside 1 256 (length l.days) || (not (eqb (length l.kinds) (length l.days)) || not (eqb (length l.amounts) (length l.days))))
 
 -- 0 to 64 call entries.
 abbrev pub call_count : CallSchedule → Check
 call_count c =
-    single 2 0
+    single reason.Count 0
     (ltb 64 (length c.starts) || (not (eqb (length c.ends) (length c.starts)) || not (eqb (length c.strikes) (length c.starts))))
 
 -- Put entries: the slices alone. Their count is 37's.
 abbrev pub put_count : CallSchedule → Check
-put_count p = single 2 0 (not (eqb (length p.ends) (length p.starts)) || not (eqb (length p.strikes) (length p.starts)))
+put_count p = single reason.Count 0 (not (eqb (length p.ends) (length p.starts)) || not (eqb (length p.strikes) (length p.starts)))
 
 -- 1 to 64 sigma entries.
 abbrev pub sigma_count : SigmaSchedule → Check
-sigma_count s = single 2 0 (outside 1 64 (length s.times) || not (eqb (length s.sigmas) (length s.times)))
+sigma_count s = single reason.Count 0 (outside 1 64 (length s.times) || not (eqb (length s.sigmas) (length s.times)))
 
 -- 2 to 256 pillars.
 abbrev pub pillar_count : Pillars → Check
-pillar_count p = single 2 0 (outside 2 256 (length p.days) || not (eqb (length p.factors) (length p.days)))
+pillar_count p = single reason.Count 0 (outside 2 256 (length p.days) || not (eqb (length p.factors) (length p.days)))
 
 -- ---- 37: more than 64 puts
 
 abbrev pub put_most : CallSchedule → Check
-put_most p = single 37 0 (ltb 64 (length p.starts))
+put_most p = single reason.PutCount 0 (ltb 64 (length p.starts))
 
 -- ---- 3: a day out of range, cashflow days falling, kind not 0 or 1
 
 abbrev pub settlement_day : ℕ → Check
-settlement_day d = single 3 0 (no_day d)
+settlement_day d = single reason.Day 0 (no_day d)
 
 -- The place is the later of two out of order.
 abbrev pub falls : List ℕ → ℕ → Bool
 falls days i = ltb 0 i && ltb (get_or days i 0) (get_or days (i - 1) 0)
 
 abbrev pub leg_days : Leg → Check
-leg_days l = indexed 3 (λ i. no_day (get_or l.days i 0) || (falls l.days i || ltb 1 (get_or l.kinds i 0))) l.days
+leg_days l = indexed reason.Day (λ i. no_day (get_or l.days i 0) || (falls l.days i || ltb 1 (get_or l.kinds i 0))) l.days
 
 abbrev pub call_days : CallSchedule → Check
-call_days c = indexed 3 (λ i. no_day (get_or c.starts i 0) || no_day (get_or c.ends i 0)) c.starts
+call_days c = indexed reason.Day (λ i. no_day (get_or c.starts i 0) || no_day (get_or c.ends i 0)) c.starts
 
 abbrev pub pillar_days : Pillars → Check
-pillar_days p = indexed 3 (λ i. no_day (get_or p.days i 0)) p.days
+pillar_days p = indexed reason.Day (λ i. no_day (get_or p.days i 0)) p.days
 
 -- ---- 4: a number not finite or outside its range
 
 -- Units, above 0 and up to 1e12.
 abbrev pub units_range : Float → Check
-units_range u = single 4 0 (not_above amount_limit u)
+units_range u = single reason.Number 0 (not_above amount_limit u)
 
 -- Alpha within ±10, spread within ±1; a target ±1e15, the yield given ±1e6.
 abbrev pub within : Float → Float → Check
-within limit x = single 4 0 (beyond limit x)
+within limit x = single reason.Number 0 (beyond limit x)
 
 -- Amounts within ±1e12.
 abbrev pub amount_range : Leg → Check
-amount_range l = indexed 4 (λ i. beyond amount_limit (get_or l.amounts i plus_zero)) l.amounts
+amount_range l = indexed reason.Number (λ i. beyond amount_limit (get_or l.amounts i plus_zero)) l.amounts
 
 -- Strikes above 0 and up to 1e6.
 abbrev pub strike_range : CallSchedule → Check
-strike_range c = indexed 4 (λ i. not_above million (get_or c.strikes i plus_zero)) c.strikes
+strike_range c = indexed reason.Number (λ i. not_above million (get_or c.strikes i plus_zero)) c.strikes
 
 -- Sigma time 0 to 600; sigma 0 to 10.
 abbrev pub sigma_range : SigmaSchedule → Check
 sigma_range s =
-    indexed 4 (λ i. not_up_to (float 600) (get_or s.times i plus_zero) || not_up_to (float 10) (get_or s.sigmas i plus_zero)) s.times
+    indexed reason.Number (λ i. not_up_to (float 600) (get_or s.times i plus_zero) || not_up_to (float 10) (get_or s.sigmas i plus_zero)) s.times
 
 -- A factor within ±1000.
 abbrev pub factor_range : Pillars → Check
-factor_range p = indexed 4 (λ i. beyond (float 1000) (get_or p.factors i plus_zero)) p.factors
+factor_range p = indexed reason.Number (λ i. beyond (float 1000) (get_or p.factors i plus_zero)) p.factors
 
 -- ---- 5: call or put end before start
 
 abbrev pub call_order : CallSchedule → Check
-call_order c = indexed 5 (λ i. ltb (get_or c.ends i 0) (get_or c.starts i 0)) c.starts
+call_order c = indexed reason.CallOrder (λ i. ltb (get_or c.ends i 0) (get_or c.starts i 0)) c.starts
 
 -- ---- 6: sigma times not strictly rising
 
 abbrev pub sigma_order : SigmaSchedule → Check
-sigma_order s = indexed 6 (λ i. ltb 0 i && not (lt (get_or s.times (i - 1) plus_zero) (get_or s.times i plus_zero))) s.times
+sigma_order s = indexed reason.SigmaOrder (λ i. ltb 0 i && not (lt (get_or s.times (i - 1) plus_zero) (get_or s.times i plus_zero))) s.times
 
 -- ---- 7: no cashflow after settlement
 
@@ -167,13 +166,13 @@ abbrev pub last_day : List ℕ → ℕ
 last_day days = get_or days (length days - 1) 0
 
 abbrev pub any_paid : ℕ → Leg → Check
-any_paid settlement l = single 7 0 (leb (last_day l.days) settlement)
+any_paid settlement l = single reason.NothingPaid 0 (leb (last_day l.days) settlement)
 
 -- ---- 8: pillar days not strictly rising, first not settlement, last before maturity
 
 abbrev pub pillar_order : ℕ → ℕ → Pillars → Check
 pillar_order settlement maturity p =
-    indexed 8
+    indexed reason.PillarOrder
     (λ i.
     cond
     (eqb i 0)
@@ -186,7 +185,7 @@ pillar_order settlement maturity p =
 
 -- The later one is the place. Times never fall where 8 passed, so two at one time are neighbours.
 abbrev pub same_times : List Float → Check
-same_times times = indexed 34 (λ i. ltb 0 i && eq (get_or times (i - 1) plus_zero) (get_or times i plus_zero)) times
+same_times times = indexed reason.SameTime (λ i. ltb 0 i && eq (get_or times (i - 1) plus_zero) (get_or times i plus_zero)) times
 
 abbrev pub pillars_apart : Settlement → Pillars → Check
 pillars_apart settlement p = same_times (pillar_times settlement p.days)
@@ -194,9 +193,9 @@ pillars_apart settlement p = same_times (pillar_times settlement p.days)
 -- ---- 35: a maturity whose time is 0
 
 abbrev pub maturity_apart : Settlement → Leg → Check
-maturity_apart settlement l = single 35 0 (eq (year_fraction settlement (last_day l.days)) plus_zero)
+maturity_apart settlement l = single reason.NoTime 0 (eq (year_fraction settlement (last_day l.days)) plus_zero)
 
 -- ---- 44: a pillar factor that isn't positive
 
 abbrev pub positive_factors : Pillars → Check
-positive_factors p = indexed 44 (λ i. le (get_or p.factors i plus_zero) plus_zero) p.factors
+positive_factors p = indexed reason.FactorNotPositive (λ i. le (get_or p.factors i plus_zero) plus_zero) p.factors

@@ -1,10 +1,8 @@
 -- Definitions only. The discount curve.
-use Rattle.std.specs.Prelude.{ℕ, ◌≤◌, ◌≡◌, cond, List, [], ◌∷◌, map, length, Float}
+use Rattle.std.specs.Prelude.{ℕ, ◌≤◌, ◌≡◌, cond, List, [], ◌∷◌, map, length, Float, Ok}
 use Rattle.std.specs.Float.{binary64}
 use Rattle.std.specs.Float.Ieee.{add, sub, mul, div, lt}
-use Rattle.floats.specs.declared.Answer.{Answer}
-use Rattle.floats.specs.declared.Answer.TheVariants.{Value}
-use Rattle.floats.specs.Answers.{plus_zero, and_then, tested, when_finite}
+use Rattle.floats.specs.Answers.{Answer, plus_zero, follow, tested, when_finite}
 use Rattle.elementary.specs.Exponential.{exp_at}
 use Rattle.elementary.specs.Logarithm.{ln_at}
 use Rattle.terms.specs.declared.Settlement.{Settlement}
@@ -24,19 +22,19 @@ on_line t t0 l0 t1 l1 place =
 -- exp of the linear rule over ln of the two factors.
 unfoldable pub between : Float → Float → Float → Float → Float → ℕ → Answer
 between t t0 d0 t1 d1 place =
-    and_then (ln_at d0 place) λ l0.
-    and_then (ln_at d1 place) λ l1.
-    and_then (on_line t t0 l0 t1 l1 place) λ x. exp_at x place
+    follow (ln_at d0 place) λ l0.
+    follow (ln_at d1 place) λ l1.
+    follow (on_line t t0 l0 t1 l1 place) λ x. exp_at x place
 
 -- Over the pillars' times and factors: from each pillar, itself included, up to the next that rule; at or past the last pillar its factor.
 unfoldable pub curve_over : List Float → List Float → Float → ℕ → Answer
 unfolding between lt
 curve_over (t0 ∷ t1 ∷ times) (d0 ∷ d1 ∷ factors) t place =
     cond (lt t t1) (between t t0 d0 t1 d1 place) (curve_over (t1 ∷ times) (d1 ∷ factors) t place)
-curve_over (t0 ∷ []) (d0 ∷ factors) t place = Value d0
-curve_over (t0 ∷ t1 ∷ times) (d0 ∷ []) t place = Value d0
-curve_over (t0 ∷ times) [] t place = Value plus_zero
-curve_over [] factors t place = Value plus_zero
+curve_over (t0 ∷ []) (d0 ∷ factors) t place = Ok d0
+curve_over (t0 ∷ t1 ∷ times) (d0 ∷ []) t place = Ok d0
+curve_over (t0 ∷ times) [] t place = Ok plus_zero
+curve_over [] factors t place = Ok plus_zero
 
 -- The pillars' times.
 abbrev pub pillar_times : Settlement → List ℕ → List Float

@@ -2,7 +2,7 @@
 -- The checks of one number, or of a few that follow one another, are a group; an entry's checks are its groups, one after the other.
 use Rattle.std.specs.Prelude.{ℕ, List, [], ◌∷◌, ◌++◌, Float}
 use Rattle.terms.specs.declared.Settlement.{Settlement}
-use Rattle.terms.specs.declared.Check.{Check}
+use Rattle.floats.specs.Answers.{Check}
 use Rattle.terms.specs.Numbers.{float, million, target_limit}
 use Rattle.terms.specs.Terms.{Leg, CallSchedule, SigmaSchedule, Pillars, Bond, TimeGrid, Market}
 use Rattle.terms.specs.Checks.{first_of, settings, day_count, leg_count, call_count, put_count, put_most, sigma_count, pillar_count, settlement_day, leg_days, call_days, pillar_days, units_range, within, amount_range, strike_range, sigma_range, factor_range, call_order, sigma_order, last_day, any_paid, pillar_order, pillars_apart, maturity_apart, positive_factors}

@@ -5,38 +5,31 @@ ghost use Rattle.terms.specs.laws.Stages.{Tells};
 ghost use Rattle.terms.specs.Terms.{Leg, CallSchedule, SigmaSchedule, Pillars};
 ghost use Rattle.terms.specs.Checks.{outside, leg_count, call_count, put_count, put_most, sigma_count, pillar_count};
 
-use crate::Check;
 use crate::limits::{CallEntries, Cashflows, PillarEntries, SigmaEntries};
 use crate::ranges::out_of;
 use crate::refusing::single;
-use floats::Refusal;
+use floats::{Reason, Refusal};
 
 // Two parallel lists: a count outside low..high, or unequal ones.
 fn two_wrong(low: usize, high: usize, count: usize, other: usize) -> bool
     ensures { result ≡ (outside low high count || not (eqb other count)) }
 {
-    if out_of(low, high, count) {
-        return true;
-    }
-    other != count
+    out_of(low, high, count) || other != count
 }
 
 // Three parallel lists: a count outside low..high, or unequal ones.
 fn three_wrong(low: usize, high: usize, count: usize, second: usize, third: usize) -> bool
     ensures { result ≡ (outside low high count || (not (eqb second count) || not (eqb third count))) }
 {
-    if out_of(low, high, count) {
-        return true;
-    }
-    unequal(count, second, third)
+    out_of(low, high, count) || unequal(count, second, third)
 }
 
 // 1 to 256 cashflows.
-pub fn leg_count(days: &[u32], kinds: &[u8], amounts: &[f64]) -> Check
+pub fn leg_count(days: &[u32], kinds: &[u8], amounts: &[f64]) -> Result<(), Refusal>
     ensures { result ≡ leg_count (record { days = days.entry.now; kinds = kinds.now; amounts = amounts.now }) }
 {
     single(
-        Refusal::COUNT,
+        Reason::Count,
         three_wrong(
             Cashflows::FEWEST,
             Cashflows::MOST,
@@ -48,11 +41,11 @@ pub fn leg_count(days: &[u32], kinds: &[u8], amounts: &[f64]) -> Check
 }
 
 // 0 to 64 call entries.
-pub fn call_count(starts: &[u32], ends: &[u32], strikes: &[f64]) -> Check
+pub fn call_count(starts: &[u32], ends: &[u32], strikes: &[f64]) -> Result<(), Refusal>
     ensures { result ≡ call_count (record { starts = starts.entry.now; ends = ends.now; strikes = strikes.now }) }
 {
     single(
-        Refusal::COUNT,
+        Reason::Count,
         three_wrong(
             CallEntries::FEWEST,
             CallEntries::MOST,
@@ -67,36 +60,33 @@ pub fn call_count(starts: &[u32], ends: &[u32], strikes: &[f64]) -> Check
 fn unequal(count: usize, second: usize, third: usize) -> bool
     ensures { result ≡ (not (eqb second count) || not (eqb third count)) }
 {
-    if second != count {
-        return true;
-    }
-    third != count
+    second != count || third != count
 }
 
 // Put entries: unequal slices alone.
-pub fn put_count(starts: &[u32], ends: &[u32], strikes: &[f64]) -> Check
+pub fn put_count(starts: &[u32], ends: &[u32], strikes: &[f64]) -> Result<(), Refusal>
     ensures { result ≡ put_count (record { starts = starts.entry.now; ends = ends.now; strikes = strikes.now }) }
 {
     single(
-        Refusal::COUNT,
+        Reason::Count,
         unequal(starts.len(), ends.len(), strikes.len()),
     )
 }
 
 // 37: more than 64 puts.
-pub fn put_most(starts: &[u32]) -> Check
+pub fn put_most(starts: &[u32]) -> Result<(), Refusal>
     ensures { Tells result (put_most (record { starts = starts.entry.now; ends = []; strikes = [] })) (length starts.entry.now ≤ 64) }
 {
     let many = starts.len() > CallEntries::MOST;
-    single(Refusal::PUT_COUNT, many)
+    single(Reason::PutCount, many)
 }
 
 // 1 to 64 sigma entries.
-pub fn sigma_count(times: &[f64], sigmas: &[f64]) -> Check
+pub fn sigma_count(times: &[f64], sigmas: &[f64]) -> Result<(), Refusal>
     ensures { result ≡ sigma_count (record { times = times.entry.now; sigmas = sigmas.now }) }
 {
     single(
-        Refusal::COUNT,
+        Reason::Count,
         two_wrong(
             SigmaEntries::FEWEST,
             SigmaEntries::MOST,
@@ -107,11 +97,11 @@ pub fn sigma_count(times: &[f64], sigmas: &[f64]) -> Check
 }
 
 // 2 to 256 pillars.
-pub fn pillar_count(days: &[u32], factors: &[f64]) -> Check
+pub fn pillar_count(days: &[u32], factors: &[f64]) -> Result<(), Refusal>
     ensures { result ≡ pillar_count (record { days = days.entry.now; factors = factors.now }) }
 {
     single(
-        Refusal::COUNT,
+        Reason::Count,
         two_wrong(
             PillarEntries::FEWEST,
             PillarEntries::MOST,

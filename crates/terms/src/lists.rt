@@ -16,8 +16,5 @@ pub fn number_at(xs: &[f64], i: usize) -> f64
 pub fn last_day(days: &[u32]) -> u32
     ensures { result ≡ last_day days.now }
 {
-    if days.len() == 0 {
-        return 0;
-    }
-    days[days.len() - 1]
+    days.last().copied().unwrap_or(0)
 }

@@ -10,10 +10,7 @@ use floats::finite::not_finite;
 pub fn out_of(low: usize, high: usize, n: usize) -> bool
     ensures { result ≡ outside low high n }
 {
-    if n < low {
-        return true;
-    }
-    high < n
+    n < low || high < n
 }
 
 // No day from 0 to 200,000.
@@ -27,37 +24,19 @@ pub fn no_day(day: u32) -> bool
 pub fn not_within(limit: f64, x: f64) -> bool
     ensures { result ≡ beyond limit x }
 {
-    if not_finite(x) {
-        return true;
-    }
-    if x < -limit {
-        return true;
-    }
-    limit < x
+    not_finite(x) || x < -limit || limit < x
 }
 
 // Not finite, or not above 0 and up to limit.
 pub fn not_above(limit: f64, x: f64) -> bool
     ensures { result ≡ not_above limit x }
 {
-    if not_finite(x) {
-        return true;
-    }
-    if x <= 0.0 {
-        return true;
-    }
-    limit < x
+    not_finite(x) || x <= 0.0 || limit < x
 }
 
 // Not finite, or not 0 to limit.
 pub fn not_up_to(limit: f64, x: f64) -> bool
     ensures { result ≡ not_up_to limit x }
 {
-    if not_finite(x) {
-        return true;
-    }
-    if x < 0.0 {
-        return true;
-    }
-    limit < x
+    not_finite(x) || x < 0.0 || limit < x
 }

@@ -1,40 +1,44 @@
-// How a cause becomes a check: refused with its number and place.
+// How a cause becomes a check: refused with its reason and place.
 
-ghost use Rattle.std.specs.Prelude.{◌≡◌, ◌≤◌};
-ghost use Rattle.floats.specs.declared.Refusal.{Refusal};
-ghost use Rattle.terms.specs.declared.Check.TheVariants.{Refused};
+ghost use Rattle.std.specs.Prelude.{◌≡◌, ◌≤◌, ◌<◌, ℕ, Bool};
+ghost use Rattle.floats.specs.Answers.{refusal};
 ghost use Rattle.terms.specs.Checks as checks;
+ghost use Rattle.terms.specs.Checks.{lowest};
 
-use crate::Check;
-use floats::{Answer, Refusal};
+use floats::{Reason, Refusal};
 
-// Refused with this number at an index, which is the place.
-pub fn refused_at(number: u32, i: usize) -> Check
+// Refused for this reason at an index, which is the place.
+pub fn refused_at<T>(reason: Reason, i: usize) -> Result<T, Refusal>
     requires { i ≤ 256 }
-    ensures { result ≡ Refused (record { number = number; place = i }) }
+    ensures { result ≡ refusal reason i }
 {
-    Check::Refused(Refusal {
-        number,
+    Err(Refusal {
+        reason,
         place: i as u32,
     })
 }
 
-// Refused with this number at place 0 where the cause holds.
-pub fn single(number: u32, bad: bool) -> Check
-    ensures { result ≡ checks.single number 0 bad }
+// Refused for this reason at place 0 where the cause holds.
+pub fn single(reason: Reason, bad: bool) -> Result<(), Refusal>
+    ensures { result ≡ checks.single reason 0 bad }
 {
-    if bad {
-        return Check::Refused(Refusal { number, place: 0 });
-    }
-    Check::Passed
+    if bad { refused_at(reason, 0) } else { Ok(()) }
 }
 
-// A refusal met on the way is handed up unchanged.
-pub fn refused_by(answer: Answer) -> Check
-    ensures { result ≡ checks.refused_by answer }
+// Refused for this reason at the lowest of count indices at which the cause holds.
+pub fn refused_first<F: Fn(usize) -> bool>(
+    reason: Reason,
+    count: usize,
+    bad: F,
+) -> Result<(), Refusal>
+    requires few { count ≤ 256 }
+    requires callable { (i : ℕ) → i < count → F.pre bad i }
+    ensures { (cause : ℕ → Bool) → ((i : ℕ) (r : Bool) → i < count → F.post bad i r → r ≡ cause i) → result ≡ lowest reason cause count 0 }
 {
-    match answer {
-        Answer::Value(_) => Check::Passed,
-        Answer::Refused(refusal) => Check::Refused(refusal),
+    for i in 0..count {
+        if bad(i) {
+            return refused_at(reason, i);
+        }
     }
+    Ok(())
 }

@@ -8,23 +8,18 @@ use crate::{Epoch, Settlement};
 use calendar::thirties::thirties;
 
 // What is counted: the days themselves, or those of 30E/360.
+#[tactic(auto, unfolding(crate::specs::Times::count_of))]
 fn count_of(code: u32, day: u32) -> u32
     ensures { result ≡ count_of code day }
 {
-    if code < 2 {
-        return day;
-    }
-    thirties(day)
+    if code < 2 { day } else { thirties(day) }
 }
 
 // What it is divided by.
 fn year_of(code: u32) -> f64
     ensures { result ≡ float (year_of code) }
 {
-    if code == 0 {
-        return 365.0;
-    }
-    360.0
+    if code == 0 { 365.0 } else { 360.0 }
 }
 
 // Settlement and its count, which serves every day.

@@ -1,22 +1,23 @@
 -- Definitions only. The call-list rule (demand 3): what a second list made from an accepted one may change.
-use Rattle.std.specs.Prelude.{ℕ, ◌≡◌, ◌↔◌, T, Float}
+use Rattle.std.specs.Prelude.{ℕ, ◌≡◌, ◌↔◌, T, Float, Ok, Err}
 use Rattle.std.specs.Float.Ieee.{le}
-use Rattle.floats.specs.declared.Answer.{Answer}
+use Rattle.floats.specs.Reasons.{refusal_number}
+use Rattle.floats.specs.Answers.{Answer, Outcome}
 use Rattle.terms.specs.Terms.{CallSchedule, Market}
 use Rattle.terms.specs.CallLists.{MadeFrom, Reordered, StrikeAbove}
 use Rattle.bondevents.specs.Grid.{grid_answer}
 use Rattle.treebasedbondpricer.specs.declared.TreeValue.{TreeValue}
-use Rattle.treebasedbondpricer.specs.declared.TreeValue.TheVariants.{Value, Refused}
 use Rattle.lattice.specs.Layers.{Room}
 use Rattle.treebasedbondpricer.specs.Tree.{tree_value_over, tree_value, Lent, lent_after, number_of}
+use Rattle.floats.specs.declared.Reason.TheVariants as reason
 
 -- Accepted with a value no lower than x, as numbers, both zeros equal; or refused with 27.
-pub data NoLowerOr27 (x : Float) : TreeValue → Type 0 where
-  accepted : {y : Float} {n : ℕ} → T (le x y) → NoLowerOr27 x (Value y n)
-  refused_27 : {place : ℕ} → NoLowerOr27 x (Refused (record { number = 27; place = place }))
+pub data NoLowerOr27 (x : Float) : Outcome TreeValue → Type 0 where
+  accepted : {y : Float} {n : ℕ} → T (le x y) → NoLowerOr27 x (Ok (record { value = y; nodes = n }))
+  refused_27 : {place : ℕ} → NoLowerOr27 x (Err (record { reason = reason.NotFinite; place = place }))
 
 -- The second is refused with 4 exactly when one of its strikes is above 1,000,000. Otherwise it is accepted, and its tree value is no lower than the first's, or refused with 27.
-pub record Thinned (x : Float) (second : CallSchedule) (answer : TreeValue) : Type 0 where
+pub record Thinned (x : Float) (second : CallSchedule) (answer : Outcome TreeValue) : Type 0 where
   pub with_4 : (number_of answer ≡ 4) ↔ StrikeAbove second
   pub otherwise : (StrikeAbove second → ⊥) → NoLowerOr27 x answer
 
@@ -26,7 +27,7 @@ abbrev pub CallListRule : Type 0
 CallListRule =
     (m : Market) (room : Room) (first second : CallSchedule) (x : Float) (n : ℕ)
     → MadeFrom first second
-    → tree_value m first room ≡ Value x n
+    → tree_value m first room ≡ Ok (record { value = x; nodes = n })
     → Thinned x second (tree_value m second room)
 
 -- Whenever the grid accepts a list, reordering it changes no bit of any answer: the grid's, the tree value's, and what is left in the lent slices.
@@ -39,7 +40,7 @@ abbrev pub ReorderingRule : Type 0
 ReorderingRule =
     (m : Market) (first second : CallSchedule)
     → Reordered first second
-    → (grid_answer m.settlement m.bond first m.controls).refusal.number ≡ 0
+    → refusal_number (grid_answer m.settlement m.bond first m.controls).refusal ≡ 0
     → SameAnswers m first second
 
 -- Nothing that is promised of call lists leans on the shape of the curve: whatever the curve gives at each time, both rules hold of the tree value over it. The tree value itself is that over the curve of the market's pillars.
@@ -47,12 +48,12 @@ pub record OverCurve (curve : Float → ℕ → Answer) : Type 0 where
   pub dropped_or_raised :
       (m : Market) (room : Room) (first second : CallSchedule) (x : Float) (n : ℕ)
       → MadeFrom first second
-      → tree_value_over curve m first room ≡ Value x n
+      → tree_value_over curve m first room ≡ Ok (record { value = x; nodes = n })
       → Thinned x second (tree_value_over curve m second room)
   pub reordered :
       (m : Market) (first second : CallSchedule)
       → Reordered first second
-      → (grid_answer m.settlement m.bond first m.controls).refusal.number ≡ 0
+      → refusal_number (grid_answer m.settlement m.bond first m.controls).refusal ≡ 0
       → (room : Room) → tree_value_over curve m second room ≡ tree_value_over curve m first room
 
 abbrev pub AnyCurveRule : Type 0

@@ -1,11 +1,11 @@
 -- Definitions only. The put-list rule: what a second put list made from a first may change, all else the same, calls included.
-use Rattle.std.specs.Prelude.{ℕ, ◌≡◌, T, Float}
+use Rattle.std.specs.Prelude.{ℕ, ◌≡◌, T, Float, Ok}
 use Rattle.std.specs.Float.Ieee.{le}
-use Rattle.floats.specs.declared.Answer.{Answer}
+use Rattle.floats.specs.Reasons.{refusal_number}
+use Rattle.floats.specs.Answers.{Answer}
 use Rattle.terms.specs.Terms.{CallSchedule, Market, bond_with_puts, with_puts}
 use Rattle.terms.specs.CallLists.{LoweredFrom, Reordered}
 use Rattle.bondevents.specs.Grid.{grid_answer}
-use Rattle.treebasedbondpricer.specs.declared.TreeValue.TheVariants.{Value}
 use Rattle.lattice.specs.Layers.{Room}
 use Rattle.treebasedbondpricer.specs.Tree.{tree_value_over, tree_value, Lent, lent_after}
 
@@ -14,8 +14,8 @@ abbrev pub PutListRule : Type 0
 PutListRule =
     (m : Market) (calls : CallSchedule) (room : Room) (first second : CallSchedule) (x y : Float) (n k : ℕ)
     → LoweredFrom first second
-    → tree_value (with_puts m first) calls room ≡ Value x n
-    → tree_value (with_puts m second) calls room ≡ Value y k
+    → tree_value (with_puts m first) calls room ≡ Ok (record { value = x; nodes = n })
+    → tree_value (with_puts m second) calls room ≡ Ok (record { value = y; nodes = k })
     → T (le y x)
 
 -- Whenever the grid accepts, reordering the puts changes no bit of any answer: the grid's, the tree value's, and what is left in the lent slices.
@@ -28,7 +28,7 @@ abbrev pub PutReorderingRule : Type 0
 PutReorderingRule =
     (m : Market) (calls first second : CallSchedule)
     → Reordered first second
-    → (grid_answer m.settlement (bond_with_puts m.bond first) calls m.controls).refusal.number ≡ 0
+    → refusal_number (grid_answer m.settlement (bond_with_puts m.bond first) calls m.controls).refusal ≡ 0
     → SamePutAnswers m calls first second
 
 -- Both stand over any curve.
@@ -36,13 +36,13 @@ pub record PutsOverCurve (curve : Float → ℕ → Answer) : Type 0 where
   pub dropped_or_lowered :
       (m : Market) (calls : CallSchedule) (room : Room) (first second : CallSchedule) (x y : Float) (n k : ℕ)
       → LoweredFrom first second
-      → tree_value_over curve (with_puts m first) calls room ≡ Value x n
-      → tree_value_over curve (with_puts m second) calls room ≡ Value y k
+      → tree_value_over curve (with_puts m first) calls room ≡ Ok (record { value = x; nodes = n })
+      → tree_value_over curve (with_puts m second) calls room ≡ Ok (record { value = y; nodes = k })
       → T (le y x)
   pub reordered :
       (m : Market) (calls first second : CallSchedule)
       → Reordered first second
-      → (grid_answer m.settlement (bond_with_puts m.bond first) calls m.controls).refusal.number ≡ 0
+      → refusal_number (grid_answer m.settlement (bond_with_puts m.bond first) calls m.controls).refusal ≡ 0
       → (room : Room) → tree_value_over curve (with_puts m second) calls room ≡ tree_value_over curve (with_puts m first) calls room
 
 abbrev pub AnyCurvePutRule : Type 0

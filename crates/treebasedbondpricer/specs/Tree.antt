@@ -1,21 +1,19 @@
 -- Definitions only. lattice_value and the tree value entry, with what it leaves in the lent slices.
-use Rattle.std.specs.Prelude.{ℕ, List, length, replicate, ℤ, pos, Float}
+use Rattle.std.specs.Prelude.{ℕ, List, length, replicate, ℤ, pos, Float, Ok, Err}
 use Rattle.std.specs.Float.{binary64}
 use Rattle.std.specs.Float.Ieee.{div}
-use Rattle.floats.specs.declared.Answer.{Answer}
-use Rattle.floats.specs.Answers.{plus_zero}
+use Rattle.floats.specs.Reasons.{reason_number}
+use Rattle.floats.specs.Answers.{Answer, plus_zero, Outcome, follow, on_outcome, when_finite}
 use Rattle.terms.specs.Numbers.{float}
 use Rattle.terms.specs.Terms.{CallSchedule, Market}
 use Rattle.terms.specs.Times.{time_from}
 use Rattle.terms.specs.Curve.{curve_at, curve_over}
 use Rattle.terms.specs.Checks.{on_check}
 use Rattle.terms.specs.Entries.{tree_checks}
-use Rattle.terms.specs.Outcomes.{Outcome, given, follow, finite_then, on_outcome}
 use Rattle.bondevents.specs.declared.BondEventGrid.{BondEventGrid}
 use Rattle.bondevents.specs.Grid.{event_grid}
 use Rattle.hullwhite.specs.Variance.{transition_variances, variances_from}
 use Rattle.treebasedbondpricer.specs.declared.TreeValue.{TreeValue}
-use Rattle.treebasedbondpricer.specs.declared.TreeValue.TheVariants.{Value, Refused}
 use Rattle.lattice.specs.Layers.{value_at, Room}
 use Rattle.lattice.specs.Lattice.{Lattice, lattice, count_of, node_count}
 use Rattle.forwardinduction.specs.Fit.{fitted, shifts_from}
@@ -31,32 +29,32 @@ pub record Fitted : Type 0 where
 unfoldable pub fitted_tree_over : (Float → ℕ → Answer) → Market → Room → Float → ℕ → Outcome Fitted
 unfolding variances_from lattice shifts_from div
 fitted_tree_over curve m room maturity steps =
-    finite_then (div binary64 maturity (float steps)) 0 λ dt.
+    when_finite (div binary64 maturity (float steps)) 0 λ dt.
     follow (transition_variances m.model steps dt) λ variances.
     follow (lattice room m.model.alpha dt variances) λ tree.
     follow (fitted curve dt tree.layers) λ shifts.
-    given (record { dt = dt; tree = tree; shifts = shifts })
+    Ok (record { dt = dt; tree = tree; shifts = shifts })
 
-abbrev pub value_with : Float → BondEventGrid → Fitted → Outcome TreeValue
+abbrev pub value_with : Float → BondEventGrid → Fitted → Outcome (Outcome TreeValue)
 value_with spread grid f =
     follow
     (walk_from f.dt spread grid.cashflows grid.calls 0 f.tree.layers f.shifts f.tree.final)
-    λ row. given (Value (value_at (pos 0) row) (node_count f.tree))
+    λ row. Ok (Ok (record { value = (value_at (pos 0) row); nodes = (node_count f.tree) }))
 
 -- The root's value is the answer.
-unfoldable pub lattice_value_over : (Float → ℕ → Answer) → Market → Room → BondEventGrid → Outcome TreeValue
+unfoldable pub lattice_value_over : (Float → ℕ → Answer) → Market → Room → BondEventGrid → Outcome (Outcome TreeValue)
 unfolding fitted_tree_over walk_from value_at count_of
 lattice_value_over curve m room grid =
     follow (fitted_tree_over curve m room grid.maturity_time grid.steps) λ f. value_with m.spread grid f
 
 -- The terms are checked, the grid is built, then the tree.
-unfoldable pub tree_value_over : (Float → ℕ → Answer) → Market → CallSchedule → Room → TreeValue
+unfoldable pub tree_value_over : (Float → ℕ → Answer) → Market → CallSchedule → Room → Outcome TreeValue
 unfolding tree_checks event_grid lattice_value_over
 tree_value_over curve m calls room =
-    on_check (tree_checks m calls) Refused
+    on_check (tree_checks m calls) Err
     (on_outcome
     (follow (event_grid m.settlement m.bond calls m.controls) λ grid. lattice_value_over curve m room grid)
-    Refused
+    Err
     λ v. v)
 
 -- ---- over the curve of the market's pillars
@@ -67,10 +65,10 @@ curve_of m = curve_at m.settlement m.pillars
 abbrev pub fitted_tree : Market → Room → Float → ℕ → Outcome Fitted
 fitted_tree m = fitted_tree_over (curve_of m) m
 
-abbrev pub lattice_value : Market → Room → BondEventGrid → Outcome TreeValue
+abbrev pub lattice_value : Market → Room → BondEventGrid → Outcome (Outcome TreeValue)
 lattice_value m = lattice_value_over (curve_of m) m
 
-unfoldable pub tree_value : Market → CallSchedule → Room → TreeValue
+unfoldable pub tree_value : Market → CallSchedule → Room → Outcome TreeValue
 unfolding tree_value_over curve_over time_from
 tree_value m = tree_value_over (curve_of m) m
 
@@ -108,19 +106,19 @@ lent_after m calls l = on_check (tree_checks m calls) (λ r. l) (zeroed l)
 
 -- ---- 01's number and values for each case
 
-abbrev pub number_of : TreeValue → ℕ
-number_of (Value x n) = 0
-number_of (Refused r) = r.number
+abbrev pub number_of : Outcome TreeValue → ℕ
+number_of (Ok x) = 0
+number_of (Err r) = reason_number r.reason
 
-abbrev pub place_of : TreeValue → ℕ
-place_of (Value x n) = 0
-place_of (Refused r) = r.place
+abbrev pub place_of : Outcome TreeValue → ℕ
+place_of (Ok x) = 0
+place_of (Err r) = r.place
 
 -- A refusal has no value and no node count; 0 stands there.
-abbrev pub value_of : TreeValue → Float
-value_of (Value x n) = x
-value_of (Refused r) = plus_zero
+abbrev pub value_of : Outcome TreeValue → Float
+value_of (Ok v) = v.value
+value_of (Err r) = plus_zero
 
-abbrev pub counted_by : TreeValue → ℕ
-counted_by (Value x n) = n
-counted_by (Refused r) = 0
+abbrev pub counted_by : Outcome TreeValue → ℕ
+counted_by (Ok v) = v.nodes
+counted_by (Err r) = 0

@@ -5,40 +5,24 @@ ghost use Rattle.std.specs.Float.{binary64};
 ghost use Rattle.std.specs.Float.Ieee.{div};
 ghost use Rattle.terms.specs.Numbers.{float};
 ghost use Rattle.terms.specs.Curve.{curve_over};
-ghost use Rattle.terms.specs.Outcomes.{finite_then};
+ghost use Rattle.floats.specs.Answers.{when_finite};
 ghost use Rattle.hullwhite.specs.laws.Filled.{model_of};
 ghost use Rattle.lattice.specs.laws.Growing.{room_left};
-ghost use Rattle.treebasedbondpricer.specs.laws.FittedIn.{FitsTree, fitted_with, fitted_over, tree_refusal};
+ghost use Rattle.treebasedbondpricer.specs.laws.FittedIn.{FitsTree, fitted_with, fitted_over};
 
 use floats::Refusal;
-use floats::finite::not_finite;
-use floats::refusals::overflow_refusal;
+use floats::finite::tested;
 use forwardinduction::fitting::fit_tree;
+use hullwhite::HullWhite;
 use hullwhite::variance::transition_variances;
 use latticetransitions::flat::all_flat;
 use latticetransitions::transitions::lattice_transitions;
-use terms::Check;
 
-// Fitted: time_step, and whether the tree is flat. Its layers stand in the lent slices, counts, spacings and shifts beside them.
-#[derive(Drop)]
-pub enum FittedTree {
-    Fitted(f64, bool),
-    Refused(Refusal),
-}
-
-impl FittedTree {
-    // Its number and place, both 0 where it is fitted.
-    pub fn refusal(self) -> Refusal
-        ensures { result ≡ tree_refusal self }
-    {
-        match self {
-            FittedTree::Fitted(_, _) => Refusal {
-                number: 0,
-                place: 0,
-            },
-            FittedTree::Refused(refusal) => refusal,
-        }
-    }
+// A fitted tree: time_step, and whether the tree is flat. Its layers stand in the lent slices, counts, spacings and shifts beside them.
+#[derive(Clone, Copy, Debug)]
+pub struct FittedTree {
+    pub dt: f64,
+    pub flat: bool,
 }
 
 // Transitions, then the fit.
@@ -55,14 +39,14 @@ fn fitted_with(
     probabilities: &mut [f64],
     first: &mut [f64],
     second: &mut [f64],
-) -> FittedTree
+) -> Result<FittedTree, Refusal>
     requires variances_nonzero { (0 < length variances.now) × (length variances.now ≤ 512) }
     requires counts_len { (length counts.old ≡ length variances.now + 1) × (length spacings.old ≡ length variances.now) × (length shifts.old ≡ length variances.now) }
     ensures { FitsTree (fitted_with (curve_over curve_times.now factors.now) (room_left nodes.old probabilities.old (length first.old) (length second.old)) alpha dt variances.now) (length first.old) (length second.old) counts.new spacings.new shifts.new nodes.new probabilities.new result }
 {
     let one = first.len();
     let two = second.len();
-    let l = lattice_transitions(
+    lattice_transitions(
         alpha,
         dt,
         variances,
@@ -72,12 +56,9 @@ fn fitted_with(
         probabilities,
         one,
         two,
-    );
-    if let Check::Refused(refusal) = l {
-        return FittedTree::Refused(refusal);
-    }
+    )?;
     let flat = all_flat(variances);
-    let s = fit_tree(
+    fit_tree(
         nodes,
         probabilities,
         counts,
@@ -89,11 +70,8 @@ fn fitted_with(
         first,
         second,
         shifts,
-    );
-    if let Check::Refused(refusal) = s {
-        return FittedTree::Refused(refusal);
-    }
-    FittedTree::Fitted(dt, flat)
+    )?;
+    Ok(FittedTree { dt, flat })
 }
 
 // Variances, transitions, then the fit.
@@ -113,15 +91,17 @@ fn fitted_over(
     probabilities: &mut [f64],
     first: &mut [f64],
     second: &mut [f64],
-) -> FittedTree
+) -> Result<FittedTree, Refusal>
     requires steps_nonzero { (0 < steps) × (steps ≤ 512) × (length variances.old ≡ steps) }
     requires counts_len { (length counts.old ≡ steps + 1) × (length spacings.old ≡ steps) × (length shifts.old ≡ steps) }
     ensures { FitsTree (fitted_over (curve_over curve_times.now factors.now) (model_of alpha times.now sigmas.now) (room_left nodes.old probabilities.old (length first.old) (length second.old)) steps dt) (length first.old) (length second.old) counts.new spacings.new shifts.new nodes.new probabilities.new result }
 {
-    let v = transition_variances(alpha, times, sigmas, steps, dt, variances);
-    if let Check::Refused(refusal) = v {
-        return FittedTree::Refused(refusal);
-    }
+    let model = HullWhite {
+        alpha,
+        sigma_times: times,
+        sigmas,
+    };
+    transition_variances(model, steps, dt, variances)?;
     fitted_with(
         dt,
         alpha,
@@ -154,15 +134,12 @@ pub fn fitted_tree(
     probabilities: &mut [f64],
     first: &mut [f64],
     second: &mut [f64],
-) -> FittedTree
+) -> Result<FittedTree, Refusal>
     requires steps_nonzero { (0 < steps) × (steps ≤ 512) }
     requires counts_len { (length counts.old ≡ steps + 1) × (length spacings.old ≡ steps) × (length shifts.old ≡ steps) }
-    ensures { FitsTree (finite_then (div binary64 maturity (float steps)) 0 λ dt. fitted_over (curve_over curve_times.now factors.now) (model_of alpha times.now sigmas.now) (room_left nodes.old probabilities.old (length first.old) (length second.old)) steps dt) (length first.old) (length second.old) counts.new spacings.new shifts.new nodes.new probabilities.new result }
+    ensures { FitsTree (when_finite (div binary64 maturity (float steps)) 0 λ dt. fitted_over (curve_over curve_times.now factors.now) (model_of alpha times.now sigmas.now) (room_left nodes.old probabilities.old (length first.old) (length second.old)) steps dt) (length first.old) (length second.old) counts.new spacings.new shifts.new nodes.new probabilities.new result }
 {
-    let dt = maturity / (steps as f64);
-    if not_finite(dt) {
-        return FittedTree::Refused(overflow_refusal(0));
-    }
+    let dt = tested(maturity / (steps as f64), 0)?;
     let mut variances = [0.0; 512];
     fitted_over(
         steps,

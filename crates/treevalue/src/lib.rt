@@ -1,4 +1,4 @@
 // The tree value entry: checks, value, and the lent slices zeroed.
-#![tactic(auto)]
+#![tactic(auto, unfolding(floats::specs::Answers::on_outcome))]
 
 pub mod tree;

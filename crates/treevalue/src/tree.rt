@@ -9,9 +9,10 @@ ghost use Rattle.treebasedbondpricer.specs.Slices.{lent_in, lent_out, room_in};
 
 use entrychecks::entries::tree_checks;
 use eventgrid::grid::event_grid;
+use floats::Refusal;
 use latticevalue::value::lattice_value;
+use terms::Settlement;
 use terms::curve::{pillar_times, timed_pillars};
-use terms::{Check, Settlement};
 use treebasedbondpricer::TreeValue;
 use treebasedbondpricer::zero::{zero_floats, zero_numbers};
 
@@ -41,7 +42,7 @@ pub fn checked_value(
     probabilities: &mut [f64],
     first: &mut [f64],
     second: &mut [f64],
-) -> TreeValue
+) -> Result<TreeValue, Refusal>
     requires le_maximum { (1 ≤ maximum) × (maximum ≤ 512) }
     requires days_len_bound { (length days.now ≤ 256) × (length kinds.now ≡ length days.now) × (length amounts.now ≡ length days.now) }
     requires ends_len { (length ends.now ≡ length starts.now) × (length strikes.now ≡ length starts.now) }
@@ -52,7 +53,7 @@ pub fn checked_value(
         (calls_in starts ends strikes)
         (room_in nodes probabilities first second) }
 {
-    let answer = event_grid(
+    let grid = event_grid(
         settlement,
         days,
         kinds,
@@ -66,12 +67,7 @@ pub fn checked_value(
         put_strikes,
         yearly,
         maximum,
-    );
-    let check = answer.check;
-    if let Check::Refused(refusal) = check {
-        return TreeValue::Refused(refusal);
-    }
-    let grid = answer.grid;
+    )?;
     lattice_value(
         grid,
         alpha,
@@ -112,7 +108,7 @@ pub fn tree_value(
     probabilities: &mut [f64],
     first_row: &mut [f64],
     second_row: &mut [f64],
-) -> TreeValue
+) -> Result<TreeValue, Refusal>
     ensures { Entered
         (market_in settlement (leg_in cashflow_days cashflow_kinds cashflow_amounts) units (calls_in put_starts put_ends put_strikes) steps_per_year max_steps alpha
         (sigma_in sigma_times sigmas) spread (pillars_in pillar_days pillar_factors))
@@ -123,7 +119,7 @@ pub fn tree_value(
 {
     let table = pillar_times(settlement, pillar_days);
     let count = timed_pillars(pillar_days);
-    let check = tree_checks(
+    tree_checks(
         settlement,
         cashflow_days,
         cashflow_kinds,
@@ -144,10 +140,7 @@ pub fn tree_value(
         pillar_days,
         pillar_factors,
         &table[..count],
-    );
-    if let Check::Refused(refusal) = check {
-        return TreeValue::Refused(refusal);
-    }
+    )?;
     let value = checked_value(
         settlement,
         cashflow_days,

@@ -1,27 +1,15 @@
 // A layer in the node slice, one place per node: its middles take the places of its nodes, and the next layer is laid behind it.
 
 ghost use Rattle.std.specs.Prelude.{◌≡◌, ◌+◌, ◌≤◌, ◌<◌, length, get_or, take, drop, pos};
-ghost use Rattle.hullwhite.specs.laws.Filled.{check_of};
 ghost use Rattle.lattice.specs.laws.Bounds.{Within, Numbered, AllWithin};
 ghost use Rattle.lattice.specs.laws.Reaching.{reach_one, reach, reach_all, nothing_below};
 ghost use Rattle.lattice.specs.laws.Laying.{Pushed};
-ghost use Rattle.lattice.specs.laws.Making.{middle_outcome};
 ghost use Rattle.widths.specs.laws.InPlace.{FilledInPlace};
 ghost use Rattle.widths.specs.laws.Placing.{placed, placed_three, placed_all};
 
-use lattice::node::{MadeMiddle, middle_of};
+use floats::Refusal;
+use lattice::node::middle_of;
 use lattice::reach::{Reach, nothing_below, reached};
-use terms::Check;
-
-// A refusal met on the way is handed up unchanged.
-fn unmade(made: MadeMiddle) -> Check
-    ensures { result ≡ check_of (middle_outcome made) }
-{
-    match made {
-        MadeMiddle::Made(_) => Check::Passed,
-        MadeMiddle::Refused(refusal) => Check::Refused(refusal),
-    }
-}
 
 // The middles of a layer of `count` nodes, rising, each in its node's place.
 pub fn fill(
@@ -31,22 +19,17 @@ pub fn fill(
     place: u32,
     count: usize,
     nodes: &mut [i32],
-) -> Check
+) -> Result<(), Refusal>
     requires { count ≤ length nodes.old }
     ensures { FilledInPlace spacing decay new_spacing place count result nodes.old nodes.new }
 {
     let mut i = 0;
     while i < count {
         let node = nodes[i];
-        let made = middle_of(spacing, decay, new_spacing, place, node);
-        let MadeMiddle::Made(m) = made else {
-            return unmade(made);
-        };
-        let middle = m.node;
-        nodes[i] = middle;
+        nodes[i] = middle_of(spacing, decay, new_spacing, place, node)?.node;
         i += 1;
     }
-    Check::Passed
+    Ok(())
 }
 
 // How many nodes of the next layer the `count` middles in front reach.

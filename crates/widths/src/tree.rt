@@ -5,36 +5,19 @@ ghost use Rattle.std.specs.Float.Ieee.{le};
 ghost use Rattle.floats.specs.Answers.{plus_zero};
 ghost use Rattle.lattice.specs.Lattice.{root_layer};
 ghost use Rattle.widths.specs.Widths.{widths_from, curved_widths, widths};
-ghost use Rattle.widths.specs.laws.Summing.{sums_made, widths_refusal, sums_of, flat_all, rooted_widths};
+ghost use Rattle.widths.specs.laws.Summing.{sums_made, sums_of, flat_all, rooted_widths};
 
 use crate::widen::widen;
-use floats::refusals::refusal_of;
-use floats::{Answer, Refusal};
-use lattice::NextLayer;
+use floats::{Reason, Refusal};
 use latticetransitions::curved::decay_of;
 use latticetransitions::flat::all_flat;
 use layers::grow::spacing_of;
 
-// The nodes of all layers and those of the widest; or a refusal.
+// The nodes of all layers and those of the widest.
 #[derive(Drop)]
-pub enum Widths {
-    Found(u64, u64),
-    Refused(Refusal),
-}
-
-impl Widths {
-    // Its number and place, both 0 where they are found.
-    pub fn refusal(self) -> Refusal
-        ensures { result ≡ widths_refusal self }
-    {
-        match self {
-            Widths::Found(_, _) => Refusal {
-                number: 0,
-                place: 0,
-            },
-            Widths::Refused(refusal) => refusal,
-        }
-    }
+pub struct Widths {
+    pub nodes: u64,
+    pub widest: u64,
 }
 
 fn greatest(a: u64, b: u64) -> u64
@@ -47,7 +30,7 @@ fn greatest(a: u64, b: u64) -> u64
 }
 
 // The layers from the root on, which stands in front.
-fn layers(decay: f64, first: f64, variances: &[f64], nodes: &mut [i32]) -> Widths
+fn layers(decay: f64, first: f64, variances: &[f64], nodes: &mut [i32]) -> Result<Widths, Refusal>
     requires { (T (le plus_zero decay)) × (T (le plus_zero first)) × (length variances.now < 2 ^ 32) × (0 < length nodes.old) × (take 1 nodes.old ≡ root_layer) }
     ensures { sums_made result ≡ sums_of (widths_from (length nodes.old) decay first root_layer 0 variances.now) }
 {
@@ -59,25 +42,25 @@ fn layers(decay: f64, first: f64, variances: &[f64], nodes: &mut [i32]) -> Width
     while i < variances.len() {
         total += count as u64;
         widest = greatest(widest, count as u64);
-        let next = widen(spacing, decay, variances[i], i as u32, count, nodes);
-        let NextLayer::Laid(new_spacing, new_count) = next else {
-            return Widths::Refused(next.refusal());
-        };
-        spacing = new_spacing;
-        count = new_count;
+        let next = widen(spacing, decay, variances[i], i as u32, count, nodes)?;
+        spacing = next.spacing;
+        count = next.count;
         i += 1;
     }
-    Widths::Found(total + count as u64, greatest(widest, count as u64))
+    Ok(Widths {
+        nodes: total + count as u64,
+        widest: greatest(widest, count as u64),
+    })
 }
 
 // The root, where it fits, then the layers.
-fn rooted(decay: f64, spacing: f64, variances: &[f64], nodes: &mut [i32]) -> Widths
+fn rooted(decay: f64, spacing: f64, variances: &[f64], nodes: &mut [i32]) -> Result<Widths, Refusal>
     requires { (T (le plus_zero decay)) × (T (le plus_zero spacing)) × (length variances.now < 2 ^ 32) }
     ensures { sums_made result ≡ sums_of (rooted_widths (length nodes.old) decay spacing variances.now) }
 {
     if nodes.len() < 1 {
-        return Widths::Refused(Refusal {
-            number: Refusal::NO_ROOM,
+        return Err(Refusal {
+            reason: Reason::NoRoom,
             place: 0,
         });
     }
@@ -86,43 +69,50 @@ fn rooted(decay: f64, spacing: f64, variances: &[f64], nodes: &mut [i32]) -> Wid
 }
 
 // Decay and spacing 0, the root, then the layers.
-fn curved_widths(alpha: f64, dt: f64, variances: &[f64], nodes: &mut [i32]) -> Widths
+fn curved_widths(
+    alpha: f64,
+    dt: f64,
+    variances: &[f64],
+    nodes: &mut [i32],
+) -> Result<Widths, Refusal>
     requires { (0 < length variances.now) × (length variances.now < 2 ^ 32) }
     ensures { sums_made result ≡ sums_of (curved_widths (length nodes.old) alpha dt variances.now) }
 {
-    let found = decay_of(alpha, dt);
-    let Answer::Value(decay) = found else {
-        return Widths::Refused(refusal_of(found));
-    };
-    let first = spacing_of(variances[0], 0);
-    let Answer::Value(spacing) = first else {
-        return Widths::Refused(refusal_of(first));
-    };
+    let decay = decay_of(alpha, dt)?;
+    let spacing = spacing_of(variances[0], 0)?;
     rooted(decay, spacing, variances, nodes)
 }
 
 // One node per layer, of `steps` layers and the last.
-fn flat_widths(steps: usize, room: usize) -> Widths
+fn flat_widths(steps: usize, room: usize) -> Result<Widths, Refusal>
     requires { (0 < steps) × (steps < 2 ^ 32) }
     ensures { sums_made result ≡ sums_of (flat_all room steps) }
 {
     if room < 1 {
-        return Widths::Refused(Refusal {
-            number: Refusal::NO_ROOM,
+        return Err(Refusal {
+            reason: Reason::NoRoom,
             place: 0,
         });
     }
     if room < 2 {
-        return Widths::Refused(Refusal {
-            number: Refusal::NO_ROOM,
+        return Err(Refusal {
+            reason: Reason::NoRoom,
             place: 1,
         });
     }
-    Widths::Found(steps as u64 + 1, 1)
+    Ok(Widths {
+        nodes: steps as u64 + 1,
+        widest: 1,
+    })
 }
 
 // The widths of all layers, flat or not, or 21 to 23, 26, 27.
-pub fn tree_widths(alpha: f64, dt: f64, variances: &[f64], nodes: &mut [i32]) -> Widths
+pub fn tree_widths(
+    alpha: f64,
+    dt: f64,
+    variances: &[f64],
+    nodes: &mut [i32],
+) -> Result<Widths, Refusal>
     requires { (0 < length variances.now) × (length variances.now < 2 ^ 32) }
     ensures { sums_made result ≡ sums_of (widths (length nodes.old) alpha dt variances.now) }
 {

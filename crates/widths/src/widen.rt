@@ -4,22 +4,20 @@ ghost use Rattle.std.specs.Prelude.{◌≡◌, ◌+◌, ◌≤◌, ◌<◌, ◌^
 ghost use Rattle.rounded.specs.laws.RootBounds.{NotBelow};
 ghost use Rattle.widths.specs.Widths.{new_spacing};
 ghost use Rattle.widths.specs.laws.LayerMiddles.{Reached};
-ghost use Rattle.widths.specs.laws.Widening.{Fore, Widened, next_wide, wide_from, NextPlaced, spacing_made};
+ghost use Rattle.widths.specs.laws.Widening.{Fore, Widened, next_wide, wide_from, NextPlaced};
 
 use crate::layer::{count_next, fill, spread, to_front};
-use floats::refusals::refusal_of;
-use floats::{Answer, Refusal};
+use floats::{Reason, Refusal};
 use lattice::{MadeStep, NextLayer};
 use layers::grow::spacing_of;
-use terms::Check;
 
 // 22, then the new spacing.
-fn new_spacing(variance: f64, place: u32) -> Answer
-    ensures { spacing_made result ≡ new_spacing variance place }
+fn new_spacing(variance: f64, place: u32) -> Result<f64, Refusal>
+    ensures { result ≡ new_spacing variance place }
 {
     if variance <= MadeStep::EPSILON {
-        return Answer::Refused(Refusal {
-            number: Refusal::NO_VARIANCE,
+        return Err(Refusal {
+            reason: Reason::NoVariance,
             place,
         });
     }
@@ -27,21 +25,29 @@ fn new_spacing(variance: f64, place: u32) -> Answer
 }
 
 // The next layer of one whose middles are there: counted, the room for both tried, laid behind and moved to the front.
-fn place_next(spacing: f64, step: u32, count: usize, nodes: &mut [i32]) -> NextLayer
+fn place_next(
+    spacing: f64,
+    step: u32,
+    count: usize,
+    nodes: &mut [i32],
+) -> Result<NextLayer, Refusal>
     requires { (count ≤ length nodes.old) × Reached (take count nodes.old) × (step + 1 < 2 ^ 32) }
     ensures { NextPlaced spacing step count result nodes.old nodes.new }
 {
     let reached = count_next(count, nodes);
     let next = reached.count;
     if nodes.len() < count + next {
-        return NextLayer::Refused(Refusal {
-            number: Refusal::NO_ROOM,
+        return Err(Refusal {
+            reason: Reason::NoRoom,
             place: step + 1,
         });
     }
     spread(count, nodes);
     to_front(count, next, nodes);
-    NextLayer::Laid(spacing, next)
+    Ok(NextLayer {
+        spacing,
+        count: next,
+    })
 }
 
 // The layer in front by a new spacing that is made.
@@ -52,14 +58,11 @@ fn widen_by(
     step: u32,
     count: usize,
     nodes: &mut [i32],
-) -> NextLayer
+) -> Result<NextLayer, Refusal>
     requires { (Fore count spacing decay nodes.old) × NotBelow new_spacing × (step + 1 < 2 ^ 32) }
     ensures { Widened (wide_from (length nodes.old) decay spacing new_spacing (take count nodes.old) step) result nodes.old nodes.new }
 {
-    let filled = fill(spacing, decay, new_spacing, step, count, nodes);
-    if let Check::Refused(refusal) = filled {
-        return NextLayer::Refused(refusal);
-    }
+    fill(spacing, decay, new_spacing, step, count, nodes)?;
     place_next(new_spacing, step, count, nodes)
 }
 
@@ -71,13 +74,10 @@ pub fn widen(
     step: u32,
     count: usize,
     nodes: &mut [i32],
-) -> NextLayer
+) -> Result<NextLayer, Refusal>
     requires { (Fore count spacing decay nodes.old) × (step + 1 < 2 ^ 32) }
     ensures { Widened (next_wide (length nodes.old) decay spacing (take count nodes.old) step variance) result nodes.old nodes.new }
 {
-    let found = new_spacing(variance, step);
-    let Answer::Value(made) = found else {
-        return NextLayer::Refused(refusal_of(found));
-    };
+    let made = new_spacing(variance, step)?;
     widen_by(spacing, decay, made, step, count, nodes)
 }

@@ -1,5 +1,5 @@
 -- The walk over the lent rows is the walk: the last row, and one step with the rows behind it done. Assumes nothing.
-use Rattle.std.specs.Prelude.{ℕ, ◌+◌, ◌*◌, ◌<◌, ◌≡◌, Bool, get_or, take, replicate, ℤ}
+use Rattle.std.specs.Prelude.{ℕ, ◌+◌, ◌*◌, ◌<◌, ◌≡◌, Bool, get_or, take, replicate, ℤ, Ok, Err}
 use Rattle.std.proofs.Math.Path.{refl, sym, ap}
 use Rattle.std.proofs.Common.{◌∙◌, arith, length-take-le}
 use mathlib.Core.List.{List}
@@ -7,10 +7,7 @@ use Rattle.std.proofs.Math.Numerals.{add-one}
 use Rattle.std.proofs.Math.ListN.{length}
 use Rattle.std.specs.Float.Ieee.{Float, nan}
 use Rattle.floats.specs.declared.Refusal.{Refusal}
-use Rattle.floats.specs.Answers.{plus_zero}
-use Rattle.terms.specs.declared.Check.{Check}
-use Rattle.terms.specs.declared.Check.TheVariants.{Passed, Refused}
-use Rattle.terms.specs.Outcomes.{Outcome, given, on_outcome, follow}
+use Rattle.floats.specs.Answers.{plus_zero, Check, Outcome, follow, on_outcome}
 use Rattle.bondevents.specs.declared.CallStep.{CallStep}
 use Rattle.bondevents.specs.Calls.{new_step}
 use Rattle.backwardinduction.specs.declared.walk.Rates.{Rates}
@@ -44,15 +41,15 @@ module _ (dt spread : Float) (cashflows : List Float) (calls : List CallStep) (s
 
   -- the row that is left, or the refusal
   abbrev pub leaves : Check → Both → Outcome (List At)
-  leaves r rows = follow (outcome_of r rows) λ rows. given (row_in step count nodes rows)
+  leaves r rows = follow (outcome_of r rows) λ rows. Ok (row_in step count nodes rows)
 
   -- the final cashflow at each node
-  pub walk_last : length spacings ≡ 0 → (rows : Both) → current_part step count rows.first rows.second ≡ replicate count (get_or cashflows step nan) → leaves Passed rows ≡ whole
+  pub walk_last : length spacings ≡ 0 → (rows : Both) → current_part step count rows.first rows.second ≡ replicate count (get_or cashflows step nan) → leaves (Ok tt) rows ≡ whole
   unfolding walk_from outcome_of on_outcome
   walk_last none rows e =
       let l = last_of laid none in
       rw (l.layers, l.final, e, get_d_inside cashflows step nan plus_zero inside)
-      (ap given (sym (final_row_lem (get_or cashflows step plus_zero) (numbers_in (front_nodes count nodes)) count (omega (arith, numbers-length count nodes (fronted laid).pairs)))))
+      (ap Ok (sym (final_row_lem (get_or cashflows step plus_zero) (numbers_in (front_nodes count nodes)) count (omega (arith, numbers-length count nodes (fronted laid).pairs)))))
 
   module _ (some : length spacings ≡ 0 → ⊥) (same : length shifts ≡ length spacings) where
     b : Behind flat one two counts spacings nodes probabilities
@@ -70,7 +67,7 @@ module _ (dt spread : Float) (cashflows : List Float) (calls : List CallStep) (s
         (final_in (part_from 1 counts) (part_from 1 spacings) (part_from (count * 2) nodes))
 
     abbrev rest_leaves : Check → Both → Outcome (List At)
-    rest_leaves r rows = follow (outcome_of r rows) λ rows. given (row_in (step + 1) (front_count (part_from 1 counts)) (part_from (count * 2) nodes) rows)
+    rest_leaves r rows = follow (outcome_of r rows) λ rows. Ok (row_in (step + 1) (front_count (part_from 1 counts)) (part_from (count * 2) nodes) rows)
 
     abbrev rates : Rates
     rates = record { spacing = get_or spacings 0 nan; dt = dt; shift = get_or shifts 0 nan; spread = spread }
@@ -99,15 +96,15 @@ module _ (dt spread : Float) (cashflows : List Float) (calls : List CallStep) (s
         (rw (part_from_lem 1 shifts, b.layers, b.final, add-one, drop_one shifts nan 0 h, ← get_d_inside cashflows step nan plus_zero inside))
 
     -- a refusal behind is handed up
-    pub walk-stopped : {q : Refusal} {r : Check} (behind rows : Both) → r ≡ Refused q → rest_leaves r behind ≡ rest → leaves r rows ≡ whole
+    pub walk-stopped : {q : Refusal} {r t : Check} (behind rows : Both) → r ≡ Err q → t ≡ Err q → rest_leaves r behind ≡ rest → leaves t rows ≡ whole
     unfolding outcome_of on_outcome
-    walk-stopped behind rows e f = sym (apart ∙ ap (λ (z : Outcome (List At)). follow z onto) (sym f) ∙ rw e)
+    walk-stopped behind rows e t f = sym (apart ∙ ap (λ (z : Outcome (List At)). follow z onto) (sym f) ∙ rw (e, t))
 
     -- the values of the layer in front, over the row behind
     rolled-front : (behind : Both) → length behind.first ≡ one → length behind.second ≡ two
         → onto (row_in (step + 1) (front_count (part_from 1 counts)) (part_from (count * 2) nodes) behind)
         ≡ follow (made (get_or calls step new_step) behind)
-        λ o. given (row_of (numbers_in (front_nodes count nodes)) o)
+        λ o. Ok (row_of (numbers_in (front_nodes count nodes)) o)
     unfolding rolled_at
     rolled-front behind e f =
         let s = b.stepped in
@@ -119,7 +116,7 @@ module _ (dt spread : Float) (cashflows : List Float) (calls : List CallStep) (s
         (rolled_at_lem rates (get_or calls step new_step) (get_or cashflows step nan) step flat vs s.climbs (omega (arith, s.counted)) _ _ count 0 (front_nodes count nodes) (take (count * 3) probabilities) out s.placed (length-take-le (count * 2) nodes s.pairs) (length-take-le (count * 3) probabilities s.threes) (omega arith))
 
     -- one step, those behind it passed
-    pub walk_step : {r : Check} (q : Check) (behind rows : Both) {call : CallStep} → length behind.first ≡ one → length behind.second ≡ two → r ≡ Passed → rest_leaves r behind ≡ rest → call ≡ get_or calls step new_step
+    pub walk_step : {r : Check} (q : Check) (behind rows : Both) {call : CallStep} → length behind.first ≡ one → length behind.second ≡ two → r ≡ Ok tt → rest_leaves r behind ≡ rest → call ≡ get_or calls step new_step
         → outcome_of q (current_part step count rows.first rows.second)
         ≡ made call behind
         → leaves q rows ≡ whole
@@ -130,9 +127,9 @@ module _ (dt spread : Float) (cashflows : List Float) (calls : List CallStep) (s
         ∙ ap (λ (z : Outcome (List At)). follow z onto) (sym w)
         ∙ ap (λ (z : Check). follow (rest_leaves z behind) onto) p
         ∙ rolled-front behind e f
-        ∙ ap (λ (z : Outcome (List Float)). follow z λ o. given (row_of (numbers_in (front_nodes count nodes)) o)) (sym (rw g at o))
+        ∙ ap (λ (z : Outcome (List Float)). follow z λ o. Ok (row_of (numbers_in (front_nodes count nodes)) o)) (sym (rw g at o))
         ∙ go q)
       where
-        go : (q : Check) → follow (outcome_of q (current_part step count rows.first rows.second)) (λ o. given (row_of (numbers_in (front_nodes count nodes)) o)) ≡ leaves q rows
-        go Passed = refl
-        go (Refused x) = refl
+        go : (q : Check) → follow (outcome_of q (current_part step count rows.first rows.second)) (λ o. Ok (row_of (numbers_in (front_nodes count nodes)) o)) ≡ leaves q rows
+        go (Ok tt) = refl
+        go (Err x) = refl

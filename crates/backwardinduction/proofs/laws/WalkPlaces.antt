@@ -1,12 +1,12 @@
 -- The walk by positions is the walk: over a next layer whose numbers climb, and whose places the replay finds, one layer's values are those of the definition. Assumes nothing.
-use Rattle.std.specs.Prelude.{ℕ, ◌+◌, ◌-◌, ◌*◌, ◌≤◌, ◌<◌, ◌≡◌, refl, Bool, set, drop, ℤ}
+use Rattle.std.specs.Prelude.{ℕ, ◌+◌, ◌-◌, ◌*◌, ◌≤◌, ◌<◌, ◌≡◌, refl, Bool, set, drop, ℤ, Ok}
 use Rattle.std.proofs.Math.Path.{sym, ap}
 use Rattle.std.proofs.Common.{◌∙◌, arith, get_or-set_other}
 use mathlib.Core.List.{List, [], ◌∷◌}
 use Rattle.std.proofs.Math.ListN.{length, get_or, length-set}
 use Rattle.std.proofs.Math.Seq.{get_or-set_same}
 use Rattle.std.specs.Float.Ieee.{Float, nan}
-use Rattle.terms.specs.Outcomes.{Outcome, given, follow}
+use Rattle.floats.specs.Answers.{Outcome, follow}
 use Rattle.bondevents.specs.declared.CallStep.{CallStep}
 use Rattle.lattice.specs.declared.reach.Reach.{Reach}
 use Rattle.backwardinduction.specs.declared.walk.Rates.{Rates}
@@ -77,24 +77,24 @@ module _ (rates : Rates) (call : CallStep) (cashflow : Float) (place : ℕ) (fla
 
   module _ {t : ℤ} {ns : List ℤ} (climbs : Climbs t ns) (enough : length ns ≤ length vs) where
     -- The row holds the values of the definition's, in order.
-    pub rolled_at_lem : (r : Reach) (c : ℕ) (k i : ℕ) (nodes : List ℤ) (ps out : List Float) → Placed ns flat r c (middles_in nodes) → length nodes ≡ k * 2 → length ps ≡ k * 3 → i + k ≤ length out → rolled (reads_of rates call cashflow) (numbers_in nodes) (transitions_in flat nodes ps) (row_of ns vs) place ≡ follow (rolled_at rates call cashflow place flat vs r i nodes ps out) λ o. given (row_of (numbers_in nodes) (drop i o))
+    pub rolled_at_lem : (r : Reach) (c : ℕ) (k i : ℕ) (nodes : List ℤ) (ps out : List Float) → Placed ns flat r c (middles_in nodes) → length nodes ≡ k * 2 → length ps ≡ k * 3 → i + k ≤ length out → rolled (reads_of rates call cashflow) (numbers_in nodes) (transitions_in flat nodes ps) (row_of ns vs) place ≡ follow (rolled_at rates call cashflow place flat vs r i nodes ps out) λ o. Ok (row_of (numbers_in nodes) (drop i o))
     unfolding rolled rolled_at transitions_in row_of numbers_in middles_in
-    rolled_at_lem r c k i [] ps out q a b l = sym (follow-given (λ (o : List Float). given (row_of [] (drop i o))) out)
+    rolled_at_lem r c k i [] ps out q a b l = sym (follow-given (λ (o : List Float). Ok (row_of [] (drop i o))) out)
     rolled_at_lem r c k i (n ∷ []) ps out q a b l = absurd (omega arith)
     rolled_at_lem r c k i (n ∷ m ∷ nodes) [] out q a b l = absurd (omega arith)
     rolled_at_lem r c k i (n ∷ m ∷ nodes) (d ∷ []) out q a b l = absurd (omega arith)
     rolled_at_lem r c k i (n ∷ m ∷ nodes) (d ∷ p ∷ []) out q a b l = absurd (omega arith)
     rolled_at_lem r c k i (n ∷ m ∷ nodes) (d ∷ p ∷ u ∷ ps) out (next_placed e s rest) a b l =
         let after : Reach = reach r m in
-        let last : List Float → Outcome (List At) = λ o. given (row_of (n ∷ numbers_in nodes) (drop i o)) in
+        let last : List Float → Outcome (List At) = λ o. Ok (row_of (n ∷ numbers_in nodes) (drop i o)) in
         let behind : Float → Outcome (List Float) = λ v. rolled_at rates call cashflow place flat vs after (i + 1) nodes ps (set out i v) in
-        let add : Float → List At → Outcome (List At) = λ v row. given (record { node = n; value = v } ∷ row) in
+        let add : Float → List At → Outcome (List At) = λ v row. Ok (record { node = n; value = v } ∷ row) in
         rw (node_at_lem climbs rates call cashflow place flat n d p u vs s enough)
         (valued_same (value_with rates call cashflow place flat after.count (node_float n) d p u vs) _ (λ v. follow (behind v) last)
         (λ v.
         ap (λ (z : Outcome (List At)). follow z (add v)) (rolled_at_lem after _ (k - 1) (i + 1) nodes ps (set out i v) rest (omega arith) (omega arith) (simp length-set (omega arith)))
         ∙ follow-follow (add v) (behind v) _ (λ o. add v (row_of (numbers_in nodes) (drop (i + 1) o))) (λ o. follow-given (add v) _)
-        ∙ follow_where _ _ (rolled-kept after (i + 1) nodes ps (set out i v)) (λ o w. ap given (front v o w)))
+        ∙ follow_where _ _ (rolled-kept after (i + 1) nodes ps (set out i v)) (λ o w. ap Ok (front v o w)))
         ∙ sym (follow-valued last (value_with rates call cashflow place flat after.count (node_float n) d p u vs) _ _ (λ v. refl)))
       where
         front : (v : Float) (o : List Float) → Kept (i + 1) (set out i v) o → (record { node = n; value = v } ∷ row_of (numbers_in nodes) (drop (i + 1) o)) ≡ row_of (n ∷ numbers_in nodes) (drop i o)

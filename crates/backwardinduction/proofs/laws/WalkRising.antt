@@ -1,17 +1,14 @@
 -- Dropping calls or raising call prices can't lower a value of the walk back, nor adding puts or raising put prices, nor can raising the row that it starts from. Assumes nothing.
-use Rattle.std.specs.Prelude.{ℕ, suc, ◌≡◌, refl, ℤ, Float}
+use Rattle.std.specs.Prelude.{ℕ, suc, ◌≡◌, refl, ℤ, Float, Ok, Err}
 use mathlib.Core.List.{List, [], ◌∷◌}
 use Rattle.std.proofs.Math.ListN.{get_or}
 use Rattle.std.specs.Float.{binary64}
 use Rattle.std.specs.Float.Ieee.{add, mul, neg, of_bits}
-use Rattle.floats.specs.declared.Answer.{Answer}
-use Rattle.floats.specs.declared.Answer.TheVariants.{Value, Refused}
+use Rattle.floats.specs.Answers.{Answer, plus_zero, tested, when_finite}
 use Rattle.floats.specs.laws.Order.{number_of-finite, le_refl}
-use Rattle.floats.specs.Answers.{plus_zero, tested, when_finite}
 use Rattle.elementary.specs.Exponential.{exp_at}
 use Rattle.elementary.specs.laws.Values.{Above, exp-value}
 use Rattle.floats.specs.laws.Finite.{finite_of_add}
-use Rattle.terms.specs.Outcomes.{given}
 use Rattle.terms.specs.laws.Lockstep.{Meets, valued_both, refused_first, meets_then, meets_finite, Follows, given_both, follows-follow, follows-valued, follows_weaker, GivenOr27, given_or_27}
 use Rattle.bondevents.specs.declared.CallStep.{CallStep}
 use Rattle.bondevents.specs.Calls.{new_step}
@@ -89,9 +86,9 @@ final-rises cashflow (n ∷ nodes) = beside (rises-refl cashflow) (final-rises c
 exp_same : (x : Float) (place : ℕ) → Meets Same (exp_at x place) (exp_at x place)
 exp_same x place = go (exp_at x place) (exp-value x place)
   where
-    go : (a : Answer) → ((y : Float) → a ≡ Value y → Above y) → Meets Same a a
-    go (Value y) h = valued_both (same (h y refl))
-    go (Refused r) h = refused_first
+    go : (a : Answer) → ((y : Float) → a ≡ Ok y → Above y) → Meets Same a a
+    go (Ok y) h = valued_both (same (h y refl))
+    go (Err r) h = refused_first
 
 discount_same : (r : Reads) (n : ℤ) (place : ℕ) → Meets Same (discount_of r n place) (discount_of r n place)
 discount_same r n place =
@@ -148,5 +145,5 @@ module _ (dt spread : Float) (cashflows : List Float) (calls calls' : List CallS
   walk-higher k l layers (more p ps) shift shifts final = step_follows k l layers p shift shifts final (walk-follows (suc k) layers ps shifts final)
 
   -- Where the walk with the first steps gives a row, that with the second gives one that is no lower, or is refused with 27.
-  pub walk-no_lower : (k : ℕ) (layers : List Layer) → Proper layers → (shifts : List Float) (final : List ℤ) (row : List At) → walk_from dt spread cashflows calls k layers shifts final ≡ given row → GivenOr27 (Rows Rises row) (walk_from dt spread cashflows calls' k layers shifts final)
+  pub walk-no_lower : (k : ℕ) (layers : List Layer) → Proper layers → (shifts : List Float) (final : List ℤ) (row : List At) → walk_from dt spread cashflows calls k layers shifts final ≡ Ok row → GivenOr27 (Rows Rises row) (walk_from dt spread cashflows calls' k layers shifts final)
   walk-no_lower k layers ps shifts final row e = given_or_27 (walk-follows k layers ps shifts final) e

@@ -1,11 +1,9 @@
 -- Discount factors of several nodes at a time, and one test where a later one gives the same number and place. Assumes nothing.
-use Rattle.std.specs.Prelude.{ℕ, ◌+◌, ◌*◌, ◌/◌, ◌%◌, ◌≤◌, ◌<◌, ◌≡◌, Bool, true, false, List, ◌++◌, length, get_or, set, take, ℤ, pos, Float}
+use Rattle.std.specs.Prelude.{ℕ, ◌+◌, ◌*◌, ◌/◌, ◌%◌, ◌≤◌, ◌<◌, ◌≡◌, Bool, true, false, List, ◌++◌, length, get_or, set, take, ℤ, pos, Float, Ok}
 use Rattle.std.proofs.Common.{sym, ap, subst, ◌∙◌, arith, take_at}
 use Rattle.std.specs.Float.{nan, binary64}
 use Rattle.std.specs.Float.Ieee.{add, mul, neg}
-use Rattle.floats.specs.declared.Answer.{Answer}
-use Rattle.floats.specs.declared.Answer.TheVariants.{Value}
-use Rattle.floats.specs.Answers.{plus_zero, when_finite, tested}
+use Rattle.floats.specs.Answers.{Answer, plus_zero, when_finite, tested}
 use Rattle.floats.specs.laws.Propagation.{Spoils, test_later, add_left, add_right, mul_left}
 use Rattle.elementary.specs.Exponential.{exp_at, ExpRow}
 use Rattle.elementary.specs.laws.Rows.{Filled, filled_more, false_not}
@@ -74,7 +72,7 @@ exponents_from r nodes from i = exponent_of r (node_at nodes (from + i))
 
 -- The factor of each node from a position on, at any place, where the answer is yes; else nothing.
 pub record Discounts (good : Bool) (rates : Rates) (nodes : List ℤ) (from : ℕ) (es : List Float) : Type 0 where
-  pub values : good ≡ true → (i place : ℕ) → i < length es → discount_with rates (node_at nodes (from + i)) place ≡ Value (get_or es i nan)
+  pub values : good ≡ true → (i place : ℕ) → i < length es → discount_with rates (node_at nodes (from + i)) place ≡ Ok (get_or es i nan)
 
 -- one exponent more
 pub exponents_more : (rates : Rates) (nodes : List ℤ) (from : ℕ) (before after : List Float) (i : ℕ) {y : Float} {z : ℤ} → z ≡ get_or nodes ((from + i) * 2) (pos 0) → y ≡ exponent_of rates (node_float z)
@@ -95,7 +93,7 @@ discounts_are {good} {rates} {nodes} {from} {n} {before} {ys} {es} zs f b e r =
 
 -- Where known, the factors of the nodes from i on, up to the end of the part that node n − 1 is in.
 pub record Ahead (known : Bool) (rates : Rates) (nodes : List ℤ) (count i n : ℕ) (es : List Float) : Type 0 where
-  pub factors : known ≡ true → (j place : ℕ) → i ≤ j → j < count → j < (n + 63) / 64 * 64 → discount_with rates (node_at nodes j) place ≡ Value (get_or es (j % 64) nan)
+  pub factors : known ≡ true → (j place : ℕ) → i ≤ j → j < count → j < (n + 63) / 64 * 64 → discount_with rates (node_at nodes j) place ≡ Ok (get_or es (j % 64) nan)
 
 pub ahead_none : {rates : Rates} {nodes : List ℤ} {count i n : ℕ} {es : List Float} → Ahead false rates nodes count i n es
 ahead_none = record { factors = λ g. false_not g }
@@ -111,7 +109,7 @@ ahead_kept p a = record { factors = λ g j place h b c. a.factors g j place h b 
 pub ahead_next : {known : Bool} {rates : Rates} {nodes : List ℤ} {count i : ℕ} {es : List Float} → Ahead known rates nodes count i (i + 1) es → Ahead known rates nodes count (i + 1) (i + 1) es
 ahead_next a = record { factors = λ g j place h b c. a.factors g j place (omega arith) b c }
 
-pub ahead_here : {known : Bool} {rates : Rates} {nodes : List ℤ} {count i : ℕ} {es : List Float} → Ahead known rates nodes count i (i + 1) es → i < count → (place : ℕ) → known ≡ true → discount_with rates (node_at nodes i) place ≡ Value (get_or es (i % 64) nan)
+pub ahead_here : {known : Bool} {rates : Rates} {nodes : List ℤ} {count i : ℕ} {es : List Float} → Ahead known rates nodes count i (i + 1) es → i < count → (place : ℕ) → known ≡ true → discount_with rates (node_at nodes i) place ≡ Ok (get_or es (i % 64) nan)
 ahead_here a h place g = a.factors g _ place (omega arith) h (omega arith)
 
 -- a part's factors ys, at the front of es
@@ -121,5 +119,5 @@ ahead_part {known} {rates} {nodes} {count} {i} {ys} es p full front d = record {
   factors = λ g j place h b c.
       let k : j ≡ i + j % 64 = omega (arith, p) in
       let l : j % 64 < length ys = omega (arith, k, full j b (omega (arith, p))) in
-      subst (λ (z : ℕ). discount_with rates (node_at nodes z) place ≡ Value (get_or ys (j % 64) nan)) (sym k) (d.values g (j % 64) place l) ∙ ap Value (sym (front (j % 64) l));
+      subst (λ (z : ℕ). discount_with rates (node_at nodes z) place ≡ Ok (get_or ys (j % 64) nan)) (sym k) (d.values g (j % 64) place l) ∙ ap Ok (sym (front (j % 64) l));
 }

@@ -2,8 +2,7 @@
 use Rattle.std.specs.Prelude.{ℕ, ◌+◌, ◌%◌, ◌≤◌, ◌≡◌, true, false, List, ◌++◌, length, take, drop, replicate, Float}
 use Rattle.std.proofs.Common.{ap, ◌∙◌, arith, eq-eqb, ne_eqb, length-take-le, take_at}
 use Rattle.std.proofs.lemmas.List.{length-replicate}
-use Rattle.terms.specs.declared.Check.{Check}
-use Rattle.terms.specs.Outcomes.{Outcome}
+use Rattle.floats.specs.Answers.{Check, Outcome}
 use Rattle.lattice.specs.laws.Rows.{even, current_part, outcome_of}
 
 module _ (step : ℕ) (h : step % 2 ≡ 0) where

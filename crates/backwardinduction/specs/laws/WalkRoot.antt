@@ -1,14 +1,10 @@
 -- The root's value is the first entry of the first row. Assumes nothing.
-use Rattle.std.specs.Prelude.{ℕ, ◌<◌, ◌≡◌, refl, List, [], ◌∷◌, length, get_or, take, ℤ, pos, Float}
+use Rattle.std.specs.Prelude.{ℕ, ◌<◌, ◌≡◌, refl, List, [], ◌∷◌, length, get_or, take, ℤ, pos, Float, Ok, Err}
 use Rattle.std.proofs.Common.{sym, ◌∙◌, arith}
 use Rattle.std.proofs.Math.Path.{ap}
 use Rattle.std.specs.Float.{nan}
 use Rattle.floats.specs.declared.Refusal.{Refusal}
-use Rattle.floats.specs.declared.Answer.{Answer}
-use Rattle.floats.specs.declared.Answer.TheVariants as answer
-use Rattle.terms.specs.declared.Check.{Check}
-use Rattle.terms.specs.declared.Check.TheVariants as check
-use Rattle.terms.specs.Outcomes.{Outcome, given, on_outcome, follow}
+use Rattle.floats.specs.Answers.{Answer, Check, Outcome, follow, on_outcome}
 use Rattle.lattice.specs.Layers.{At, value_at}
 use Rattle.lattice.specs.Lattice.{root_layer}
 use Rattle.lattice.specs.laws.Stored.{numbers_in, row_of}
@@ -23,15 +19,15 @@ root-entry (x ∷ row) h = refl
 
 -- The value at the root, or the refusal.
 abbrev pub root_of : Outcome (List At) → Answer
-root_of o = on_outcome o answer.Refused λ row. answer.Value (value_at (pos 0) row)
+root_of o = on_outcome o Err λ row. Ok (value_at (pos 0) row)
 
-module _ (c : ℕ) (nodes : List ℤ) (rows : Both) {r : Check} {o : Outcome (List At)} (w : follow (outcome_of r rows) (λ rows. given (row_in 0 c nodes rows)) ≡ o) where
-  pub root-passed : r ≡ check.Passed → c ≡ 1 → numbers_in (front_nodes 1 nodes) ≡ root_layer → 0 < length rows.first → answer.Value (get_or rows.first 0 nan) ≡ root_of o
+module _ (c : ℕ) (nodes : List ℤ) (rows : Both) {r : Check} {o : Outcome (List At)} (w : follow (outcome_of r rows) (λ rows. Ok (row_in 0 c nodes rows)) ≡ o) where
+  pub root-passed : r ≡ Ok tt → c ≡ 1 → numbers_in (front_nodes 1 nodes) ≡ root_layer → 0 < length rows.first → Ok (get_or rows.first 0 nan) ≡ root_of o
   unfolding outcome_of on_outcome
   root-passed p one root some =
-      ap answer.Value (sym (root-entry rows.first some))
+      ap Ok (sym (root-entry rows.first some))
       ∙ rw (← w, p, one, root)
 
-  pub root-refused : {q : Refusal} → r ≡ check.Refused q → answer.Refused q ≡ root_of o
+  pub root-refused : {q : Refusal} {a : Answer} → r ≡ Err q → a ≡ Err q → a ≡ root_of o
   unfolding outcome_of on_outcome
-  root-refused p = rw (← w, p)
+  root-refused p f = rw (← w, p, f)

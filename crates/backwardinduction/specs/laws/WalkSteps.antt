@@ -1,12 +1,10 @@
 -- The walk by positions: what is done at one node, and one layer over the lent row that is written. Assumes nothing.
-use Rattle.std.specs.Prelude.{ℕ, ◌+◌, Bool, List, [], ◌∷◌, get_or, set, ℤ, Float}
+use Rattle.std.specs.Prelude.{ℕ, ◌+◌, Bool, List, [], ◌∷◌, get_or, set, ℤ, Float, Ok}
 use Rattle.std.specs.Float.{binary64, nan}
 use Rattle.std.specs.Float.Ieee.{add, mul, neg}
-use Rattle.floats.specs.declared.Answer.{Answer}
-use Rattle.floats.specs.Answers.{plus_zero, and_then, tested, when_finite}
+use Rattle.floats.specs.Answers.{Answer, plus_zero, follow, tested, when_finite, Outcome}
 use Rattle.floats.specs.Extremes.{min_of, max_of}
 use Rattle.elementary.specs.Exponential.{exp_at}
-use Rattle.terms.specs.Outcomes.{Outcome, given, valued}
 use Rattle.bondevents.specs.declared.CallStep.{CallStep}
 use Rattle.lattice.specs.declared.reach.Reach.{Reach}
 use Rattle.backwardinduction.specs.declared.walk.Rates.{Rates}
@@ -42,7 +40,7 @@ worth_of call cashflow place e d =
 unfoldable pub value_with : Rates → CallStep → Float → ℕ → Bool → ℕ → Float → Float → Float → Float → List Float → Answer
 unfolding sum_of discount_with worth_of
 value_with rates call cashflow place flat count node down middle up next =
-    and_then
+    follow
     (sum_of
     (get_or next (spot_at flat count 3) nan)
     down
@@ -52,16 +50,16 @@ value_with rates call cashflow place flat count node down middle up next =
     up
     place)
     λ e.
-    and_then (discount_with rates node place) λ d. worth_of call cashflow place e d
+    follow (discount_with rates node place) λ d. worth_of call cashflow place e d
 
 -- A layer's nodes in turn, each value into the row.
 unfoldable pub rolled_at : Rates → CallStep → Float → ℕ → Bool → List Float → Reach → ℕ → List ℤ → List Float → List Float → Outcome (List Float)
 unfolding value_with reach
 rolled_at rates call cashflow place flat next r i (n ∷ m ∷ nodes) (d ∷ p ∷ u ∷ probabilities) out =
-    valued (value_with rates call cashflow place flat (reach r m).count (node_float n) d p u next) λ v.
+    follow (value_with rates call cashflow place flat (reach r m).count (node_float n) d p u next) λ v.
     rolled_at rates call cashflow place flat next (reach r m) (i + 1) nodes probabilities (set out i v)
-rolled_at rates call cashflow place flat next r i (n ∷ m ∷ nodes) (d ∷ p ∷ []) out = given out
-rolled_at rates call cashflow place flat next r i (n ∷ m ∷ nodes) (d ∷ []) out = given out
-rolled_at rates call cashflow place flat next r i (n ∷ m ∷ nodes) [] out = given out
-rolled_at rates call cashflow place flat next r i (n ∷ []) probabilities out = given out
-rolled_at rates call cashflow place flat next r i [] probabilities out = given out
+rolled_at rates call cashflow place flat next r i (n ∷ m ∷ nodes) (d ∷ p ∷ []) out = Ok out
+rolled_at rates call cashflow place flat next r i (n ∷ m ∷ nodes) (d ∷ []) out = Ok out
+rolled_at rates call cashflow place flat next r i (n ∷ m ∷ nodes) [] out = Ok out
+rolled_at rates call cashflow place flat next r i (n ∷ []) probabilities out = Ok out
+rolled_at rates call cashflow place flat next r i [] probabilities out = Ok out

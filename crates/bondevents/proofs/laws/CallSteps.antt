@@ -1,18 +1,15 @@
 -- The steps of a grid and the two lists they are made of; those of a call list made from another with any fixed puts, of a put list made from another, and of reordered ones. Assumes nothing.
-use Rattle.std.specs.Prelude.{◌≡◌, ◌⊎◌, List, ℕ, ◌<◌, length, get_or, T}
+use Rattle.std.specs.Prelude.{◌≡◌, ◌⊎◌, List, ℕ, ◌<◌, length, get_or, T, Ok, Err}
 use Rattle.std.proofs.Math.Path.{refl, sym, ap}
 use Rattle.std.proofs.Common.{subst, ◌∙◌}
 use Rattle.std.proofs.Math.Logic.{inl, inr}
 use Rattle.std.specs.Float.Ieee.{lt}
 use Rattle.std.specs.Float.Ieee.Scale.{finite}
 use Rattle.floats.specs.declared.Refusal.{Refusal}
-use Rattle.floats.specs.Answers.{plus_zero}
-use Rattle.terms.specs.declared.Check.{Check}
-use Rattle.terms.specs.declared.Check.TheVariants.{Passed, Refused}
+use Rattle.floats.specs.Answers.{plus_zero, Check, Outcome, follow}
 use Rattle.terms.specs.Checks.{on_check}
 use Rattle.terms.specs.Terms.{CallSchedule, Bond, bond_with_puts}
 use Rattle.terms.specs.CallLists.{Entries, MadeFrom, LoweredFrom, Reordered, size, strike_of}
-use Rattle.terms.specs.Outcomes.{Outcome, given, refused, follow}
 use Rattle.terms.specs.laws.Outcomes.{given_or_refused, same_given, follow-given, follow-refused, of_given, of_refused}
 use Rattle.terms.specs.laws.Lockstep.{GivenOr27, is_given, is_27}
 use Rattle.terms.specs.laws.Sequence.{lowest-refused}
@@ -30,10 +27,11 @@ use Rattle.bondevents.specs.laws.NoLower.{Thinner, ThinnerRow, NoLowerSteps}
 use Rattle.bondevents.proofs.laws.MadeLists.{Goes, goes_made, step_thinner, made_thinner}
 use Rattle.bondevents.proofs.laws.Reordering.{reordered_same}
 use Rattle.bondevents.specs.laws.Joined.{joined_at, rows-below}
+use Rattle.floats.specs.declared.Reason.TheVariants as reason
 
 -- What is made of both lists once the whole is filled.
 abbrev pub filled : List Exercise → List Exercise → Outcome (List CallStep)
-filled cs ps = on_check (puts_below (joined cs ps)) refused (given (joined cs ps))
+filled cs ps = on_check (puts_below (joined cs ps)) Err (Ok (joined cs ps))
 
 -- ---- the steps and their parts
 
@@ -45,37 +43,37 @@ module _ (a : Axis) (bond : Bond) (calls : CallSchedule) where
   pub record Parts (steps : List CallStep) : Type 0 where
     pub cs : List Exercise
     pub ps : List Exercise
-    pub calls_are : exercises Call a bond calls ≡ given cs
-    pub puts_are : exercises Put a bond bond.puts ≡ given ps
-    pub below : puts_below (joined cs ps) ≡ Passed
+    pub calls_are : exercises Call a bond calls ≡ Ok cs
+    pub puts_are : exercises Put a bond bond.puts ≡ Ok ps
+    pub below : puts_below (joined cs ps) ≡ Ok tt
     pub is : steps ≡ joined cs ps
 
-  ended : (steps : List CallStep) (cs ps : List Exercise) (c : Check) → puts_below (joined cs ps) ≡ c → on_check c refused (given (joined cs ps)) ≡ given steps → (puts_below (joined cs ps) ≡ Passed) × (steps ≡ joined cs ps)
+  ended : (steps : List CallStep) (cs ps : List Exercise) (c : Check) → puts_below (joined cs ps) ≡ c → on_check c Err (Ok (joined cs ps)) ≡ Ok steps → (puts_below (joined cs ps) ≡ Ok tt) × (steps ≡ joined cs ps)
   unfolding on_check
-  ended steps cs ps Passed e h = (e, sym (same_given h))
-  ended steps cs ps (Refused r) e h = absurd (given_or_refused h refl)
+  ended steps cs ps (Ok tt) e h = (e, sym (same_given h))
+  ended steps cs ps (Err r) e h = absurd (given_or_refused h refl)
 
-  pub parts_of : (steps : List CallStep) → call_steps a bond calls ≡ given steps → Parts steps
+  pub parts_of : (steps : List CallStep) → call_steps a bond calls ≡ Ok steps → Parts steps
   parts_of steps h =
       let (cs, u, v) = of_given (exercises Call a bond calls) (λ cs. follow (exercises Put a bond bond.puts) λ ps. filled cs ps) (sym steps_are ∙ h) in
       let (ps, w, x) = of_given (exercises Put a bond bond.puts) (λ ps. filled cs ps) v in
       let y = ended steps cs ps (puts_below (joined cs ps)) refl x in
       record { cs = cs; ps = ps; calls_are = u; puts_are = w; below = y.0; is = y.1 }
 
-  pub of_rows : (cs ps : List Exercise) → exercises Call a bond calls ≡ given cs → exercises Put a bond bond.puts ≡ given ps → call_steps a bond calls ≡ filled cs ps
+  pub of_rows : (cs ps : List Exercise) → exercises Call a bond calls ≡ Ok cs → exercises Put a bond bond.puts ≡ Ok ps → call_steps a bond calls ≡ filled cs ps
   of_rows cs ps u w = steps_are ∙ follow-given (exercises Call a bond calls) _ u ∙ follow-given (exercises Put a bond bond.puts) _ w
 
-  pub of_parts : (cs ps : List Exercise) → exercises Call a bond calls ≡ given cs → exercises Put a bond bond.puts ≡ given ps → puts_below (joined cs ps) ≡ Passed → call_steps a bond calls ≡ given (joined cs ps)
+  pub of_parts : (cs ps : List Exercise) → exercises Call a bond calls ≡ Ok cs → exercises Put a bond bond.puts ≡ Ok ps → puts_below (joined cs ps) ≡ Ok tt → call_steps a bond calls ≡ Ok (joined cs ps)
   unfolding on_check
-  of_parts cs ps u w b = of_rows cs ps u w ∙ ap (λ (c : Check). on_check c refused (given (joined cs ps))) b
+  of_parts cs ps u w b = of_rows cs ps u w ∙ ap (λ (c : Check). on_check c Err (Ok (joined cs ps))) b
 
   -- The steps are refused as the calls are.
-  pub refused-of_calls : (r : Refusal) → exercises Call a bond calls ≡ refused r → call_steps a bond calls ≡ refused r
+  pub refused-of_calls : (r : Refusal) → exercises Call a bond calls ≡ Err r → call_steps a bond calls ≡ Err r
   refused-of_calls r u = steps_are ∙ follow-refused (exercises Call a bond calls) _ u
 
   -- With 20 or 27 at place 0, of the calls or of the puts, or with 38.
-  pub steps-refused : Entries calls → Entries bond.puts → (r : Refusal) → call_steps a bond calls ≡ refused r
-      → (r ≡ record { number = 20; place = 0 }) ⊎ ((r ≡ record { number = 27; place = 0 }) ⊎ (r.number ≡ 38))
+  pub steps-refused : Entries calls → Entries bond.puts → (r : Refusal) → call_steps a bond calls ≡ Err r
+      → (r ≡ record { reason = reason.NoPrincipal; place = 0 }) ⊎ ((r ≡ record { reason = reason.NotFinite; place = 0 }) ⊎ (r.reason ≡ reason.PutAbove))
   unfolding on_check
   steps-refused n q r h =
       elim (of_refused (exercises Call a bond calls) (λ cs. follow (exercises Put a bond bond.puts) λ ps. filled cs ps) (sym steps_are ∙ h)) [
@@ -87,13 +85,13 @@ module _ (a : Axis) (bond : Bond) (calls : CallSchedule) where
             ]
       ]
     where
-      of_list : (r ≡ record { number = 20; place = 0 }) ⊎ (r ≡ record { number = 27; place = 0 }) → (r ≡ record { number = 20; place = 0 }) ⊎ ((r ≡ record { number = 27; place = 0 }) ⊎ (r.number ≡ 38))
+      of_list : (r ≡ record { reason = reason.NoPrincipal; place = 0 }) ⊎ (r ≡ record { reason = reason.NotFinite; place = 0 }) → (r ≡ record { reason = reason.NoPrincipal; place = 0 }) ⊎ ((r ≡ record { reason = reason.NotFinite; place = 0 }) ⊎ (r.reason ≡ reason.PutAbove))
       of_list (inl e) = inl e
       of_list (inr e) = inr (inl e)
 
-      above : (cs ps : List Exercise) (c : Check) → puts_below (joined cs ps) ≡ c → on_check c refused (given (joined cs ps)) ≡ refused r → r.number ≡ 38
-      above cs ps Passed e x = absurd (given_or_refused refl x)
-      above cs ps (Refused s) e x = let q : s ≡ r = cc in rw (← q) (lowest-refused 38 _ _ 0 s e).same_number
+      above : (cs ps : List Exercise) (c : Check) → puts_below (joined cs ps) ≡ c → on_check c Err (Ok (joined cs ps)) ≡ Err r → r.reason ≡ reason.PutAbove
+      above cs ps (Ok tt) e x = absurd (given_or_refused refl x)
+      above cs ps (Err s) e x = let q : s ≡ r = cc in rw (← q) (lowest-refused reason.PutAbove _ _ 0 s e).same_reason
 
 -- An exercise is as thin as itself.
 same_thin : (side : Side) (c : Exercise) → T (finite c.price) → Thinner side c c
@@ -104,7 +102,7 @@ joined-no_lower cs ps ds qs e f t u k = rw (joined_at cs ps k e, joined_at ds qs
 
 -- ---- two call lists, with any fixed puts
 
-module _ (a : Axis) (bond : Bond) (first second : CallSchedule) (n : Entries first) (q : Entries bond.puts) (u : Above bond.units) (steps : List CallStep) (h : call_steps a bond first ≡ given steps) where
+module _ (a : Axis) (bond : Bond) (first second : CallSchedule) (n : Entries first) (q : Entries bond.puts) (u : Above bond.units) (steps : List CallStep) (h : call_steps a bond first ≡ Ok steps) where
   p : Parts a bond first steps
   p = parts_of a bond first steps h
 
@@ -130,9 +128,9 @@ module _ (a : Axis) (bond : Bond) (first second : CallSchedule) (n : Entries fir
           (joined-no_lower p.cs p.ps ds p.ps same (same ∙ sym long) t (λ k. same_thin Put (get_or p.ps k none) (put.each_step k).price-finite)))
 
   -- Reordered: the very same steps.
-  pub calls-reordered : ((i : ℕ) → i < size first → T (lt plus_zero (strike_of first i))) → Reordered first second → call_steps a bond second ≡ given steps
+  pub calls-reordered : ((i : ℕ) → i < size first → T (lt plus_zero (strike_of first i))) → Reordered first second → call_steps a bond second ≡ Ok steps
   calls-reordered strikes r =
-      of_parts a bond second p.cs p.ps (reordered_same Call a bond first second n u strikes r p.cs p.calls_are) p.puts_are p.below ∙ ap given (sym p.is)
+      of_parts a bond second p.cs p.ps (reordered_same Call a bond first second n u strikes r p.cs p.calls_are) p.puts_are p.below ∙ ap Ok (sym p.is)
 
 -- ---- two put lists
 
@@ -146,17 +144,17 @@ goes_lowered m i l =
       strike-before = m.strike_as_low i l;
     }
 
-module _ (a : Axis) (bond : Bond) (calls first second : CallSchedule) (q : Entries first) (u : Above bond.units) (steps : List CallStep) (d : call_steps a (bond_with_puts bond first) calls ≡ given steps) where
+module _ (a : Axis) (bond : Bond) (calls first second : CallSchedule) (q : Entries first) (u : Above bond.units) (steps : List CallStep) (d : call_steps a (bond_with_puts bond first) calls ≡ Ok steps) where
   -- the same calls, whatever the puts
-  same_calls : (cs : List Exercise) → exercises Call a (bond_with_puts bond first) calls ≡ given cs → exercises Call a (bond_with_puts bond second) calls ≡ given cs
+  same_calls : (cs : List Exercise) → exercises Call a (bond_with_puts bond first) calls ≡ Ok cs → exercises Call a (bond_with_puts bond second) calls ≡ Ok cs
   same_calls cs h = exercises-unread Call a bond second calls ∙ sym (exercises-unread Call a bond first calls) ∙ h
 
   -- and the puts' own prices don't read them
-  own-puts : (puts : CallSchedule) (ps : List Exercise) → exercises Put a (bond_with_puts bond puts) puts ≡ given ps → exercises Put a bond puts ≡ given ps
+  own-puts : (puts : CallSchedule) (ps : List Exercise) → exercises Put a (bond_with_puts bond puts) puts ≡ Ok ps → exercises Put a bond puts ≡ Ok ps
   own-puts puts ps h = sym (exercises-unread Put a bond puts puts) ∙ h
 
   -- Puts dropped or strikes lowered, both accepted: the first list's steps give no lower values.
-  pub puts-no_lower : Entries calls → LoweredFrom first second → (others : List CallStep) → call_steps a (bond_with_puts bond second) calls ≡ given others → NoLowerSteps others steps
+  pub puts-no_lower : Entries calls → LoweredFrom first second → (others : List CallStep) → call_steps a (bond_with_puts bond second) calls ≡ Ok others → NoLowerSteps others steps
   puts-no_lower n m others e =
       let x = parts_of a (bond_with_puts bond first) calls steps d in
       let y = parts_of a (bond_with_puts bond second) calls others e in
@@ -169,11 +167,11 @@ module _ (a : Axis) (bond : Bond) (calls first second : CallSchedule) (q : Entri
       (joined-no_lower x.cs y.ps x.cs x.ps (s.row ∙ sym called.row) (f.row ∙ sym called.row) (λ k. same_thin Call (get_or x.cs k none) (called.each_step k).price-finite) thin)
 
   -- Reordered: the very same steps.
-  pub puts-reordered : ((i : ℕ) → i < size first → T (lt plus_zero (strike_of first i))) → Reordered first second → call_steps a (bond_with_puts bond second) calls ≡ given steps
+  pub puts-reordered : ((i : ℕ) → i < size first → T (lt plus_zero (strike_of first i))) → Reordered first second → call_steps a (bond_with_puts bond second) calls ≡ Ok steps
   puts-reordered strikes r =
       let x = parts_of a (bond_with_puts bond first) calls steps d in
       of_parts a (bond_with_puts bond second) calls x.cs x.ps
       (same_calls x.cs x.calls_are)
       (exercises-unread Put a bond second second ∙ reordered_same Put a bond first second q u strikes r x.ps (own-puts first x.ps x.puts_are))
       x.below
-      ∙ ap given (sym x.is)
+      ∙ ap Ok (sym x.is)

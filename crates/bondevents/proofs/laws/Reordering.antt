@@ -1,5 +1,5 @@
 -- A reordered list, of calls or of puts, has the very same exercises, bit for bit. Assumes nothing.
-use Rattle.std.specs.Prelude.{◌≡◌, refl, Bool, true, false, List, ℕ, ◌<◌, get_or, T, Float}
+use Rattle.std.specs.Prelude.{◌≡◌, refl, Bool, true, false, List, ℕ, ◌<◌, get_or, T, Float, Ok}
 use Rattle.std.proofs.Common.{sym, ap, ◌∙◌, subst, true≢false, ext_get_or}
 use Rattle.std.specs.Float.{binary64}
 use Rattle.std.specs.Float.Ieee.{le, lt, fits}
@@ -8,7 +8,6 @@ use Rattle.floats.specs.laws.Rounding.{Signed}
 use Rattle.floats.specs.laws.SameNumber.{same_of_eq}
 use Rattle.terms.specs.Terms.{CallSchedule, Bond}
 use Rattle.terms.specs.CallLists.{Entries, Reordered, size, strike_of}
-use Rattle.terms.specs.Outcomes.{given}
 use Rattle.terms.proofs.Pairing.{reordered-back}
 use Rattle.bondevents.specs.declared.Side.{Side}
 use Rattle.bondevents.specs.declared.Side.TheVariants.{Call, Put}
@@ -74,8 +73,8 @@ same_kept side c d p q e g x y = go c.marked refl d.marked refl
         (same_of_eq binary64 false d.price c.price (y k).fitting (x h).fitting (y k).signed (x h).signed
         (before_both side d.price c.price (q.price h) (p.price k)))
 
-module _ (side : Side) (a : Axis) (bond : Bond) (first second : CallSchedule) (n : Entries first) (u : Above bond.units) (strikes : (i : ℕ) → i < size first → T (lt plus_zero (strike_of first i))) (r : Reordered first second) (cs : List Exercise) (h : exercises side a bond first ≡ given cs) where
-  reordered-given : (ds : List Exercise) × (exercises side a bond second ≡ given ds)
+module _ (side : Side) (a : Axis) (bond : Bond) (first second : CallSchedule) (n : Entries first) (u : Above bond.units) (strikes : (i : ℕ) → i < size first → T (lt plus_zero (strike_of first i))) (r : Reordered first second) (cs : List Exercise) (h : exercises side a bond first ≡ Ok cs) where
+  reordered-given : (ds : List Exercise) × (exercises side a bond second ≡ Ok ds)
   reordered-given =
       given_where_priced side a bond second r.made.entries λ i k l g.
       let s = same_entry r i l in
@@ -85,7 +84,7 @@ module _ (side : Side) (a : Axis) (bond : Bond) (first second : CallSchedule) (n
   second-strikes : (i : ℕ) → i < size second → T (lt plus_zero (strike_of second i))
   second-strikes i l = rw (r.equal_strike i l) (strikes (r.made.partner i) (r.made.of_first i l))
 
-  same_row : (ds : List Exercise) → exercises side a bond second ≡ given ds → ds ≡ cs
+  same_row : (ds : List Exercise) → exercises side a bond second ≡ Ok ds → ds ≡ cs
   same_row ds g =
       let p = lowest-prices side a bond first n cs h in
       let q = lowest-prices side a bond second r.made.entries ds g in
@@ -99,5 +98,5 @@ module _ (side : Side) (a : Axis) (bond : Bond) (first second : CallSchedule) (n
       (step-exact side a bond second k (get_or ds k none) u.is-above second-strikes (q.each_step k))
 
   -- A reordered list has the very same exercises.
-  pub reordered_same : exercises side a bond second ≡ given cs
-  reordered_same = let (ds, g) = reordered-given in g ∙ ap given (same_row ds g)
+  pub reordered_same : exercises side a bond second ≡ Ok cs
+  reordered_same = let (ds, g) = reordered-given in g ∙ ap Ok (same_row ds g)

@@ -1,16 +1,15 @@
 -- Redemptions on or before settlement count nowhere: the grid is that of the bond without them. Assumes nothing.
-use Rattle.std.specs.Prelude.{ℕ, ◌≤◌, ◌<◌, ◌≡◌, Bool, true, false, cond, ◌&&◌, List, [], ◌∷◌, length, get_or, set, replicate, eqb, ltb, leb, Float}
+use Rattle.std.specs.Prelude.{ℕ, ◌≤◌, ◌<◌, ◌≡◌, Bool, true, false, cond, ◌&&◌, List, [], ◌∷◌, length, get_or, set, replicate, eqb, ltb, leb, Float, Ok}
 use Rattle.std.proofs.Common.{arith, sym, ap, ◌∙◌, subst, true≢false, leb→le, ltb→lt, nltb→le, eqb→eq}
 use Rattle.std.proofs.Math.Numerals.{unary_clauses}
 use Rattle.std.proofs.Math.Path.{refl}
 use Rattle.std.specs.Float.{binary64}
 use Rattle.std.specs.Float.Ieee.{add}
-use Rattle.floats.specs.Answers.{plus_zero}
+use Rattle.floats.specs.Answers.{plus_zero, Outcome, follow}
 use Rattle.floats.specs.laws.Order.{T_of, T-of_not}
 use Rattle.terms.specs.declared.Settlement.{Settlement}
 use Rattle.terms.specs.Terms.{Leg, CallSchedule, Bond, TimeGrid}
 use Rattle.terms.specs.Checks.{last_day}
-use Rattle.terms.specs.Outcomes.{Outcome, given, follow}
 use Rattle.terms.specs.laws.EntryChecks.{grid-terms}
 use Rattle.terms.specs.laws.TermChecks.{leg-counted, paid-passed}
 use Rattle.bondevents.specs.declared.Side.{Side}
@@ -205,12 +204,12 @@ unrepaid-steps a bond k m calls =
 
 -- The grid of an axis, and of the bond without what is repaid at its settlement.
 unrepaid-grid : (a : Axis) (bond : Bond) (calls : CallSchedule) → length bond.leg.kinds ≡ length bond.leg.days → length bond.leg.amounts ≡ length bond.leg.days
-    → follow (call_steps a (without_repaid a.settlement bond) calls) (λ cs. given (grid_of a (without_repaid a.settlement bond) cs))
-    ≡ follow (call_steps a bond calls) (λ cs. given (grid_of a bond cs))
+    → follow (call_steps a (without_repaid a.settlement bond) calls) (λ cs. Ok (grid_of a (without_repaid a.settlement bond) cs))
+    ≡ follow (call_steps a bond calls) (λ cs. Ok (grid_of a bond cs))
 unrepaid-grid a bond calls k m =
-    ap (λ (row : List Float). follow (call_steps a (without_repaid a.settlement bond) calls) (λ cs. given (record { maturity_time = a.maturity; steps = a.steps; cashflows = row; calls = cs })))
+    ap (λ (row : List Float). follow (call_steps a (without_repaid a.settlement bond) calls) (λ cs. Ok (record { maturity_time = a.maturity; steps = a.steps; cashflows = row; calls = cs })))
     (unrepaid-paid a bond.leg.days bond.leg.kinds bond.leg.amounts (replicate 513 plus_zero) k m)
-    ∙ ap (λ (o : Outcome (List CallStep)). follow o (λ cs. given (grid_of a bond cs)))
+    ∙ ap (λ (o : Outcome (List CallStep)). follow o (λ cs. Ok (grid_of a bond cs)))
     (unrepaid-steps a bond k m calls)
 
 pub repaid-nowhere : RepaidNowhere
@@ -220,10 +219,10 @@ repaid-nowhere settlement bond calls controls h =
     let other = without_repaid settlement.day bond in
     let a = axis_of settlement bond.leg controls in
     let last = unrepaid_last settlement.day bond.leg.days bond.leg.kinds n.kinds_too (paid-passed bond.leg settlement.day passed.paid) in
-    let same : follow (call_steps a other calls) (λ cs. given (grid_of a other cs)) ≡ follow (call_steps a bond calls) (λ cs. given (grid_of a bond cs))
-    = subst (λ (s : ℕ). follow (call_steps a (without_repaid s bond) calls) (λ cs. given (grid_of a (without_repaid s bond) cs)) ≡ follow (call_steps a bond calls) (λ cs. given (grid_of a bond cs)))
+    let same : follow (call_steps a other calls) (λ cs. Ok (grid_of a other cs)) ≡ follow (call_steps a bond calls) (λ cs. Ok (grid_of a bond cs))
+    = subst (λ (s : ℕ). follow (call_steps a (without_repaid s bond) calls) (λ cs. Ok (grid_of a (without_repaid s bond) cs)) ≡ follow (call_steps a bond calls) (λ cs. Ok (grid_of a bond cs)))
     (settled settlement bond.leg controls) (unrepaid-grid a bond calls n.kinds_too n.amounts_too) in
     grid_is settlement bond calls controls
     ∙ sym same
-    ∙ ap (λ (z : Axis). follow (call_steps z other calls) (λ cs. given (grid_of z other cs))) (sym (unrepaid_axis settlement bond.leg other.leg controls last))
+    ∙ ap (λ (z : Axis). follow (call_steps z other calls) (λ cs. Ok (grid_of z other cs))) (sym (unrepaid_axis settlement bond.leg other.leg controls last))
     ∙ sym (grid_is settlement other calls controls)

@@ -1,10 +1,10 @@
 -- Two bonds that give every entry the same prices have the same exercises; and no price reads the puts. Assumes nothing.
-use Rattle.std.specs.Prelude.{◌≡◌, false, ℕ, replicate, ltb, Float}
+use Rattle.std.specs.Prelude.{◌≡◌, false, ℕ, replicate, ltb, Float, Ok, Err}
 use Rattle.std.proofs.Math.Path.{refl, sym, ap}
 use Rattle.std.proofs.Common.{◌∙◌}
 use mathlib.Core.List.{List, [], ◌∷◌}
 use Rattle.terms.specs.Terms.{CallSchedule, Bond, bond_with_puts}
-use Rattle.terms.specs.Outcomes.{Outcome, given, refused, follow, on_outcome}
+use Rattle.floats.specs.Answers.{Outcome, follow, on_outcome}
 use Rattle.bondevents.specs.declared.Side.{Side}
 use Rattle.bondevents.specs.declared.Exercise.{Exercise}
 use Rattle.bondevents.specs.Steps.{Axis}
@@ -19,8 +19,8 @@ entries_cons side a bond s t x starts ends strikes cs = unfold over_entries in r
 
 follow-alike : {A B : Type 0} (o : Outcome A) (f g : A → Outcome B) → ((x : A) → f x ≡ g x) → follow o f ≡ follow o g
 unfolding on_outcome
-follow-alike (given x) f g h = h x
-follow-alike (refused r) f g h = refl
+follow-alike (Ok x) f g h = h x
+follow-alike (Err r) f g h = refl
 
 module _ (side : Side) (a : Axis) (bond other : Bond) (same : (e : Entry) → ltb e.end a.settlement ≡ false → (k : ℕ) → call_price a other e k ≡ call_price a bond e k) where
   pub entries_same : (starts ends : List ℕ) (strikes : List Float) (cs : List Exercise) → over_entries side a other starts ends strikes cs ≡ over_entries side a bond starts ends strikes cs

@@ -1,11 +1,10 @@
 -- Calls and puts of each step side by side, and that no put stands above a call: a 38 never appears where calls are dropped or raised. Assumes nothing.
-use Rattle.std.specs.Prelude.{◌≡◌, refl, Bool, true, false, not, ◌&&◌, List, [], ◌∷◌, ℕ, zero, suc, length, get_or, T}
+use Rattle.std.specs.Prelude.{◌≡◌, refl, Bool, true, false, not, ◌&&◌, List, [], ◌∷◌, ℕ, zero, suc, length, get_or, T, Ok}
 use Rattle.std.proofs.Common.{sym, ap, ◌∙◌, subst, arith}
 use Rattle.std.proofs.lemmas.Bool.{false≢true}
 use Rattle.std.specs.Float.Ieee.{lt}
 use Rattle.std.specs.Float.Ieee.Scale.{finite}
 use Rattle.floats.specs.laws.Order.{number_of-finite, le_trans, le_of_not_lt, not_le_of_lt}
-use Rattle.terms.specs.declared.Check.TheVariants.{Passed}
 use Rattle.terms.specs.laws.Sequence.{indexed-passed, indexed_of_none}
 use Rattle.bondevents.specs.declared.Side.TheVariants.{Call}
 use Rattle.bondevents.specs.declared.Exercise.{Exercise}
@@ -13,6 +12,7 @@ use Rattle.bondevents.specs.declared.CallStep.{CallStep}
 use Rattle.bondevents.specs.Calls.{none, new_step, joined, put_above, puts_below}
 use Rattle.bondevents.specs.laws.Sides.{Before}
 use Rattle.bondevents.specs.laws.NoLower.{Thinner, ThinnerRow}
+use Rattle.floats.specs.declared.Reason.TheVariants as reason
 
 abbrev pub step : Exercise → Exercise → CallStep
 step c p = record { call = c; put = p }
@@ -48,10 +48,10 @@ still_below c d p f g t = go c.marked d.marked p.marked (lt c.price p.price) (lt
         (le_trans p.price c.price d.price (le_of_not_lt c.price p.price (number_of-finite c.price f) (number_of-finite p.price g) (subst (λ (b : Bool). T (not b)) (sym w) tt)) (k refl)))
 
 -- So of rows: the 38 that the first list passed, the second passes.
-pub rows-below : (cs ds ps : List Exercise) → length ps ≡ length cs → length ds ≡ length cs → ((k : ℕ) → T (finite (get_or cs k none).price)) → ((k : ℕ) → T (finite (get_or ps k none).price)) → ThinnerRow Call cs ds → puts_below (joined cs ps) ≡ Passed → puts_below (joined ds ps) ≡ Passed
+pub rows-below : (cs ds ps : List Exercise) → length ps ≡ length cs → length ds ≡ length cs → ((k : ℕ) → T (finite (get_or cs k none).price)) → ((k : ℕ) → T (finite (get_or ps k none).price)) → ThinnerRow Call cs ds → puts_below (joined cs ps) ≡ Ok tt → puts_below (joined ds ps) ≡ Ok tt
 rows-below cs ds ps e g fc fp t h =
-    indexed_of_none 38 (λ k. put_above (get_or (joined ds ps) k new_step)) (joined ds ps) λ k l.
+    indexed_of_none reason.PutAbove (λ k. put_above (get_or (joined ds ps) k new_step)) (joined ds ps) λ k l.
     subst (λ (s : CallStep). T (not (put_above s))) (sym (joined_at ds ps k (e ∙ sym g)))
     (still_below (get_or cs k none) (get_or ds k none) (get_or ps k none) (fc k) (fp k) (t k)
     (subst (λ (s : CallStep). T (not (put_above s))) (joined_at cs ps k e)
-    (indexed-passed 38 (λ k. put_above (get_or (joined cs ps) k new_step)) (joined cs ps) h k (omega (arith, joined-long cs ps e, joined-long ds ps (e ∙ sym g))))))
+    (indexed-passed reason.PutAbove (λ k. put_above (get_or (joined cs ps) k new_step)) (joined cs ps) h k (omega (arith, joined-long cs ps e, joined-long ds ps (e ∙ sym g))))))

@@ -8,9 +8,12 @@ use Rattle.bondline.specs.Lines.{line_entry, line_at, next_line}
 use Rattle.bondfile.specs.File.{begun, lines_of, numbered, entries_from}
 use Rattle.bondline.specs.laws.Words.{run_within}
 
+one-more : (n : ℕ) → 1 + n ≡ suc n
+one-more n = omega arith
+
 -- The bytes before the first line end, and the lines behind it.
 split : (bs : List ℕ) → 0 < length bs → lines_of bs ≡ take (leading (is_other 10) bs) bs ∷ lines_of (drop (suc (leading (is_other 10) bs)) bs)
-unfolding lines_of leading
+unfolding lines_of
 split [] h = absurd (omega arith)
 split (b ∷ []) h = one (eqb b 10)
   where
@@ -23,9 +26,9 @@ split (b ∷ c ∷ bs) h = more (eqb b 10) (split (c ∷ bs) (omega arith))
         (z : Bool)
         → lines_of (c ∷ bs) ≡ take (leading (is_other 10) (c ∷ bs)) (c ∷ bs) ∷ lines_of (drop (suc (leading (is_other 10) (c ∷ bs))) (c ∷ bs))
         → cond z ([] ∷ lines_of (c ∷ bs)) (begun b (lines_of (c ∷ bs)))
-        ≡ take (cond (not z) (suc (leading (is_other 10) (c ∷ bs))) 0) (b ∷ c ∷ bs) ∷ lines_of (drop (suc (cond (not z) (suc (leading (is_other 10) (c ∷ bs))) 0)) (b ∷ c ∷ bs))
+        ≡ take (cond (not z) (1 + leading (is_other 10) (c ∷ bs)) 0) (b ∷ c ∷ bs) ∷ lines_of (drop (suc (cond (not z) (1 + leading (is_other 10) (c ∷ bs)) 0)) (b ∷ c ∷ bs))
     more true e = refl
-    more false e = ap (begun b) e
+    more false e = rw (one-more (leading (is_other 10) (c ∷ bs))) (ap (begun b) e)
 
 module _ (text : List ℕ) (at : ℕ) where
   this : line_at text at ≡ take (leading (is_other 10) (drop at text)) (drop at text)

@@ -1,7 +1,7 @@
 -- Nothing of a file is lost and nothing invented: its lines are its bytes, each line has one entry, a list's entries are those lines' entries of its kind, in order, and a slice with room for them all holds them all. Assumes nothing.
 use Rattle.std.specs.Prelude.{ℕ, zero, suc, ◌≤◌, ◌≡◌, refl, ◌⊎◌, Bool, true, false, cond, List, [], ◌∷◌, ◌++◌, map, length, take, drop, eqb}
 use Rattle.std.proofs.Common.{arith, sym, ap, ◌∙◌, inl, inr, length-append, take_all, eqb-true}
-use Rattle.bondline.specs.declared.Entry.{Entry}
+use Rattle.bondline.specs.Forms.{Said}
 use Rattle.bondline.specs.Lines.{line_entry}
 use Rattle.bondfile.specs.Entries.{kind_of}
 use Rattle.bondfile.specs.File.{begun, lines_of, Numbered, numbered, of_kind}
@@ -45,7 +45,7 @@ lines-kept (b ∷ bs) = pick (eqb b 10) refl (lines-kept bs)
 pub entry_of-line : (n : ℕ) (lines : List (List ℕ)) → map (λ e. e.entry) (numbered n lines) ≡ map line_entry lines
 unfolding numbered
 entry_of-line n [] = refl
-entry_of-line n (line ∷ lines) = ap (λ (es : List Entry). line_entry line ∷ es) (entry_of-line (suc n) lines)
+entry_of-line n (line ∷ lines) = ap (λ (es : List Said). line_entry line ∷ es) (entry_of-line (suc n) lines)
 
 -- The numbers count up.
 unfoldable pub count_up : ℕ → ℕ → List ℕ

@@ -1,28 +1,16 @@
 -- `discounted_value` meets its contract. Assumes nothing.
+use Rattle.std.proofs.Common.{refl, rules}
+use Rattle.floats.proofs.Laws.{taken_atmost, left_atmost}
 use Rattle.bondpricer.proofs.Flowing.{at_settlement, no_reference}
-use Rattle.floats.proofs.Laws.{answers}
 use Rattle.bondpricer.proofs.discounted_value.Goals as goal
 
-pub time_from-requires : goal.time_from-requires
-time_from-requires c = search answers
-
-pub curve_at-a-requires : goal.curve_at-a-requires
-curve_at-a-requires c = search answers
-
-pub enum_known-a : goal.enum_known-a
-enum_known-a c = search answers
-
-pub enum_told-1 : goal.enum_told-1
-enum_told-1 c = search answers
-
-pub returns-in_default : goal.returns-in_default
-returns-in_default c = search (answers, no_reference)
+pub returns-in_err-reference : goal.returns-in_err-reference
+returns-in_err-reference c = no_reference _ _ _ _ c.time_from.ensures c.curve_at.ensures c.in_err-reference.was (search rules)
 
 pub returns-then-reference : goal.returns-then-reference
-returns-then-reference c = search (answers, at_settlement)
-
-pub all_flows-requires : goal.all_flows-requires
-all_flows-requires c = search answers
+returns-then-reference c =
+    at_settlement _ _ _ _ c.time_from.ensures c.curve_at.ensures c.in_ok-reference.was (taken_atmost _ _ _ _ c.if-reference.true refl)
 
 pub returns : goal.returns
-returns c = search (answers, at_settlement)
+returns c =
+    at_settlement _ _ _ _ c.time_from.ensures c.curve_at.ensures c.in_ok-reference.was (left_atmost _ _ _ _ c.if-reference.false c.all_flows.ensures)

@@ -1,10 +1,9 @@
 -- One bond's checks from their parts: the cut, then the checks of what was cut. Assumes nothing.
-use Rattle.std.specs.Prelude.{ℕ, zero, suc, ◌+◌, ◌-◌, ◌≤◌, ◌<◌, ◌≡◌, refl, Bool, true, ◌&&◌, ◌||◌, List, [], ◌∷◌, ltb, length, get_or, Float}
+use Rattle.std.specs.Prelude.{ℕ, zero, suc, ◌+◌, ◌-◌, ◌≤◌, ◌<◌, ◌≡◌, refl, Bool, true, ◌&&◌, ◌||◌, List, [], ◌∷◌, ltb, length, get_or, Float, Ok, Err}
 use Rattle.std.proofs.Common.{arith, sym, ◌∙◌, inl, inr, lt-ltb, le-ltb}
 use Rattle.std.proofs.Math.Path.{ap}
 use Rattle.floats.specs.declared.Refusal.{Refusal}
-use Rattle.terms.specs.declared.Check.{Check}
-use Rattle.terms.specs.declared.Check.TheVariants.{Passed, Refused}
+use Rattle.floats.specs.Answers.{Check}
 use Rattle.terms.specs.Checks.{on_check, first_of}
 use Rattle.terms.specs.Entries.{tree_checks}
 use Rattle.terms.specs.laws.Searching.{below_or_not}
@@ -37,14 +36,14 @@ amiss-behind last from count n h =
     rw (p, q)
 
 module _ (s : Shared) (l : Lists) (h : Holding) {c : Check} (e : c ≡ first_of (cut_checks h (leg_lengths l.leg) (entry_lengths l.calls) (entry_lengths l.puts))) where
-  pub bond-refused : {q : Refusal} → c ≡ Refused q → c ≡ bond_check s l h
+  pub bond-refused : {q : Refusal} → c ≡ Err q → c ≡ bond_check s l h
   unfolding bond_check on_check
-  bond-refused {q} t = t ∙ ap (λ (z : Check). on_check z Refused (tree_checks (market_of s l h) (calls_of l h))) (sym t ∙ e)
+  bond-refused {q} t = t ∙ ap (λ (z : Check). on_check z Err (tree_checks (market_of s l h) (calls_of l h))) (sym t ∙ e)
 
   -- The lists that were cut, and what the checks of the tree value say of them.
   pub bond-passed :
       {r : Check} {days kinds starts ends put-starts put-ends : List ℕ} {amounts strikes put-strikes : List Float}
-      → c ≡ Passed
+      → c ≡ Ok tt
       → days ≡ cut h.cashflows l.leg.days → kinds ≡ cut h.cashflows l.leg.kinds → amounts ≡ cut h.cashflows l.leg.amounts
       → starts ≡ cut h.calls l.calls.starts → ends ≡ cut h.calls l.calls.ends → strikes ≡ cut h.calls l.calls.strikes
       → put-starts ≡ cut h.puts l.puts.starts → put-ends ≡ cut h.puts l.puts.ends → put-strikes ≡ cut h.puts l.puts.strikes
@@ -65,4 +64,4 @@ module _ (s : Shared) (l : Lists) (h : Holding) {c : Check} (e : c ≡ first_of 
       → r ≡ bond_check s l h
   unfolding bond_check on_check
   bond-passed t a b d f g i j k m p =
-      (rw (a, b, d, f, g, i, j, k, m) at p) ∙ ap (λ (z : Check). on_check z Refused (tree_checks (market_of s l h) (calls_of l h))) (sym t ∙ e)
+      (rw (a, b, d, f, g, i, j, k, m) at p) ∙ ap (λ (z : Check). on_check z Err (tree_checks (market_of s l h) (calls_of l h))) (sym t ∙ e)

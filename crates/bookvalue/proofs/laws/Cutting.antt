@@ -1,8 +1,7 @@
 -- What is cut for a bond that passed its checks: as long as the tree value wants it, and worth the bond's tree value. Assumes nothing.
-use Rattle.std.specs.Prelude.{ℕ, ◌≤◌, ◌≡◌, refl, List, length, Float}
+use Rattle.std.specs.Prelude.{ℕ, ◌≤◌, ◌≡◌, refl, List, length, Float, Ok}
 use Rattle.std.proofs.Common.{sym, ap, ◌∙◌}
-use Rattle.terms.specs.declared.Check.{Check}
-use Rattle.terms.specs.declared.Check.TheVariants as check
+use Rattle.floats.specs.Answers.{Check, Outcome}
 use Rattle.terms.specs.Terms.{CallSchedule, Market}
 use Rattle.terms.specs.Curve.{pillar_times, CurveTimes}
 use Rattle.terms.specs.Entries.{tree_checks}
@@ -25,7 +24,7 @@ Sizes m calls =
     × ((length calls.ends ≡ length calls.starts) × (length calls.strikes ≡ length calls.starts))
     × ((length m.bond.puts.ends ≡ length m.bond.puts.starts) × (length m.bond.puts.strikes ≡ length m.bond.puts.starts))
 
-sizes : (m : Market) (calls : CallSchedule) → tree_checks m calls ≡ check.Passed → Sizes m calls
+sizes : (m : Market) (calls : CallSchedule) → tree_checks m calls ≡ Ok tt → Sizes m calls
 sizes m calls e =
     let passed = sym (tree-grid m calls e) in
     let steps = settled _ _ _ _ passed refl in
@@ -46,7 +45,7 @@ pub record Parts (l : Lists) (h : Holding) (days kinds : List ℕ) (amounts : Li
   pub put_ends_are : put-ends ≡ cut h.puts l.puts.ends
   pub put_strikes_are : put-strikes ≡ cut h.puts l.puts.strikes
 
-module _ (s : Shared) (l : Lists) (h : Holding) (e : bond_check s l h ≡ check.Passed) {days kinds starts ends put-starts put-ends : List ℕ} {amounts strikes put-strikes : List Float}
+module _ (s : Shared) (l : Lists) (h : Holding) (e : bond_check s l h ≡ Ok tt) {days kinds starts ends put-starts put-ends : List ℕ} {amounts strikes put-strikes : List Float}
     (p : Parts l h days kinds amounts starts ends strikes put-starts put-ends put-strikes) where
   abbrev market : Market
   market =
@@ -72,7 +71,7 @@ module _ (s : Shared) (l : Lists) (h : Holding) (e : bond_check s l h ≡ check.
   calls_are : calls ≡ calls_of l h
   calls_are = rw (p.starts_are, p.ends_are, p.strikes_are)
 
-  parts-passed : tree_checks market calls ≡ check.Passed
+  parts-passed : tree_checks market calls ≡ Ok tt
   parts-passed = ap (λ (m : Market). tree_checks m calls) market_is ∙ ap (tree_checks (market_of s l h)) calls_are ∙ tree-passed s l h e
 
   pub parts-ready : {times : List Float} → CurveTimes (record { day = s.day; code = h.code }) s.pillars.days times
@@ -85,7 +84,7 @@ module _ (s : Shared) (l : Lists) (h : Holding) (e : bond_check s l h ≡ check.
       let z = sizes market calls parts-passed in
       (z.0, (z.1, (z.2, (z.3, t.timed (tree-few-pillars market calls parts-passed)))))
 
-  pub parts-worth : (room : Room) {v : TreeValue} → v ≡ value_on market calls room → v ≡ tree_value (market_of s l h) (calls_of l h) room
+  pub parts-worth : (room : Room) {v : Outcome TreeValue} → v ≡ value_on market calls room → v ≡ tree_value (market_of s l h) (calls_of l h) room
   parts-worth room f =
       f
       ∙ value_of-checked market calls room parts-passed

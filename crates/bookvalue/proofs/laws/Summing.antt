@@ -1,5 +1,5 @@
 -- The loops that add the values and the counts of a desk: what each knows before a bond, one turn, and its ends. Assumes nothing.
-use Rattle.std.specs.Prelude.{ℕ, suc, ◌+◌, ◌*◌, ◌≤◌, ◌<◌, ◌^◌, ◌≡◌, Bool, eqb, List, length, Float}
+use Rattle.std.specs.Prelude.{ℕ, suc, ◌+◌, ◌*◌, ◌≤◌, ◌<◌, ◌^◌, ◌≡◌, Bool, eqb, List, length, Float, Ok, Err}
 use native.Mathlib.Omega.{arith}
 use Rattle.std.proofs.Common.{add-one, sym, ◌∙◌, ext_get_or}
 use Rattle.std.proofs.Math.Path.{refl, ap}
@@ -7,21 +7,17 @@ use Rattle.std.proofs.Math.Bool.{true, false, cond}
 use Rattle.std.proofs.Math.ListN.{get_or}
 use Rattle.std.specs.Float.Ieee.{binary64, add, nan}
 use Rattle.floats.specs.declared.Refusal.{Refusal}
-use Rattle.floats.specs.Answers.{plus_zero, not_finite}
-use Rattle.terms.specs.declared.Check.{Check}
-use Rattle.terms.specs.declared.Check.TheVariants as check
+use Rattle.floats.specs.Answers.{Answer, plus_zero, not_finite, refusal, tested, Check}
 use Rattle.terms.specs.Checks.{single}
 use Rattle.terms.proofs.Laws.{same_at}
-use Rattle.bookchecks.specs.declared.BookCheck.{BookCheck}
-use Rattle.bookchecks.specs.declared.BookCheck.TheVariants as book
-use Rattle.bookchecks.specs.Checks.{first_refused, on_book}
-use Rattle.bookchecks.proofs.laws.Naming.{Naming, begin, turn, found, done}
-use Rattle.bookvalue.specs.declared.BookSum.{BookSum}
-use Rattle.bookvalue.specs.declared.BookSum.TheVariants.{Sum, Refused}
+use Rattle.bookchecks.specs.declared.RefusedBond.{RefusedBond}
+use Rattle.bookchecks.specs.Checks.{BookOutcome, BookCheck, Refused, at_bond, first_refused, on_book}
+use Rattle.bookchecks.proofs.laws.Naming.{Naming, begin, turn, found, done, value_of_bond, refused_of}
 use Rattle.bookvalue.specs.Values.{each, sum_to, sum_check, desk_to}
 use Rattle.bookchecks.specs.laws.Holdings.{Filling}
 use Rattle.bookvalue.specs.laws.Placed.{each-length, each_at}
 use Rattle.bookvalue.specs.laws.Answers.{sum_of, FewNodes}
+use Rattle.floats.specs.declared.Reason.TheVariants as reason
 
 -- ---- the sum
 
@@ -34,30 +30,44 @@ module _ (values : List Float) (size : ℕ) where
   unfolding sum_to
   sum-begin = record { none = begin (sum_check values) size; sum_is = refl }
 
-  module _ (i : ℕ) (sum : Float) {f : Bool} (s : Summing values size i sum) (h : i < size) (l : i < length values) (e : f ≡ not_finite (add binary64 sum (get_or values i nan))) where
+  module _ (i : ℕ) (sum : Float) {o : Answer} {u : BookOutcome Float} (s : Summing values size i sum) (h : i < size) (l : i < length values) (e : o ≡ tested (add binary64 sum (get_or values i nan)) 0) (n : u ≡ at_bond i o) where
     next : add binary64 sum (get_or values i nan) ≡ sum_to values (suc i)
     unfolding sum_to
     next = ap (add binary64 sum) (same_at values i nan plus_zero l) ∙ ap (λ (x : Float). add binary64 x (get_or values i plus_zero)) s.sum_is
 
-    tried : (b : Bool) → f ≡ b → sum_check values i ≡ single 27 0 b
-    tried b t = ap (single 27 0) (sym (ap not_finite next) ∙ sym e ∙ t)
+    -- The test of the next sum, as a check and as its value.
+    tried : (b : Bool) → not_finite (add binary64 sum (get_or values i nan)) ≡ b → sum_check values i ≡ single reason.NotFinite 0 b
+    tried b t = ap (single reason.NotFinite 0) (sym (ap not_finite next) ∙ t)
 
-    pub sum_more : f ≡ false → Summing values size (i + 1) (add binary64 sum (get_or values i nan))
-    sum_more t =
-        record {
-          none = turn (sum_check values) size i s.none h refl (tried false t);
-          sum_is = next ∙ ap (sum_to values) (sym (add-one i));
-        }
+    pub sum_more : {x : Float} → u ≡ Ok x → Summing values size (i + 1) x
+    sum_more {x} t = go (not_finite (add binary64 sum (get_or values i nan))) refl (sym e ∙ value_of_bond i o (sym n ∙ t))
+      where
+        go : (b : Bool) → not_finite (add binary64 sum (get_or values i nan)) ≡ b → cond b (refusal reason.NotFinite 0) (Ok (add binary64 sum (get_or values i nan))) ≡ Ok x → Summing values size (i + 1) x
+        go true p q = absurd (let z : ◌≡◌ {A = ℕ} 0 1 = cc in omega arith)
+        go false p q =
+            let same : add binary64 sum (get_or values i nan) ≡ x = cc in
+            record {
+              none = turn (sum_check values) size i s.none h refl (tried false p);
+              sum_is = sym same ∙ next ∙ ap (sum_to values) (sym (add-one i));
+            }
 
-    pub sum-refused : f ≡ true → Refused i (record { number = 27; place = 0 }) ≡ sum_of values size
+    pub sum-refused : {q : RefusedBond} → u ≡ Err q → Err q ≡ sum_of values size
     unfolding sum_of on_book
-    sum-refused t = ap (λ (k : BookCheck). on_book k Refused (Sum (sum_to values size))) (found (sum_check values) size i s.none h refl (tried true t))
+    sum-refused {q} t =
+        let r = refused_of i o q (sym n ∙ t) in
+        go (not_finite (add binary64 sum (get_or values i nan))) refl (sym e ∙ r.refused) r.named
+      where
+        go : (b : Bool) → not_finite (add binary64 sum (get_or values i nan)) ≡ b → cond b (refusal reason.NotFinite 0) (Ok (add binary64 sum (get_or values i nan))) ≡ Err q.refusal → q ≡ record { bond = i; refusal = q.refusal } → Err q ≡ sum_of values size
+        go true p w m =
+            let same : record { reason = reason.NotFinite; place = 0 } ≡ q.refusal = cc in
+            ap Err m ∙ ap (λ (k : BookCheck). on_book k Refused (Ok (sum_to values size))) (found (sum_check values) size i s.none h refl (tried true p ∙ ap Err same))
+        go false p w m = absurd (let z : ◌≡◌ {A = ℕ} 0 1 = cc in omega arith)
 
-  pub sum_done : (i : ℕ) (sum : Float) → Summing values size i sum → size ≤ i → Sum sum ≡ sum_of values size
+  pub sum_done : (i : ℕ) (sum : Float) → Summing values size i sum → size ≤ i → Ok sum ≡ sum_of values size
   unfolding sum_of on_book
   sum_done i sum s h =
       let e : i ≡ size = omega (arith, s.none.within) in
-      ap Sum (s.sum_is ∙ ap (sum_to values) e) ∙ ap (λ (k : BookCheck). on_book k Refused (Sum (sum_to values size))) (done (sum_check values) size i s.none h)
+      ap Ok (s.sum_is ∙ ap (sum_to values) e) ∙ ap (λ (k : BookCheck). on_book k Refused (Ok (sum_to values size))) (done (sum_check values) size i s.none h)
 
 -- ---- a desk's count
 

@@ -1,24 +1,19 @@
 -- Definitions only. The answer from its parts: the bonds valued, the sum and the count.
-use Rattle.std.specs.Prelude.{ℕ, zero, suc, ◌+◌, ◌*◌, ◌≤◌, ◌<◌, ◌^◌, refl, List, get_or, replicate, Float}
+use Rattle.std.specs.Prelude.{ℕ, zero, suc, ◌+◌, ◌*◌, ◌≤◌, ◌<◌, ◌^◌, refl, List, get_or, replicate, Float, Ok, Err}
 use Rattle.std.proofs.Common.{arith, ap, ◌∙◌}
 use Rattle.std.proofs.Math.Path.{◌≡◌, sym}
 use Rattle.std.specs.Borrow.{Bor}
 use Rattle.floats.specs.declared.Refusal.{Refusal}
-use Rattle.floats.specs.Answers.{plus_zero}
+use Rattle.floats.specs.Answers.{plus_zero, Outcome}
 use Rattle.terms.specs.Terms.{CallSchedule, Market}
 use Rattle.lattice.specs.Layers.{Room}
 use Rattle.treebasedbondpricer.specs.declared.TreeValue.{TreeValue}
-use Rattle.treebasedbondpricer.specs.declared.TreeValue.TheVariants as tree
 use Rattle.treebasedbondpricer.specs.Tree.{tree_value, number_of, place_of, value_of, counted_by}
 use Rattle.bookchecks.specs.declared.Holding.{Holding}
-use Rattle.bookchecks.specs.declared.BookCheck.{BookCheck}
-use Rattle.bookchecks.specs.declared.BookCheck.TheVariants.{Passed, Refused}
 use Rattle.bookchecks.specs.Book.{Shared, Lists, market_of, calls_of}
-use Rattle.bookchecks.specs.Checks.{first_refused, on_book}
+use Rattle.bookchecks.specs.Checks.{BookOutcome, Refused, first_refused, on_book}
 use Rattle.bookchecks.specs.Slices.{shared_of, lists_of}
 use Rattle.bookvalue.specs.declared.Valued.{Valued}
-use Rattle.bookvalue.specs.declared.BookSum.{BookSum}
-use Rattle.bookvalue.specs.declared.BookSum.TheVariants as sum
 use Rattle.bookvalue.specs.declared.BookAnswer.{BookAnswer}
 use Rattle.bookvalue.specs.Values.{refused_tree, each, placed, sum_to, sum_check, desk_to, desk_counts, refused_book, accepted_book, summed_book, valued_book}
 use Rattle.bookvalue.specs.laws.Placed.{none-there, placed_all_lem, each-alike}
@@ -36,36 +31,36 @@ lists_now days kinds amounts starts ends strikes putStarts putEnds putStrikes =
     (record { starts = starts.now; ends = ends.now; strikes = strikes.now })
     (record { starts = putStarts.now; ends = putEnds.now; strikes = putStrikes.now })
 
-abbrev pub tree_refusal : TreeValue → Refusal
-tree_refusal v = record { number = number_of v; place = place_of v }
-
-abbrev pub no_values : ℕ → Refusal → Valued
-no_values bond q = record { check = Refused bond q; values = replicate 32 plus_zero; counts = replicate 32 0 }
-
-abbrev pub all_values : (ℕ → TreeValue) → ℕ → Valued
-all_values value n = record { check = Passed; values = placed plus_zero (λ i. value_of (value i)) n; counts = placed 0 (λ i. counted_by (value i)) n }
+abbrev pub all_values : (ℕ → Outcome TreeValue) → ℕ → Valued
+all_values value n = record { values = placed plus_zero (λ i. value_of (value i)) n; counts = placed 0 (λ i. counted_by (value i)) n }
 
 -- The first bond refused while it is valued, or all values.
-unfoldable pub valued_by : (ℕ → TreeValue) → ℕ → Valued
+unfoldable pub valued_by : (ℕ → Outcome TreeValue) → ℕ → BookOutcome Valued
 unfolding first_refused on_book each
-valued_by value n = on_book (first_refused (λ i. refused_tree (value i)) n 0) no_values (all_values value n)
+valued_by value n = on_book (first_refused (λ i. refused_tree (value i)) n 0) Refused (Ok (all_values value n))
 
 -- The same of what the bonds hold.
-abbrev pub tree_of : Shared → Lists → Room → Holding → TreeValue
+abbrev pub tree_of : Shared → Lists → Room → Holding → Outcome TreeValue
 tree_of s l room h = tree_value (market_of s l h) (calls_of l h) room
 
-abbrev pub values_of : Shared → Lists → (ℕ → Holding) → Room → ℕ → Valued
+abbrev pub values_of : Shared → Lists → (ℕ → Holding) → Room → ℕ → BookOutcome Valued
 values_of s l held room n = valued_by (λ i. tree_of s l room (held i)) n
 
-unfoldable pub sum_of : List Float → ℕ → BookSum
+unfoldable pub sum_of : List Float → ℕ → BookOutcome Float
 unfolding first_refused on_book sum_to
-sum_of values n = on_book (first_refused (sum_check values) n 0) sum.Refused (sum.Sum (sum_to values n))
+sum_of values n = on_book (first_refused (sum_check values) n 0) Refused (Ok (sum_to values n))
 
-unfoldable pub answer_of : Valued → (ℕ → ℕ) → ℕ → BookAnswer
-unfolding on_book summed_book
-answer_of v desk n = on_book v.check refused_book (summed_book v.values desk v.counts n)
+unfoldable pub answer_of : BookOutcome Valued → (ℕ → ℕ) → ℕ → BookAnswer
+unfolding summed_book
+answer_of (Ok v) desk n = summed_book v.values desk v.counts n
+answer_of (Err q) desk n = refused_book q.bond q.refusal
 
 -- ---- the counts of 32 bonds fit 64 bits
 
 pub record FewNodes (counts : List ℕ) : Type 0 where
   pub each : (i : ℕ) → 3 * get_or counts i 0 < 2 ^ 60
+
+-- Those of what was valued, where no bond was refused.
+abbrev pub FewCounted : BookOutcome Valued → Type 0
+FewCounted (Ok v) = FewNodes v.counts
+FewCounted (Err q) = Unit {0}

@@ -1,21 +1,18 @@
 -- The nodes of a tree, three times, fit the probability slice. Assumes nothing.
 use Prim.Native.Nat.{ℕ, zero, suc, ◌+◌, ◌*◌, ◌≤◌}
 use native.Mathlib.Omega.{arith}
-use Rattle.std.specs.Prelude.{◌≡◌, refl, Bool, cond, ℤ, Float}
+use Rattle.std.specs.Prelude.{◌≡◌, refl, Bool, cond, ℤ, Float, Ok, Err}
 use Rattle.std.proofs.Common.{sym, ap, ◌∙◌}
 use Rattle.std.proofs.Math.Bool.{true, false}
 use mathlib.Core.List.{List, [], ◌∷◌}
 use Rattle.std.proofs.Math.ListN.{length}
 use Rattle.std.specs.Float.Ieee.{binary64, div}
 use Rattle.floats.specs.declared.Refusal.{Refusal}
-use Rattle.floats.specs.declared.Answer.{Answer}
-use Rattle.terms.specs.declared.Check.{Check}
-use Rattle.terms.specs.declared.Check.TheVariants as check
+use Rattle.floats.specs.Answers.{Answer, Check, Outcome, follow, on_outcome, refusal}
 use Rattle.terms.specs.Numbers.{float}
 use Rattle.terms.specs.Terms.{CallSchedule, Market}
 use Rattle.terms.specs.Checks.{on_check}
 use Rattle.terms.specs.Entries.{tree_checks}
-use Rattle.terms.specs.Outcomes.{Outcome, given, refused, on_outcome, follow, refuse}
 use Rattle.terms.specs.laws.Outcomes.{Gives, gives, nothing, given_of, gives-follow, gives-valued, gives-finite, gives-known}
 use Rattle.bondevents.specs.declared.BondEventGrid.{BondEventGrid}
 use Rattle.bondevents.specs.Grid.{event_grid}
@@ -25,18 +22,18 @@ use Rattle.lattice.specs.Transitions.{Step}
 use Rattle.lattice.specs.Lattice.{Layer, Lattice, root_layer, flat_layer, destinations, transitions_of, step_of, spacing_of, decay_of, grown, flat, curved, all_flat, lattice, count_of, node_count}
 use Rattle.lattice.specs.laws.RoomTest.{fitting}
 use Rattle.treebasedbondpricer.specs.declared.TreeValue.{TreeValue}
-use Rattle.treebasedbondpricer.specs.declared.TreeValue.TheVariants.{Value, Refused}
 use Rattle.treebasedbondpricer.specs.Tree.{Fitted, fitted_tree_over, lattice_value_over, tree_value_over, tree_value, curve_of}
+use Rattle.floats.specs.declared.Reason.TheVariants as reason
 
 module _ (room : Room) where
   -- So many nodes before, and those of a tree behind them.
   abbrev Threes : ℕ → Lattice → Type 0
   Threes before t = 3 * (before + node_count t) ≤ room.probabilities
 
-  in_room : (all layer k : ℕ) {A : Type 0} {P : A → Type 0} (o : Outcome A) → (3 * all ≤ room.probabilities → Gives P o) → Gives P (cond (fits room all layer) o (refuse 21 k))
+  in_room : (all layer k : ℕ) {A : Type 0} {P : A → Type 0} (o : Outcome A) → (3 * all ≤ room.probabilities → Gives P o) → Gives P (cond (fits room all layer) o (refusal reason.NoRoom k))
   in_room all layer k {A} {P} o h = go (fits room all layer) refl
     where
-      go : (b : Bool) → fits room all layer ≡ b → Gives P (cond b o (refuse 21 k))
+      go : (b : Bool) → fits room all layer ≡ b → Gives P (cond b o (refusal reason.NoRoom k))
       go true e = h (fitting room all layer e).threes
       go false e = nothing
 
@@ -75,9 +72,9 @@ module _ (room : Room) where
       go false = alone _ (curved-threes alpha dt v vs)
 
   -- A value's count.
-  pub data Counted : TreeValue → Type 0 where
-    few : {x : Float} {n : ℕ} → 3 * n ≤ room.probabilities → Counted (Value x n)
-    none : {r : Refusal} → Counted (Refused r)
+  pub data Counted : Outcome TreeValue → Type 0 where
+    few : {x : Float} {n : ℕ} → 3 * n ≤ room.probabilities → Counted (Ok (record { value = x; nodes = n }))
+    none : {r : Refusal} → Counted (Err r)
 
   fitted-threes : (curve : Float → ℕ → Answer) (m : Market) (maturity : Float) (steps : ℕ) → Gives (λ (f : Fitted). 3 * node_count f.tree ≤ room.probabilities) (fitted_tree_over curve m room maturity steps)
   unfolding fitted_tree_over
@@ -94,15 +91,15 @@ module _ (room : Room) where
       gives-follow _ _ (fitted-threes curve m grid.maturity_time grid.steps) λ f p.
       gives-known _ _ λ row _. gives (few p)
 
-  as_value : (o : Outcome TreeValue) → Gives Counted o → Counted (on_outcome o Refused λ v. v)
+  as_value : (o : Outcome (Outcome TreeValue)) → Gives Counted o → Counted (on_outcome o Err λ v. v)
   unfolding on_outcome
   as_value o (gives p) = p
   as_value o nothing = none
 
-  checked : (c : Check) (v : TreeValue) → Counted v → Counted (on_check c Refused v)
+  checked : (c : Check) (v : Outcome TreeValue) → Counted v → Counted (on_check c Err v)
   unfolding on_check
-  checked check.Passed v h = h
-  checked (check.Refused r) v h = none
+  checked (Ok tt) v h = h
+  checked (Err r) v h = none
 
   pub counted : (m : Market) (calls : CallSchedule) → Counted (tree_value m calls room)
   unfolding tree_value tree_value_over

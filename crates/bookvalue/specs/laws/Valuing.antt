@@ -1,25 +1,21 @@
 -- The loop that values the bonds one after the other: what it knows before each, one turn, and its ends. Assumes nothing.
-use Rattle.std.specs.Prelude.{ℕ, ◌+◌, ◌≤◌, ◌<◌, ◌≡◌, List, set, replicate, Float}
+use Rattle.std.specs.Prelude.{ℕ, ◌+◌, ◌≤◌, ◌<◌, ◌≡◌, List, set, replicate, Float, Ok, Err}
 use Rattle.std.proofs.Common.{arith, ◌∙◌}
 use Rattle.std.proofs.Math.Path.{refl, sym, ap}
 use Rattle.floats.specs.declared.Refusal.{Refusal}
-use Rattle.floats.specs.Answers.{plus_zero}
-use Rattle.terms.specs.declared.Check.{Check}
-use Rattle.terms.specs.declared.Check.TheVariants as check
+use Rattle.floats.specs.Answers.{plus_zero, Check, Outcome}
 use Rattle.lattice.specs.Layers.{Room}
 use Rattle.treebasedbondpricer.specs.declared.TreeValue.{TreeValue}
-use Rattle.treebasedbondpricer.specs.declared.TreeValue.TheVariants as tree
 use Rattle.treebasedbondpricer.specs.Tree.{tree_value, value_of, counted_by}
 use Rattle.bookchecks.specs.declared.Holding.{Holding}
-use Rattle.bookchecks.specs.declared.BookCheck.{BookCheck}
-use Rattle.bookchecks.specs.declared.BookCheck.TheVariants.{Passed, Refused}
+use Rattle.bookchecks.specs.declared.RefusedBond.{RefusedBond}
 use Rattle.bookchecks.specs.Book.{Shared, Lists, market_of, calls_of}
-use Rattle.bookchecks.specs.Checks.{first_refused, on_book}
-use Rattle.bookchecks.proofs.laws.Naming.{Naming, begin, turn, found, done}
+use Rattle.bookchecks.specs.Checks.{BookOutcome, BookCheck, Refused, at_bond, first_refused, on_book}
+use Rattle.bookchecks.proofs.laws.Naming.{Naming, begin, turn, found, done, value_of_bond, refused_of}
 use Rattle.bookvalue.specs.declared.Valued.{Valued}
 use Rattle.bookvalue.specs.Values.{refused_tree, placed}
 use Rattle.bookvalue.specs.laws.Placed.{placed-begin, placed_more}
-use Rattle.bookvalue.specs.laws.Answers.{tree_refusal, no_values, all_values, valued_by, tree_of, values_of}
+use Rattle.bookvalue.specs.laws.Answers.{all_values, valued_by, tree_of, values_of}
 
 -- The bonds before i are valued, none refused; the slices are as long as they were.
 pub record Valuing (s : Shared) (l : Lists) (held : ℕ → Holding) (start : Room) (size i : ℕ) (values : List Float) (counts : List ℕ) (room : Room) : Type 0 where
@@ -38,13 +34,13 @@ module _ (s : Shared) (l : Lists) (held : ℕ → Holding) (start : Room) (size 
         as_long = refl;
       }
 
-  module _ (i : ℕ) (values : List Float) (counts : List ℕ) {room : Room} {worth : TreeValue} (v : Valuing s l held start size i values counts room) (h : i < size) (e : worth ≡ tree_of s l room (held i)) where
+  module _ (i : ℕ) (values : List Float) (counts : List ℕ) {room : Room} {worth : Outcome TreeValue} (v : Valuing s l held start size i values counts room) (h : i < size) (e : worth ≡ tree_of s l room (held i)) where
     is_here : worth ≡ tree_of s l start (held i)
     is_here = e ∙ ap (λ (r : Room). tree_of s l r (held i)) v.as_long
 
-    pub value_more : {x : Float} {n : ℕ} {next : Room} → size ≤ 32 → worth ≡ tree.Value x n → next ≡ room → Valuing s l held start size (i + 1) (set values i x) (set counts i n) next
-    value_more {x} {n} k t same =
-        let w : tree_of s l start (held i) ≡ tree.Value x n = sym is_here ∙ t in
+    pub value_more : {u : BookOutcome TreeValue} {t : TreeValue} {next : Room} → size ≤ 32 → u ≡ at_bond i worth → u ≡ Ok t → next ≡ room → Valuing s l held start size (i + 1) (set values i t.value) (set counts i t.nodes) next
+    value_more {u} {t} k o p same =
+        let w : tree_of s l start (held i) ≡ Ok t = sym is_here ∙ value_of_bond i worth (sym o ∙ p) in
         record {
           none = turn _ size i v.none h refl (ap refused_tree w);
           values_are = placed_more (λ k. value_of (tree_of s l start (held k))) plus_zero i values (omega arith) v.values_are (sym (ap value_of w));
@@ -52,18 +48,19 @@ module _ (s : Shared) (l : Lists) (held : ℕ → Holding) (start : Room) (size 
           as_long = same ∙ v.as_long;
         }
 
-    pub value-refused : {q : Refusal} {r : Valued} → worth ≡ tree.Refused q → r ≡ no_values i q → r ≡ values_of s l held start size
+    pub value-refused : {u : BookOutcome TreeValue} {q : RefusedBond} → u ≡ at_bond i worth → u ≡ Err q → Err q ≡ values_of s l held start size
     unfolding valued_by on_book
-    value-refused {q} t p =
-        let w : tree_of s l start (held i) ≡ tree.Refused q = sym is_here ∙ t in
-        p ∙ ap (λ (k : BookCheck). on_book k no_values (all_values (λ k. tree_of s l start (held k)) size)) (found _ size i v.none h refl (ap refused_tree w))
+    value-refused {u} {q} o p =
+        let r = refused_of i worth q (sym o ∙ p) in
+        let w : tree_of s l start (held i) ≡ Err q.refusal = sym is_here ∙ r.refused in
+        ap Err r.named ∙ ap (λ (k : BookCheck). on_book k Refused (Ok (all_values (λ k. tree_of s l start (held k)) size))) (found _ size i v.none h refl (ap refused_tree w))
 
-  pub values-done : (i : ℕ) (values : List Float) (counts : List ℕ) {room : Room} → Valuing s l held start size i values counts room → size ≤ i → record { check = Passed; values = values; counts = counts } ≡ values_of s l held start size
+  pub values-done : (i : ℕ) (values : List Float) (counts : List ℕ) {room : Room} → Valuing s l held start size i values counts room → size ≤ i → Ok (record { values = values; counts = counts }) ≡ values_of s l held start size
   unfolding valued_by on_book
   values-done i values counts v h =
       let e : i ≡ size = omega (arith, v.none.within) in
       rw (v.values_are, v.counts_are, e)
-      (ap (λ (k : BookCheck). on_book k no_values (all_values (λ k. tree_of s l start (held k)) size)) (done _ size i v.none h))
+      (ap (λ (k : BookCheck). on_book k Refused (Ok (all_values (λ k. tree_of s l start (held k)) size))) (done _ size i v.none h))
 
 -- Slices as long are the same room.
 pub same_room : {a b c d e f g h : ℕ} → a ≡ b → c ≡ d → e ≡ f → g ≡ h → ◌≡◌ {A = Room} (record { nodes = a; probabilities = c; first = e; second = g }) (record { nodes = b; probabilities = d; first = f; second = h })

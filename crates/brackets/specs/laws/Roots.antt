@@ -1,13 +1,11 @@
 -- What a root that bracketed_root answers with is: the objective there is within 1e-12 of 0, or it is the middle of a last bracket less than 1e-14 wide at whose ends the objective is neither both above 0 nor both below. Over any objective. Assumes nothing.
 use Prim.Native.Nat.{ℕ, zero, suc}
-use Rattle.std.specs.Prelude.{◌≡◌, refl, Bool, true, false, not, cond, ◌&&◌, ◌||◌, Float}
+use Rattle.std.specs.Prelude.{◌≡◌, refl, Bool, true, false, not, cond, ◌&&◌, ◌||◌, Float, Ok, Err}
 use Rattle.std.proofs.Common.{sym, ap, subst}
 use Rattle.std.specs.Float.{binary64}
 use Rattle.std.specs.Float.Ieee.{sub, lt, le, eq}
 use Rattle.floats.specs.declared.Refusal.{Refusal}
-use Rattle.floats.specs.declared.Answer.{Answer}
-use Rattle.floats.specs.declared.Answer.TheVariants.{Value}
-use Rattle.floats.specs.Answers.{plus_zero}
+use Rattle.floats.specs.Answers.{Answer, plus_zero}
 use Rattle.floats.specs.Middle.{midpoint_at}
 use Rattle.floats.specs.laws.Order.{lt_le_clash}
 use Rattle.terms.specs.Numbers.{tolerance, width_tolerance}
@@ -17,8 +15,7 @@ use Rattle.brackets.specs.declared.Widened.TheVariants as widened
 use Rattle.brackets.specs.declared.Halved.{Halved}
 use Rattle.brackets.specs.declared.Halved.TheVariants as halved
 use Rattle.brackets.specs.declared.Root.{Root}
-use Rattle.brackets.specs.declared.Root.TheVariants.{Found, Refused}
-use Rattle.brackets.specs.Brackets.{small, bracketed, raised, widen, halve, on_widened, on_halved, halving, settled, widening, bracketed_root}
+use Rattle.brackets.specs.Brackets.{Searched, no_root, found_root, small, bracketed, raised, widen, halve, on_widened, on_halved, halving, settled, widening, bracketed_root}
 use Rattle.floats.specs.laws.Cases.{Holds, cases}
 
 -- ---- tests of floats
@@ -50,8 +47,8 @@ of_not_false false h = absurd (false-true (sym h))
 module _ (objective : Float → Answer) where
   -- A bracket holds the objective's values at its ends.
   pub record Ends (b : Bracket) : Type 0 where
-    pub lower-value : objective b.lower ≡ Value b.at_lower
-    pub upper-value : objective b.upper ≡ Value b.at_upper
+    pub lower-value : objective b.lower ≡ Ok b.at_lower
+    pub upper-value : objective b.upper ≡ Ok b.at_upper
 
   -- They are neither both above 0 nor both below: the lower end's isn't below, the upper end's isn't above.
   pub record Between (b : Bracket) : Type 0 where
@@ -60,39 +57,39 @@ module _ (objective : Float → Answer) where
     pub upper-not_above : lt plus_zero b.at_upper ≡ false
 
   pub data IsRoot (x : Float) : Type 0 where
-    near : (y : Float) → objective x ≡ Value y → small tolerance y ≡ true → IsRoot x
-    narrow : (b : Bracket) → Between b → midpoint_at b.lower b.upper 0 ≡ Value x → small width_tolerance (sub binary64 b.upper b.lower) ≡ true → IsRoot x
+    near : (y : Float) → objective x ≡ Ok y → small tolerance y ≡ true → IsRoot x
+    narrow : (b : Bracket) → Between b → midpoint_at b.lower b.upper 0 ≡ Ok x → small width_tolerance (sub binary64 b.upper b.lower) ≡ true → IsRoot x
 
   -- ---- what each round and the whole search keep
 
-  abbrev pub WidenedKeeps : Widened → Type 0
-  WidenedKeeps (widened.Next b) = Ends b
-  WidenedKeeps (widened.Last b) = Ends b
-  WidenedKeeps (widened.Refused r n) = Unit
+  abbrev pub WidenedKeeps : Searched Widened → Type 0
+  WidenedKeeps (Ok (widened.Next b)) = Ends b
+  WidenedKeeps (Ok (widened.Last b)) = Ends b
+  WidenedKeeps (Err e) = Unit
 
-  abbrev pub HalvedKeeps : Halved → Type 0
-  HalvedKeeps (halved.Next b) = Between b
-  HalvedKeeps (halved.Found x n) = IsRoot x
-  HalvedKeeps (halved.Refused r n) = Unit
+  abbrev pub HalvedKeeps : Searched Halved → Type 0
+  HalvedKeeps (Ok (halved.Next b)) = Between b
+  HalvedKeeps (Ok (halved.Found x)) = IsRoot x.at
+  HalvedKeeps (Err e) = Unit
 
-  abbrev pub RootKeeps : Root → Type 0
-  RootKeeps (Found x n) = IsRoot x
-  RootKeeps (Refused r n) = Unit
+  abbrev pub RootKeeps : Searched Root → Type 0
+  RootKeeps (Ok x) = IsRoot x.at
+  RootKeeps (Err e) = Unit
 
-  halve-refused : (r : Refusal) (n : ℕ) → Holds HalvedKeeps (halved.Refused r n)
+  halve-refused : (r : Refusal) (n : ℕ) → Holds HalvedKeeps (no_root r n)
   halve-refused r n = record { it = tt }
 
-  halve-near : (x : Float) (n : ℕ) (y : Float) → objective x ≡ Value y → small tolerance y ≡ true → Holds HalvedKeeps (halved.Found x n)
+  halve-near : (x : Float) (n : ℕ) (y : Float) → objective x ≡ Ok y → small tolerance y ≡ true → Holds HalvedKeeps (Ok (halved.Found (record { at = x; evaluations = n })))
   halve-near x n y e t = record { it = near y e t }
 
-  halve-narrow : (x : Float) (n : ℕ) (b : Bracket) → Between b → midpoint_at b.lower b.upper 0 ≡ Value x → small width_tolerance (sub binary64 b.upper b.lower) ≡ true → Holds HalvedKeeps (halved.Found x n)
+  halve-narrow : (x : Float) (n : ℕ) (b : Bracket) → Between b → midpoint_at b.lower b.upper 0 ≡ Ok x → small width_tolerance (sub binary64 b.upper b.lower) ≡ true → Holds HalvedKeeps (Ok (halved.Found (record { at = x; evaluations = n })))
   halve-narrow x n b k e t = record { it = narrow b k e t }
 
-  halve_up : (b : Bracket) (x y : Float) (n : ℕ) → Between b → objective x ≡ Value y → lt plus_zero y ≡ true → Holds HalvedKeeps (halved.Next (record { lower = x; upper = b.upper; at_lower = y; at_upper = b.at_upper; evaluations = n }))
+  halve_up : (b : Bracket) (x y : Float) (n : ℕ) → Between b → objective x ≡ Ok y → lt plus_zero y ≡ true → Holds HalvedKeeps (Ok (halved.Next (record { lower = x; upper = b.upper; at_lower = y; at_upper = b.at_upper; evaluations = n })))
   halve_up b x y n k e t =
       record { it = record { ends = record { lower-value = e; upper-value = k.ends.upper-value }; lower-not_below = not_below_lem plus_zero y t; upper-not_above = k.upper-not_above } }
 
-  halve_down : (b : Bracket) (x y : Float) (n : ℕ) → Between b → objective x ≡ Value y → lt plus_zero y ≡ false → Holds HalvedKeeps (halved.Next (record { lower = b.lower; upper = x; at_lower = b.at_lower; at_upper = y; evaluations = n }))
+  halve_down : (b : Bracket) (x y : Float) (n : ℕ) → Between b → objective x ≡ Ok y → lt plus_zero y ≡ false → Holds HalvedKeeps (Ok (halved.Next (record { lower = b.lower; upper = x; at_lower = b.at_lower; at_upper = y; evaluations = n })))
   halve_down b x y n k e t =
       record { it = record { ends = record { lower-value = k.ends.lower-value; upper-value = e }; lower-not_below = k.lower-not_below; upper-not_above = t } }
 
@@ -100,16 +97,16 @@ module _ (objective : Float → Answer) where
   unfolding halve
   halve-keeps b k = search (cases, halve-refused, halve-near, halve-narrow, halve_up, halve_down) depth 16 fits 4000
 
-  widen-refused : (r : Refusal) (n : ℕ) → Holds WidenedKeeps (widened.Refused r n)
+  widen-refused : (r : Refusal) (n : ℕ) → Holds WidenedKeeps (no_root r n)
   widen-refused r n = record { it = tt }
 
-  widen_next : (b : Bracket) → objective b.lower ≡ Value b.at_lower → objective b.upper ≡ Value b.at_upper → Holds WidenedKeeps (widened.Next b)
+  widen_next : (b : Bracket) → objective b.lower ≡ Ok b.at_lower → objective b.upper ≡ Ok b.at_upper → Holds WidenedKeeps (Ok (widened.Next b))
   widen_next b e f = record { it = record { lower-value = e; upper-value = f } }
 
-  widen_last : (b : Bracket) → Ends b → Holds WidenedKeeps (widened.Last b)
+  widen_last : (b : Bracket) → Ends b → Holds WidenedKeeps (Ok (widened.Last b))
   widen_last b k = record { it = k }
 
-  pub raised_keeps : (b : Bracket) → objective b.lower ≡ Value b.at_lower → objective b.upper ≡ Value b.at_upper → Holds WidenedKeeps (raised objective b)
+  pub raised_keeps : (b : Bracket) → objective b.lower ≡ Ok b.at_lower → objective b.upper ≡ Ok b.at_upper → Holds WidenedKeeps (raised objective b)
   unfolding raised
   raised_keeps b e f = search (cases, widen-refused, widen_next) depth 12 fits 4000
 
@@ -117,17 +114,17 @@ module _ (objective : Float → Answer) where
   unfolding widen
   widen_keeps lowest b k = search (cases, widen-refused, widen_last, raised_keeps) depth 16 fits 4000
 
-  root-refused : (r : Refusal) (n : ℕ) → Holds RootKeeps (Refused r n)
+  root-refused : (r : Refusal) (n : ℕ) → Holds RootKeeps (no_root r n)
   root-refused r n = record { it = tt }
 
-  root-near : (x : Float) (n : ℕ) (y : Float) → objective x ≡ Value y → small tolerance y ≡ true → Holds RootKeeps (Found x n)
+  root-near : (x : Float) (n : ℕ) (y : Float) → objective x ≡ Ok y → small tolerance y ≡ true → Holds RootKeeps (found_root x n)
   root-near x n y e t = record { it = near y e t }
 
-  by_halved : (go : Bracket → Root) → ((c : Bracket) → Between c → Holds RootKeeps (go c)) → (h : Halved) → Holds HalvedKeeps h → Holds RootKeeps (on_halved h Refused Found go)
+  by_halved : (go : Bracket → Searched Root) → ((c : Bracket) → Between c → Holds RootKeeps (go c)) → (h : Searched Halved) → Holds HalvedKeeps h → Holds RootKeeps (on_halved h no_root found_root go)
   unfolding on_halved
-  by_halved go p (halved.Next c) w = p c w.it
-  by_halved go p (halved.Found x n) w = record { it = w.it }
-  by_halved go p (halved.Refused r n) w = record { it = tt }
+  by_halved go p (Ok (halved.Next c)) w = p c w.it
+  by_halved go p (Ok (halved.Found x)) w = record { it = w.it }
+  by_halved go p (Err e) w = record { it = tt }
 
   pub halving-keeps : (left : ℕ) (b : Bracket) → Between b → Holds RootKeeps (halving objective left b)
   unfolding halving
@@ -144,11 +141,11 @@ module _ (objective : Float → Answer) where
   unfolding settled
   settled-keeps b k = search (cases, root-refused, root-near, halving_if) depth 12 fits 4000
 
-  by_widened : (go : Bracket → Root) → ((c : Bracket) → Ends c → Holds RootKeeps (go c)) → (w : Widened) → Holds WidenedKeeps w → Holds RootKeeps (on_widened w Refused (settled objective) go)
+  by_widened : (go : Bracket → Searched Root) → ((c : Bracket) → Ends c → Holds RootKeeps (go c)) → (w : Searched Widened) → Holds WidenedKeeps w → Holds RootKeeps (on_widened w no_root (settled objective) go)
   unfolding on_widened
-  by_widened go p (widened.Next c) w = p c w.it
-  by_widened go p (widened.Last c) w = settled-keeps c w.it
-  by_widened go p (widened.Refused r n) w = record { it = tt }
+  by_widened go p (Ok (widened.Next c)) w = p c w.it
+  by_widened go p (Ok (widened.Last c)) w = settled-keeps c w.it
+  by_widened go p (Err e) w = record { it = tt }
 
   pub widening-keeps : (lowest : Float) (left : ℕ) (b : Bracket) → Ends b → Holds RootKeeps (widening objective lowest left b)
   unfolding widening
@@ -156,7 +153,7 @@ module _ (objective : Float → Answer) where
   widening-keeps lowest (suc left) b k =
       by_widened (widening objective lowest left) (widening-keeps lowest left) (widen objective lowest b) (widen_keeps lowest b k)
 
-  widening_from : (lowest : Float) (b : Bracket) → objective b.lower ≡ Value b.at_lower → objective b.upper ≡ Value b.at_upper → Holds RootKeeps (widening objective lowest 64 b)
+  widening_from : (lowest : Float) (b : Bracket) → objective b.lower ≡ Ok b.at_lower → objective b.upper ≡ Ok b.at_upper → Holds RootKeeps (widening objective lowest 64 b)
   widening_from lowest b e f = widening-keeps lowest 64 b (record { lower-value = e; upper-value = f })
 
   pub root-keeps : (lower upper lowest : Float) → Holds RootKeeps (bracketed_root objective lower upper lowest)
@@ -164,5 +161,5 @@ module _ (objective : Float → Answer) where
   root-keeps lower upper lowest = search (cases, root-refused, widening_from) depth 8
 
   -- Whatever bracketed_root answers with is a root.
-  pub root-found : (lower upper lowest x : Float) (n : ℕ) → bracketed_root objective lower upper lowest ≡ Found x n → IsRoot x
+  pub root-found : (lower upper lowest x : Float) (n : ℕ) → bracketed_root objective lower upper lowest ≡ found_root x n → IsRoot x
   root-found lower upper lowest x n h = (subst (Holds RootKeeps) h (root-keeps lower upper lowest)).it

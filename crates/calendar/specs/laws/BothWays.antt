@@ -1,10 +1,9 @@
 -- The numbers and the dates of the days from 1 January 1900 on are each other's: the number of a day's date is the day, and the date of a date's number is the date. By induction, from day to day and over days, months and years. Assumes nothing.
-use Rattle.std.specs.Prelude.{ℕ, zero, suc, ◌+◌, ◌-◌, ◌≤◌, ◌≡◌, refl, Bool, true, false, T, ltb}
+use Rattle.std.specs.Prelude.{ℕ, zero, suc, ◌+◌, ◌-◌, ◌≤◌, ◌≡◌, refl, Bool, true, false, T, ltb, Result, Ok, Err, Some}
 use Rattle.std.proofs.Common.{sym, ap, subst, ◌∙◌, add-one, arith, le-ltb, ltb-false}
 use Rattle.calendar.specs.declared.Date.{Date}
-use Rattle.calendar.specs.declared.Dated.{Dated}
-use Rattle.calendar.specs.declared.Dated.TheVariants.{Day, NoSuchDate, OutOfRange}
-use Rattle.calendar.specs.declared.Dating.TheVariants.{On}
+use Rattle.calendar.specs.declared.DateError.{DateError}
+use Rattle.calendar.specs.declared.DateError.TheVariants.{NoSuchDate, OutOfRange}
 use Rattle.calendar.specs.Calendar.{month_length, exists, number_of, day_after, date_of, dated, dating, last_day}
 use Rattle.calendar.specs.laws.Days.{date, Exists, exists_is, month_bounds, in_month, at_month_end, at_year_end, after-exists, after-year, after-number}
 
@@ -90,7 +89,7 @@ date_of-number d t f = back d.year d.month d.day f (exists_is d.year d.month d.d
 
 -- ---- as the two functions answer
 
-pub dated-of_day : (n : ℕ) → n ≤ last_day → dated (date_of n) ≡ Day n
+pub dated-of_day : (n : ℕ) → n ≤ last_day → dated (date_of n) ≡ Ok n
 unfolding dated
 dated-of_day n h =
     rw (number_of-date n, true_of (exists (date_of n)) (date_exists_lem n).0, le-ltb (date_of n).year 1900 (date_exists_lem n).1, le-ltb last_day n h)
@@ -99,22 +98,22 @@ dated-of_day n h =
     true_of true t = refl
     true_of false t = absurd t
 
-pub dating_of_date : (d : Date) (n : ℕ) → dated d ≡ Day n → dating n ≡ On d
+pub dating_of_date : (d : Date) (n : ℕ) → dated d ≡ Ok n → dating n ≡ Some d
 unfolding dated dating
 dating_of_date d n = go (exists d) (ltb d.year 1900) (ltb last_day (number_of d)) refl refl refl
   where
-    day_same : (a b : ℕ) → Day a ≡ Day b → a ≡ b
+    day_same : (a b : ℕ) → ◌≡◌ {A = Result ℕ DateError} (Ok a) (Ok b) → a ≡ b
     day_same a b e = cc
 
-    not_a_day : (x : Dated) (a : ℕ) → x ≡ OutOfRange → x ≡ Day a → ⊥
-    not_a_day x a e f = let z : ◌≡◌ {A = ℕ} 0 1 = cc in omega arith
+    not_a_day : (x : Result ℕ DateError) (a : ℕ) → x ≡ Err OutOfRange → x ≡ Ok a → ⊥
+    not_a_day x a e f = cc
 
-    not_a_date : (x : Dated) (a : ℕ) → x ≡ NoSuchDate → x ≡ Day a → ⊥
-    not_a_date x a e f = let z : ◌≡◌ {A = ℕ} 0 1 = cc in omega arith
+    not_a_date : (x : Result ℕ DateError) (a : ℕ) → x ≡ Err NoSuchDate → x ≡ Ok a → ⊥
+    not_a_date x a e f = cc
 
-    go : (a b c : Bool) → exists d ≡ a → ltb d.year 1900 ≡ b → ltb last_day (number_of d) ≡ c → dated d ≡ Day n → dating n ≡ On d
+    go : (a b c : Bool) → exists d ≡ a → ltb d.year 1900 ≡ b → ltb last_day (number_of d) ≡ c → dated d ≡ Ok n → dating n ≡ Some d
     go true false false e f g p =
-        let q : dated d ≡ Day (number_of d) = rw (e, f, g) in
+        let q : dated d ≡ Ok (number_of d) = rw (e, f, g) in
         let m : number_of d ≡ n = day_same (number_of d) n (sym q ∙ p) in
         let o : date_of n ≡ d = ap date_of (sym m) ∙ date_of-number d (subst T (sym e) tt) (ltb-false d.year 1900 f) in
         let t : ltb last_day n ≡ false = ap (ltb last_day) (sym m) ∙ g in

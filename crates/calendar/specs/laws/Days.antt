@@ -4,7 +4,6 @@ use Rattle.std.proofs.Common.{sym, ap, subst, ◌∙◌, inl, inr, le_antisymm, 
 use borrow.Author.Tests.{lt-ltb, le-ltb, le-leb, leb-true, leb-false}
 use lib.Dec.{T, leb, leb→le}
 use Rattle.calendar.specs.declared.Date.{Date}
-use Rattle.calendar.specs.declared.Dated.TheVariants.{Day}
 use Rattle.calendar.specs.Calendar.{leap, year_length, month_length, days_of_years, days_of_months, exists, number_of, day_after}
 
 abbrev pub date : ℕ → ℕ → ℕ → Date
@@ -194,6 +193,3 @@ after-number y m d f h =
 -- The year 2448 begins after the last day.
 pub beyond : (y m d : ℕ) → 2447 < y → 200000 < number_of (date y m d)
 beyond y m d h = omega (arith, number_is y m d, years_least (y - 1900))
-
-pub day_is : {a b : ℕ} → a ≡ b → Day a ≡ Day b
-day_is e = ap Day e

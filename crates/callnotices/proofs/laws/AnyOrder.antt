@@ -1,13 +1,12 @@
 -- Notices in another order give the same list: for each series the same notice stands, since the highest versions agree and no two notices have one series and version. Assumes nothing.
-use Rattle.std.specs.Prelude.{◌≡◌, Bool, true, false, cond, List, [], ◌∷◌, ◌++◌, map, length, get_or, T, eqb}
+use Rattle.std.specs.Prelude.{◌≡◌, Bool, true, false, cond, List, [], ◌∷◌, ◌++◌, map, length, get_or, T, eqb, Ok}
 use Rattle.std.proofs.Math.Path.{refl}
 use Rattle.std.proofs.Common.{sym, ap, ◌∙◌, inl, inr, arith, T_not, eqb→eq, lt-ltb, le-ltb}
 use Prim.Native.Nat.{ℕ, zero, suc, ◌≤◌, ◌<◌}
 use Rattle.std.proofs.lemmas.List.{length-map}
 use Rattle.std.specs.Float.Ieee.Fits.{eq→eqb}
-use Rattle.floats.specs.Answers.{plus_zero}
-use Rattle.terms.specs.declared.Check.{Check}
-use Rattle.terms.specs.declared.Check.TheVariants.{Passed}
+use Rattle.floats.specs.Answers.{plus_zero, Check}
+use Rattle.floats.specs.Reasons.{reason_number}
 use Rattle.terms.specs.laws.Sequence.{indexed-passed}
 use Rattle.floats.specs.laws.Fractions.{decide}
 use Rattle.terms.specs.laws.Searching.{below_or_not}
@@ -21,6 +20,7 @@ use Rattle.callnotices.specs.laws.Appending.{map_next}
 use Rattle.callnotices.specs.laws.Firsts.{both_of, first_holds, first_none, first_below, highest-over, HighestOf, no_version, version, highest_of}
 use Rattle.callnotices.specs.laws.Alike.{Alike, both_pass, both_refuse}
 use Rattle.callnotices.proofs.laws.Pairs.{Same, Pairs, forward, backward, repeat_two, checks-alike}
+use Rattle.floats.specs.declared.Reason.TheVariants as reason
 
 -- ---- the highest version of a series
 
@@ -49,7 +49,7 @@ data Stand (a b : Notices) (i j : ℕ) : Type 0 where
 
 -- No two notices have one series and version.
 abbrev pub Single : Notices → Type 0
-Single n = no_repeats n.series n.versions ≡ Passed
+Single n = no_repeats n.series n.versions ≡ Ok tt
 
 pub one_version : (n : Notices) → Single n → (s v i k : ℕ) → i < size n → k < size n → T (is_version n.series n.versions s v i) → T (is_version n.series n.versions s v k) → i ≡ k
 one_version n h s v i k li lk t u =
@@ -62,7 +62,7 @@ one_version n h s v i k li lk t u =
           let w = repeat_two n i k li lk (λ q. T_not (eqb i k) e (eq→eqb q))
           (eqb→eq (get_or n.series i 0) s x.0 ∙ sym (eqb→eq (get_or n.series k 0) s y.0))
           (eqb→eq (get_or n.versions i 0) v x.1 ∙ sym (eqb→eq (get_or n.versions k 0) v y.1)) in
-          T_not (repeats_at n.series n.versions w.index) (indexed-passed 43 (repeats_at n.series n.versions) n.series h w.index w.below) w.holds)
+          T_not (repeats_at n.series n.versions w.index) (indexed-passed reason.NoticeRepeated (repeats_at n.series n.versions) n.series h w.index w.below) w.holds)
     ]
 
 -- The notice of a series with a version, and the first of them.
@@ -157,4 +157,4 @@ any_order a b o = go (notice_checks a) (notice_checks b) refl refl (checks-alike
         rw (← accepted a e refl refl, ← accepted b f refl refl) (list_same a b o (passed-each a (sym e) 3))
     go c d e f (both_refuse r q n) =
         rw (← refused a e refl refl, ← refused b f refl refl)
-        (record { same_number = n; same_count = refl; same_starts = refl; same_ends = refl; same_strikes = refl })
+        (record { same_number = ap reason_number n; same_count = refl; same_starts = refl; same_ends = refl; same_strikes = refl })

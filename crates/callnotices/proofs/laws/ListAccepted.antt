@@ -1,11 +1,11 @@
 -- An accepted list passes the checks of calls: each of its entries is a set notice, whose call fields were checked. Assumes nothing.
-use Rattle.std.specs.Prelude.{◌≡◌, refl, Bool, true, false, not, cond, ◌&&◌, ◌||◌, List, [], ◌∷◌, ◌++◌, map, ℕ, zero, suc, ◌+◌, ◌-◌, ◌≤◌, ◌<◌, length, get_or, take, replicate, T, ltb}
+use Rattle.std.specs.Prelude.{◌≡◌, refl, Bool, true, false, not, cond, ◌&&◌, ◌||◌, List, [], ◌∷◌, ◌++◌, map, ℕ, zero, suc, ◌+◌, ◌-◌, ◌≤◌, ◌<◌, length, get_or, take, replicate, T, ltb, Ok}
 use Rattle.std.proofs.Common.{sym, ap, ◌∙◌, arith, length-append, nltb→le}
 use Rattle.std.proofs.lemmas.List.{length-map}
 use Rattle.std.proofs.Math.Seq.{take-append_seam}
 use Rattle.std.specs.Float.Ieee.Fits.{eq→eqb}
 use Rattle.floats.specs.Answers.{plus_zero}
-use Rattle.terms.specs.declared.Check.TheVariants.{Passed}
+use Rattle.floats.specs.declared.Reason.{Reason}
 use Rattle.terms.specs.Numbers.{million}
 use Rattle.terms.specs.Terms.{CallSchedule}
 use Rattle.terms.specs.Checks.{indexed, no_day, not_above}
@@ -22,6 +22,7 @@ use Rattle.callnotices.specs.Rules.{ListAccepted}
 use Rattle.callnotices.specs.laws.Answers.{accepted, passed_counted, passed-each, passed_of}
 use Rattle.callnotices.specs.laws.Appending.{map_at}
 use Rattle.callnotices.proofs.laws.RisingSeries.{entry_set}
+use Rattle.floats.specs.declared.Reason.TheVariants as reason
 
 few_more : (is : List ℕ) (i s : ℕ) (b : Bool) → length is ≤ s → length (cond b (is ++ (i ∷ [])) is) ≤ suc s
 few_more is i s true h = let n : length (is ++ (i ∷ [])) ≡ length is + 1 = length-append is (i ∷ []) in omega arith
@@ -35,12 +36,12 @@ few-entries n (suc s) =
     few_more (entries_to n s) i s (yields n.actions i) (few-entries n s)
 
 -- A cause that the checks found at no set notice is there at no entry, whose notice is a set.
-not_there : (n : Notices) → notice_checks n ≡ Passed → (number : ℕ) (bad : ℕ → Bool) → indexed number (λ i. is_set n.actions i && bad i) n.actions ≡ Passed → (k : ℕ) → k < length (entries n) → T (not (bad (get_or (entries n) k 0)))
-not_there n h number bad e k l =
+not_there : (n : Notices) → notice_checks n ≡ Ok tt → (why : Reason) (bad : ℕ → Bool) → indexed why (λ i. is_set n.actions i && bad i) n.actions ≡ Ok tt → (k : ℕ) → k < length (entries n) → T (not (bad (get_or (entries n) k 0)))
+not_there n h why bad e k l =
     let i = get_or (entries n) k 0 in
     let (inside, set) = entry_set n h k l in
     not_and_r (is_set n.actions i) (bad i)
-    (indexed-passed number (λ j. is_set n.actions j && bad j) n.actions e i (let p = (passed_counted n refl h).parallel.actions_too in omega arith))
+    (indexed-passed why (λ j. is_set n.actions j && bad j) n.actions e i (let p = (passed_counted n refl h).parallel.actions_too in omega arith))
     (eq→eqb set)
 
 -- ---- the list as calls
@@ -57,7 +58,7 @@ calls_of n is = record { starts = map (start_at n) is; ends = map (end_at n) is;
 as_calls : (n : Notices) (is : List ℕ) → schedule_of (list_of n is) ≡ calls_of n is
 as_calls n is = rw (from_places 0 (start_at n) is, from_places 0 (end_at n) is, from_places plus_zero (strike_at n) is) refl
 
-module _ (n : Notices) (h : notice_checks n ≡ Passed) where
+module _ (n : Notices) (h : notice_checks n ≡ Ok tt) where
   abbrev es : List ℕ
   es = entries n
 
@@ -85,23 +86,23 @@ module _ (n : Notices) (h : notice_checks n ≡ Passed) where
             (λ k l.
             let u = of_entries (start_at n) k l in
             let i = get_or es k 0 in
-            let b = neither (no_day (start_at n i)) (no_day (end_at n i)) (not_there n h 3 (λ j. no_day (start_at n j) || no_day (end_at n j)) (passed-each n h 4) k u) in
+            let b = neither (no_day (start_at n i)) (no_day (end_at n i)) (not_there n h reason.Day (λ j. no_day (start_at n j) || no_day (end_at n j)) (passed-each n h 4) k u) in
             record {
               start-day = rw (map_at (start_at n) es k 0 0 u) (nltb→le 200000 (start_at n i) b.0);
               end-day = rw (map_at (end_at n) es k 0 0 u) (nltb→le 200000 (end_at n i) b.1);
             });
         strikes =
-            indexed_of_none 4 (λ k. not_above million (strike_of calls k)) calls.strikes
+            indexed_of_none reason.Number (λ k. not_above million (strike_of calls k)) calls.strikes
             (λ k l.
             let u = of_entries (strike_at n) k l in
-            rw (map_at (strike_at n) es k 0 plus_zero u) (not_there n h 4 (λ j. not_above million (strike_at n j)) (passed-each n h 5) k u));
+            rw (map_at (strike_at n) es k 0 plus_zero u) (not_there n h reason.Number (λ j. not_above million (strike_at n j)) (passed-each n h 5) k u));
         ordered =
             call_order_of calls
             (λ k l.
             let u = of_entries (start_at n) k l in
             let i = get_or es k 0 in
             rw (map_at (start_at n) es k 0 0 u, map_at (end_at n) es k 0 0 u)
-            (nltb→le (end_at n i) (start_at n i) (not_there n h 5 (λ j. ltb (end_at n j) (start_at n j)) (passed-each n h 6) k u)));
+            (nltb→le (end_at n i) (start_at n i) (not_there n h reason.CallOrder (λ j. ltb (end_at n j) (start_at n j)) (passed-each n h 6) k u)));
       }
 
 pub list_accepted : ListAccepted

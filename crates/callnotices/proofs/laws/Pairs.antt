@@ -1,9 +1,9 @@
 -- Notices in another order: each has its own in the other, both ways; so the checks of the two are alike. Assumes nothing.
-use Rattle.std.specs.Prelude.{◌≡◌, refl, Bool, not, ◌&&◌, ◌||◌, ℕ, zero, suc, ◌<◌, length, get_or, T, eqb, ltb}
+use Rattle.std.specs.Prelude.{◌≡◌, refl, Bool, not, ◌&&◌, ◌||◌, ℕ, zero, suc, ◌<◌, length, get_or, T, eqb, ltb, Ok}
 use Rattle.std.proofs.Common.{sym, ap, ◌∙◌, inl, inr, arith, eqb→eq, ltb→lt, lt→ltb}
 use Rattle.std.proofs.Math.Dec.{eqb-suc-zero}
 use Rattle.std.specs.Float.Ieee.Fits.{eq→eqb}
-use Rattle.terms.specs.declared.Check.TheVariants.{Passed}
+use Rattle.floats.specs.declared.Reason.{Reason}
 use Rattle.terms.specs.Numbers.{million}
 use Rattle.terms.specs.Checks.{first_of, single, lowest, no_day, not_above}
 use Rattle.terms.specs.laws.Sequence.{single_of_not}
@@ -16,6 +16,7 @@ use Rattle.callnotices.specs.Checks.{unequal, wrong_at, repeats_at, set_day_wron
 use Rattle.callnotices.specs.Rules.{OtherOrder}
 use Rattle.callnotices.specs.laws.Firsts.{both, both_of, first_holds, first_below}
 use Rattle.callnotices.specs.laws.Alike.{Alike, no_check, one_more, alike_of, alike_first, alike-lowest}
+use Rattle.floats.specs.declared.Reason.TheVariants as reason
 
 -- Notice i of b is notice j of a.
 pub record Same (a b : Notices) (i j : ℕ) : Type 0 where
@@ -155,11 +156,11 @@ module _ (a b : Notices) (p : Pairs a b) where
 
 -- ---- all checks
 
-count-passed : (n : Notices) → Parallel n → notice_count n ≡ Passed
+count-passed : (n : Notices) → Parallel n → notice_count n ≡ Ok tt
 count-passed n p =
     let count = size n in
     let e : (ℕ → Bool) = λ m. not (eqb m count) in
-    single_of_not 2 0 (unequal count (length n.versions) (length n.actions) (length n.starts) (length n.ends) (length n.strikes))
+    single_of_not reason.Count 0 (unequal count (length n.versions) (length n.actions) (length n.starts) (length n.ends) (length n.strikes))
     (not_or (e (length n.versions)) _ (not_unequal (length n.versions) count p.versions_too)
     (not_or (e (length n.actions)) _ (not_unequal (length n.actions) count p.actions_too)
     (not_or (e (length n.starts)) _ (not_unequal (length n.starts) count p.starts_too)
@@ -171,37 +172,37 @@ module _ (a b : Notices) (o : OtherOrder a b) where
   count-alike = alike_of (notice_count a) (notice_count b) (count-passed b o.second-parallel ∙ sym (count-passed a o.first_parallel))
 
   many-alike : Alike (too_many a.series) (too_many b.series)
-  many-alike = alike_of (too_many a.series) (too_many b.series) (ap (λ (n : ℕ). single 41 0 (ltb 256 n)) o.all_paired)
+  many-alike = alike_of (too_many a.series) (too_many b.series) (ap (λ (n : ℕ). single reason.NoticeCount 0 (ltb 256 n)) o.all_paired)
 
   repeats-alike : Alike (no_repeats a.series a.versions) (no_repeats b.series b.versions)
   repeats-alike =
-      alike-lowest 43 (repeats_at a.series a.versions) (repeats_at b.series b.versions) (size a) (size b)
+      alike-lowest reason.NoticeRepeated (repeats_at a.series a.versions) (repeats_at b.series b.versions) (size a) (size b)
       (repeat_there b a (backward a b o)) (repeat_there a b (forward a b o))
 
   -- A cause that a notice has wherever it stands.
-  cause-alike : (number : ℕ) (bad worse : ℕ → Bool) → ((i j : ℕ) → Same a b i j → worse i ≡ bad j) → ((i j : ℕ) → Same b a i j → bad i ≡ worse j) → (count many : ℕ) → count ≡ size a → many ≡ size b → Alike (lowest number bad count 0) (lowest number worse many 0)
-  cause-alike number bad worse f g count many e d =
+  cause-alike : (why : Reason) (bad worse : ℕ → Bool) → ((i j : ℕ) → Same a b i j → worse i ≡ bad j) → ((i j : ℕ) → Same b a i j → bad i ≡ worse j) → (count many : ℕ) → count ≡ size a → many ≡ size b → Alike (lowest why bad count 0) (lowest why worse many 0)
+  cause-alike why bad worse f g count many e d =
       rw (e, d)
-      (alike-lowest number bad worse (size a) (size b) (cause-there b a (backward a b o) worse bad g) (cause-there a b (forward a b o) bad worse f))
+      (alike-lowest why bad worse (size a) (size b) (cause-there b a (backward a b o) worse bad g) (cause-there a b (forward a b o) bad worse f))
 
   range_alike : Alike (notice_range a.series a.versions a.actions) (notice_range b.series b.versions b.actions)
   range_alike =
-      cause-alike 42 (wrong_at a.series a.versions a.actions) (wrong_at b.series b.versions b.actions)
+      cause-alike reason.NoticeRange (wrong_at a.series a.versions a.actions) (wrong_at b.series b.versions b.actions)
       (wrong_same a b) (wrong_same b a) (size a) (size b) refl refl
 
   days-alike : Alike (set_days a.actions a.starts a.ends) (set_days b.actions b.starts b.ends)
   days-alike =
-      cause-alike 3 (set_day_wrong a.actions a.starts a.ends) (set_day_wrong b.actions b.starts b.ends)
+      cause-alike reason.Day (set_day_wrong a.actions a.starts a.ends) (set_day_wrong b.actions b.starts b.ends)
       (day_same a b) (day_same b a) (length a.actions) (length b.actions) o.first_parallel.actions_too o.second-parallel.actions_too
 
   strikes-alike : Alike (set_strikes a.actions a.strikes) (set_strikes b.actions b.strikes)
   strikes-alike =
-      cause-alike 4 (set_strike_wrong a.actions a.strikes) (set_strike_wrong b.actions b.strikes)
+      cause-alike reason.Number (set_strike_wrong a.actions a.strikes) (set_strike_wrong b.actions b.strikes)
       (strike_same a b) (strike_same b a) (length a.actions) (length b.actions) o.first_parallel.actions_too o.second-parallel.actions_too
 
   order_alike : Alike (set_order a.actions a.starts a.ends) (set_order b.actions b.starts b.ends)
   order_alike =
-      cause-alike 5 (set_ends_early a.actions a.starts a.ends) (set_ends_early b.actions b.starts b.ends)
+      cause-alike reason.CallOrder (set_ends_early a.actions a.starts a.ends) (set_ends_early b.actions b.starts b.ends)
       (early_same a b) (early_same b a) (length a.actions) (length b.actions) o.first_parallel.actions_too o.second-parallel.actions_too
 
   -- The checks of the two are alike.

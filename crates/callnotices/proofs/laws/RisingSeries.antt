@@ -1,5 +1,5 @@
 -- The list's order is by series, rising: each entry is a set notice's, the highest version of its series, and none of these is missing. Assumes nothing.
-use Rattle.std.specs.Prelude.{◌≡◌, refl, Bool, true, false, cond, List, [], ◌∷◌, ◌++◌, map, length, get_or, replicate, T, eqb, ltb}
+use Rattle.std.specs.Prelude.{◌≡◌, refl, Bool, true, false, cond, List, [], ◌∷◌, ◌++◌, map, length, get_or, replicate, T, eqb, ltb, Ok}
 use Rattle.std.proofs.Common.{sym, ◌∙◌, arith, eq-or-lt_of_le, le_of_suc-le-suc, length-append, eqb→eq, ltb→lt, lt→ltb}
 use Rattle.std.proofs.Math.Logic.{inl, inr}
 use Prim.Native.Nat.{ℕ, zero, suc, ◌+◌, ◌-◌, ◌≤◌, ◌<◌}
@@ -8,7 +8,6 @@ use Rattle.std.proofs.Math.ListN.{get_or-append}
 use Rattle.std.proofs.Math.Seq.{get_or-append_seam}
 use Rattle.std.specs.Float.Ieee.Fits.{eq→eqb}
 use Rattle.floats.specs.Answers.{plus_zero}
-use Rattle.terms.specs.declared.Check.TheVariants.{Passed}
 use Rattle.terms.specs.Checks.{outside}
 use Rattle.terms.specs.laws.Sequence.{indexed-passed}
 use Rattle.terms.specs.laws.Ranges.{none_of, inside_of}
@@ -22,6 +21,7 @@ use Rattle.callnotices.specs.laws.Answers.{accepted, passed_counted, passed-each
 use Rattle.callnotices.specs.laws.Appending.{map_at}
 use Rattle.callnotices.specs.laws.Firsts.{both, both_of, first_holds, first_below, highest-over, HighestOf, no_version, version, highest_of}
 use Rattle.callnotices.proofs.laws.AnyOrder.{Single, one_version}
+use Rattle.floats.specs.declared.Reason.TheVariants as reason
 
 module _ (n : Notices) (parallel : Parallel n) where
   -- A set notice of a series, of which no version is higher.
@@ -161,7 +161,7 @@ place_of nil f is k h =
     get_or-append (map f is) (replicate (64 - length (map f is)) nil) nil k (let e : length (map f is) ≡ length is = length-map is f in omega arith)
     ∙ map_at f is k 0 nil h
 
-module _ (n : Notices) (h : notice_checks n ≡ Passed) where
+module _ (n : Notices) (h : notice_checks n ≡ Ok tt) where
   parallel_of : Parallel n
   parallel_of = (passed_counted n refl h).parallel
 
@@ -192,7 +192,7 @@ module _ (n : Notices) (h : notice_checks n ≡ Passed) where
       in_range i l =
           inside_of 1 64 (series_at n i)
           (none_of (outside 1 64 (series_at n i)) (outside 1 65535 (version_at n i)) (ltb 1 (action_at n i))
-          (indexed-passed 42 (wrong_at n.series n.versions n.actions) n.series (passed-each n h 2) i l)).0
+          (indexed-passed reason.NoticeRange (wrong_at n.series n.versions n.actions) n.series (passed-each n h 2) i l)).0
 
       found : (i : ℕ) → i < size n → action_at n i ≡ 0 → Highest n i → (s : ℕ) → series_at n i ≡ s → Taken (λ k. get_or (entries n) k 0) (length (entries n)) i
       found i l z top zero e = absurd (let r = (in_range i l).0 in omega arith)

@@ -1,20 +1,20 @@
--- Two checks are alike where both pass, or both refuse with the same number; the places may differ. Assumes nothing.
-use Rattle.std.specs.Prelude.{◌≡◌, refl, Bool, List, [], ◌∷◌, ℕ, ◌<◌, T}
-use Rattle.std.proofs.Common.{arith, T_not}
+-- Two checks are alike where both pass, or both refuse with the same reason; the places may differ. Assumes nothing.
+use Rattle.std.specs.Prelude.{◌≡◌, refl, Bool, List, [], ◌∷◌, ℕ, ◌<◌, T, Ok, Err}
+use Rattle.std.proofs.Common.{sym, ◌∙◌, arith, T_not}
+use Rattle.floats.specs.declared.Reason.{Reason}
 use Rattle.floats.specs.declared.Refusal.{Refusal}
-use Rattle.terms.specs.declared.Check.{Check}
-use Rattle.terms.specs.declared.Check.TheVariants.{Passed, Refused}
+use Rattle.floats.specs.Answers.{Check}
 use Rattle.terms.specs.Checks.{on_check, first_of, lowest}
 use Rattle.terms.specs.laws.Sequence.{Sought, nowhere, found, sought}
 use Rattle.terms.specs.laws.Searching.{Somewhere}
 
 pub data Alike : Check → Check → Type 0 where
-  both_pass : Alike Passed Passed
-  both_refuse : (r q : Refusal) → q.number ≡ r.number → Alike (Refused r) (Refused q)
+  both_pass : Alike (Ok tt) (Ok tt)
+  both_refuse : (r q : Refusal) → q.reason ≡ r.reason → Alike (Err r) (Err q)
 
 pub alike_self : (c : Check) → Alike c c
-alike_self Passed = both_pass
-alike_self (Refused r) = both_refuse r r refl
+alike_self (Ok tt) = both_pass
+alike_self (Err r) = both_refuse r r refl
 
 pub alike_of : (c d : Check) → d ≡ c → Alike c d
 alike_of c d e = rw e (alike_self c)
@@ -31,19 +31,19 @@ alike_first (one_more {cs = cs} {ds = ds} both_pass k) = alike_first k
 alike_first (one_more {cs = cs} {ds = ds} (both_refuse r q e) k) = both_refuse r q e
 
 -- A cause over indices that holds somewhere in one list where it holds somewhere in the other.
-module _ (number : ℕ) (bad worse : ℕ → Bool) (count many : ℕ) where
+module _ (why : Reason) (bad worse : ℕ → Bool) (count many : ℕ) where
   abbrev Goes : Type 0
   Goes = (i : ℕ) → i < count → T (bad i) → Somewhere worse many
 
   abbrev Comes : Type 0
   Comes = (i : ℕ) → i < many → T (worse i) → Somewhere bad count
 
-  pub alike-lowest : Goes → Comes → Alike (lowest number bad count 0) (lowest number worse many 0)
-  alike-lowest goes comes = go (lowest number bad count 0) (lowest number worse many 0) (sought number bad count 0) (sought number worse many 0)
+  pub alike-lowest : Goes → Comes → Alike (lowest why bad count 0) (lowest why worse many 0)
+  alike-lowest goes comes = go (lowest why bad count 0) (lowest why worse many 0) (sought why bad count 0) (sought why worse many 0)
     where
-      go : (c d : Check) → Sought number bad count 0 c → Sought number worse many 0 d → Alike c d
+      go : (c d : Check) → Sought why bad count 0 c → Sought why worse many 0 d → Alike c d
       go c d (nowhere e none) (nowhere f never) = rw (e, f) both_pass
-      go c d (found r e at) (found q f to) = rw (e, f) (both_refuse r q (let x = at.same_number in let y = to.same_number in omega arith))
+      go c d (found r e at) (found q f to) = rw (e, f) (both_refuse r q (to.same_reason ∙ sym at.same_reason))
       go c d (nowhere e none) (found q f to) =
           let w = comes q.place (let u = to.to in omega arith) to.holds in
           absurd (T_not (bad w.index) (none w.index (omega arith) (let u = w.below in omega arith)) w.holds)

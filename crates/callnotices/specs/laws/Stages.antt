@@ -1,20 +1,20 @@
 -- The checks of notices in stages, and what is known of the notices where the first stage passes. Assumes nothing.
-use Rattle.std.specs.Prelude.{◌≡◌, refl, not, ◌||◌, List, [], ◌∷◌, ℕ, zero, suc, ◌≤◌, length, get_or, eqb, ltb, Float}
+use Rattle.std.specs.Prelude.{◌≡◌, refl, not, ◌||◌, List, [], ◌∷◌, ℕ, zero, suc, ◌≤◌, length, get_or, eqb, ltb, Float, Ok}
 use Rattle.std.proofs.Common.{sym, ◌∙◌, nltb→le}
-use Rattle.terms.specs.declared.Check.{Check}
-use Rattle.terms.specs.declared.Check.TheVariants.{Passed}
+use Rattle.floats.specs.Answers.{Check}
 use Rattle.terms.specs.Checks.{first_of}
 use Rattle.terms.specs.laws.Sequence.{Passes, passes_of_first, single-passed}
 use Rattle.terms.specs.laws.Ranges.{not_or_l, not_or_r, same_length}
 use Rattle.terms.specs.laws.Stages.{Tells, in_stages}
 use Rattle.callnotices.specs.Notices.{Notices, Parallel, size}
 use Rattle.callnotices.specs.Checks.{notice_count, too_many, notice_range, no_repeats, set_days, set_strikes, set_order, notice_checks}
+use Rattle.floats.specs.declared.Reason.TheVariants as reason
 
 -- Each of the checks is passed, by index.
-pub passed_at : (cs : List Check) → first_of cs ≡ Passed → (i : ℕ) → get_or cs i Passed ≡ Passed
+pub passed_at : (cs : List Check) → first_of cs ≡ Ok tt → (i : ℕ) → get_or cs i (Ok tt) ≡ Ok tt
 passed_at cs h i = at cs i (passes_of_first cs h)
   where
-    at : (xs : List Check) (k : ℕ) → Passes xs → get_or xs k Passed ≡ Passed
+    at : (xs : List Check) (k : ℕ) → Passes xs → get_or xs k (Ok tt) ≡ Ok tt
     at [] k p = refl
     at (x ∷ xs) zero p = p.0
     at (x ∷ xs) (suc k) p = at xs k p.1
@@ -49,7 +49,7 @@ pub record Counted (n : Notices) : Type 0 where
   pub parallel : Parallel n
   pub few : size n ≤ 256
 
-parallel-six : (n : Notices) → notice_count n ≡ Passed → Parallel n
+parallel-six : (n : Notices) → notice_count n ≡ Ok tt → Parallel n
 parallel-six n h =
     let count = size n in
     let v = not (eqb (length n.versions) count) in
@@ -57,7 +57,7 @@ parallel-six n h =
     let s = not (eqb (length n.starts) count) in
     let e = not (eqb (length n.ends) count) in
     let k = not (eqb (length n.strikes) count) in
-    let none = single-passed 2 0 (v || (a || (s || (e || k)))) h in
+    let none = single-passed reason.Count 0 (v || (a || (s || (e || k)))) h in
     let none_2 = not_or_r v (a || (s || (e || k))) none in
     let none-3 = not_or_r a (s || (e || k)) none_2 in
     let none-4 = not_or_r s (e || k) none-3 in
@@ -69,12 +69,12 @@ parallel-six n h =
       strikes_too = same_length (length n.strikes) count (not_or_r e k none-4);
     }
 
-pub counted : (n : Notices) → notice_counts n ≡ Passed → Counted n
+pub counted : (n : Notices) → notice_counts n ≡ Ok tt → Counted n
 counted n h =
     let checks = notice_count n ∷ too_many n.series ∷ [] in
     record {
       parallel = parallel-six n (passed_at checks h 0);
-      few = nltb→le 256 (size n) (single-passed 41 0 (ltb 256 (size n)) (passed_at checks h 1));
+      few = nltb→le 256 (size n) (single-passed reason.NoticeCount 0 (ltb 256 (size n)) (passed_at checks h 1));
     }
 
 pub counts_tell : (n : Notices) {r : Check} → r ≡ notice_counts n → Tells r (notice_counts n) (Counted n)

@@ -1,16 +1,15 @@
 -- Each probability before clamping is at least 0.04, and these three are the ones that are clamped: for every variance above 2^−52, a middle within one million and finite results. Assumes nothing.
-use Rattle.std.specs.Prelude.{ℕ, ◌≡◌, refl, Bool, true, false, not, T, ℤ, Float}
+use Rattle.std.specs.Prelude.{ℕ, ◌≡◌, refl, Bool, true, false, not, T, ℤ, Float, Ok}
 use Rattle.std.proofs.Math.Dec.{not_T}
 use Rattle.std.specs.Float.Ieee.{binary64, mul, neg, le, lt, to_signed}
 use Rattle.std.specs.Float.Ieee.Bits.{is_false}
 use Rattle.std.specs.Float.Ieee.Fits.{mul-fits, div-fits}
 use Rattle.std.specs.Float.Ieee.Scale.{finite}
-use Rattle.floats.specs.Answers.{plus_zero, on_answer, not_finite}
+use Rattle.floats.specs.Answers.{plus_zero, on_outcome, not_finite}
 use Rattle.floats.specs.laws.Order.{not_le_of_lt}
 use Rattle.floats.specs.laws.Whole.{round-answers}
 use Rattle.rounded.specs.laws.RootBounds.{sqrt_at_is}
 use Rattle.terms.specs.Numbers.{float, epsilon, million}
-use Rattle.terms.specs.Outcomes.{given, on_outcome}
 use Rattle.lattice.specs.Transitions.{Step, too_far, clamped, probabilities, transition_of}
 use Rattle.lattice.specs.Lattice.{step_of}
 use Rattle.lattice.specs.laws.Making.{state_of, expectation_of, quotient_of}
@@ -38,8 +37,8 @@ module _ (spacing decay variance : Float) (k : ℕ) (n : ℤ) (above : T (lt eps
 
   module _ (f : EveryResultFinite variance (step_over spacing decay variance k) n) where
     -- 22 isn't met, and no result of the step is refused
-    pub step-made : step_of spacing decay variance k ≡ given (step_over spacing decay variance k)
-    unfolding step_of on_answer
+    pub step-made : step_of spacing decay variance k ≡ Ok (step_over spacing decay variance k)
+    unfolding step_of on_outcome
     step-made =
         rw (
           is_false (le variance epsilon) (not_T (le variance epsilon) (λ l. not_le_of_lt epsilon variance above l)),
@@ -67,7 +66,7 @@ module _ (spacing decay variance : Float) (k : ℕ) (n : ℤ) (above : T (lt eps
 
       -- neither 23 nor 24 is met, and no result of the node is refused
       pub transition_clamps : transition_of (step_over spacing decay variance k) n ≡ clamped (to_signed 31 (middle_of (step_over spacing decay variance k) n)) (down_of (step_over spacing decay variance k) n) (mid_of (step_over spacing decay variance k) n) (up_of (step_over spacing decay variance k) n) k
-      unfolding transition_of probabilities on_answer on_outcome
+      unfolding transition_of probabilities on_outcome
       transition_clamps =
           rw (
             is_finite (state_of s n) f.state,

@@ -2,7 +2,7 @@
 use Rattle.std.specs.Prelude.{ℤ, Float}
 use Rattle.std.specs.Float.Ieee.{binary64, add, sub, mul, div, to_signed}
 use Rattle.std.specs.Float.Ieee.Fits.{mul-fits, div-fits}
-use Rattle.floats.specs.Answers.{two, on_answer}
+use Rattle.floats.specs.Answers.{two, on_outcome}
 use Rattle.floats.specs.Whole.{rounded}
 use Rattle.floats.specs.laws.Whole.{round-answers}
 use Rattle.terms.specs.laws.Outcomes.{given_of}
@@ -38,7 +38,7 @@ module _ (s : Step) (sp : Spaced s.new_spacing s.denominator s.scale) where
       (clamped-only n down mid up s.place)
 
   middle-only : (n : ℤ) → Only23Or27 (middle_of s.spacing s.decay s.new_spacing s.place n)
-  unfolding middle_of on_answer
+  unfolding middle_of on_outcome
   middle-only n =
       only-finite (state_of s n) s.place _ λ _.
       only-finite (expectation_of s n) s.place _ λ _.

@@ -1,5 +1,5 @@
 -- 24 is never given: every step that is made has probabilities of at least 0.04 before clamping. Assumes nothing.
-use Rattle.std.specs.Prelude.{ℕ, ◌≡◌, Bool, true, false, not, cond, ◌||◌, ℤ, Float}
+use Rattle.std.specs.Prelude.{ℕ, ◌≡◌, Bool, true, false, not, cond, ◌||◌, ℤ, Float, Ok, Err}
 use Rattle.std.proofs.Math.Path.{refl}
 use Rattle.std.proofs.Common.{sym, subst}
 use Rattle.std.proofs.Math.Dec.{T, not_T}
@@ -7,9 +7,7 @@ use Rattle.std.specs.Float.Ieee.{binary64, add, mul, div, neg, le, lt, of_bits}
 use Rattle.std.specs.Float.Ieee.Bits.{is_false}
 use Rattle.std.specs.Float.Ieee.Scale.{finite}
 use Rattle.floats.specs.declared.Refusal.{Refusal}
-use Rattle.floats.specs.declared.Answer.{Answer}
-use Rattle.floats.specs.declared.Answer.TheVariants.{Value, Refused}
-use Rattle.floats.specs.Answers.{plus_zero, two, on_answer, not_finite}
+use Rattle.floats.specs.Answers.{Answer, plus_zero, two, on_outcome, not_finite, Outcome, follow, refusal}
 use Rattle.floats.specs.Extremes.{max_of}
 use Rattle.floats.specs.laws.Order as order
 use Rattle.floats.specs.laws.Order.{number_of-finite, not_le_of_lt, lt_of_not_le, T-of_not}
@@ -18,34 +16,34 @@ use Rattle.elementary.specs.laws.Values.{passed}
 use Rattle.rounded.specs.Root.{root_of}
 use Rattle.rounded.specs.laws.RootBounds.{sqrt_at-root}
 use Rattle.terms.specs.Numbers.{float, epsilon, tolerance}
-use Rattle.terms.specs.Outcomes.{Outcome, given, refused, on_outcome, follow, refuse, valued}
 use Rattle.terms.specs.laws.Outcomes.{Gives, gives, nothing, given_of, gives-finite}
 use Rattle.lattice.specs.Transitions.{Step, too_low, clamped}
 use Rattle.lattice.specs.Lattice.{spacing_of, step_of}
 use Rattle.chances.specs.Unclamped.{least_probability}
 use Rattle.chances.specs.laws.Spaced.{Spaced, spaced}
 use Rattle.chances.specs.laws.ChanceFloor.{Floored}
+use Rattle.floats.specs.declared.Reason.TheVariants as reason
 
 -- ---- what a transition can be: given, or refused with 23 or with 27
 
 pub data Only23Or27 {A : Type 0} : Outcome A → Type 0 where
-  was_given : {x : A} → Only23Or27 (given x)
-  too_far_lem : {place : ℕ} → Only23Or27 (refuse 23 place)
-  not_finite_lem : {place : ℕ} → Only23Or27 (refuse 27 place)
+  was_given : {x : A} → Only23Or27 (Ok x)
+  too_far_lem : {place : ℕ} → Only23Or27 (refusal reason.NodeTooFar place)
+  not_finite_lem : {place : ℕ} → Only23Or27 (refusal reason.NotFinite place)
 
 module _ {A : Type 0} where
-  pub only-finite : (x : Float) (place : ℕ) (o : Outcome A) → (T (finite x) → Only23Or27 o) → Only23Or27 (cond (not_finite x) (refuse 27 place) o)
+  pub only-finite : (x : Float) (place : ℕ) (o : Outcome A) → (T (finite x) → Only23Or27 o) → Only23Or27 (cond (not_finite x) (refusal reason.NotFinite place) o)
   only-finite x place o h = go (finite x) h
     where
-      go : (b : Bool) → (T b → Only23Or27 o) → Only23Or27 (cond (not b) (refuse 27 place) o)
+      go : (b : Bool) → (T b → Only23Or27 o) → Only23Or27 (cond (not b) (refusal reason.NotFinite place) o)
       go true h = h tt
       go false h = not_finite_lem
 
-  pub only-near : (b : Bool) (place : ℕ) (o : Outcome A) → (b ≡ false → Only23Or27 o) → Only23Or27 (cond b (refuse 23 place) o)
+  pub only-near : (b : Bool) (place : ℕ) (o : Outcome A) → (b ≡ false → Only23Or27 o) → Only23Or27 (cond b (refusal reason.NodeTooFar place) o)
   only-near true place o h = too_far_lem
   only-near false place o h = h refl
 
-pub only-follow : {A B : Type 0} (o : Outcome A) (k : A → Outcome B) → Only23Or27 o → ((x : A) → o ≡ given x → Only23Or27 (k x)) → Only23Or27 (follow o k)
+pub only-follow : {A B : Type 0} (o : Outcome A) (k : A → Outcome B) → Only23Or27 o → ((x : A) → o ≡ Ok x → Only23Or27 (k x)) → Only23Or27 (follow o k)
 unfolding on_outcome
 only-follow o k (was_given {x = x}) h = h x refl
 only-follow o k too_far_lem h = too_far_lem
@@ -80,21 +78,21 @@ clamped-only n down mid up place =
 abbrev pub SpacedStep : Step → Type 0
 SpacedStep s = Spaced s.new_spacing s.denominator s.scale
 
-spacing-value : (v : Float) (place : ℕ) (new : Float) → spacing_of v place ≡ Value new → T (finite (mul binary64 v (float 3))) × (root_of (mul binary64 v (float 3)) ≡ new)
+spacing-value : (v : Float) (place : ℕ) (new : Float) → spacing_of v place ≡ Ok new → T (finite (mul binary64 v (float 3))) × (root_of (mul binary64 v (float 3)) ≡ new)
 spacing-value v place new e =
     let x = mul binary64 v (float 3) in
-    let r = sqrt_at-root x place new (passed (not_finite x) 27 place _ new e).1 in
+    let r = sqrt_at-root x place new (passed (not_finite x) reason.NotFinite place _ new e).1 in
     (r.of_finite, r.is_root)
 
 module _ {A : Type 0} {P : A → Type 0} where
-  gives-passed : (b : Bool) (r : Refusal) (o : Outcome A) → (b ≡ false → Gives P o) → Gives P (cond b (refused r) o)
+  gives-passed : (b : Bool) (r : Refusal) (o : Outcome A) → (b ≡ false → Gives P o) → Gives P (cond b (Err r) o)
   gives-passed true r o h = nothing
   gives-passed false r o h = h refl
 
-  gives-value : (a : Answer) (k : Float → Outcome A) → ((x : Float) → a ≡ Value x → Gives P (k x)) → Gives P (valued a k)
-  unfolding on_answer
-  gives-value (Value x) k h = h x refl
-  gives-value (Refused r) k h = nothing
+  gives-value : (a : Answer) (k : Float → Outcome A) → ((x : Float) → a ≡ Ok x → Gives P (k x)) → Gives P (follow a k)
+  unfolding on_outcome
+  gives-value (Ok x) k h = h x refl
+  gives-value (Err r) k h = nothing
 
 step-spaced : (spacing decay v : Float) (k : ℕ) → Gives SpacedStep (step_of spacing decay v k)
 unfolding step_of
@@ -110,5 +108,5 @@ step-spaced spacing decay v k =
     (subst (λ (h : Float). Spaced h (mul binary64 v (float 6)) (mul binary64 h two)) p.1
     (spaced v above p.0 fd (subst (λ (h : Float). T (finite (mul binary64 h two))) (sym p.1) fs)))
 
-pub made-spaced : (spacing decay v : Float) (k : ℕ) (s : Step) → step_of spacing decay v k ≡ given s → SpacedStep s
+pub made-spaced : (spacing decay v : Float) (k : ℕ) (s : Step) → step_of spacing decay v k ≡ Ok s → SpacedStep s
 made-spaced spacing decay v k s e = given_of (step-spaced spacing decay v k) e

@@ -4,14 +4,14 @@ use Rattle.std.proofs.Common.{sym, ap, ◌∙◌, inl, inr, add-zero, add-suc, s
 use Rattle.std.proofs.Math.Nat.{pow-succ'}
 use Rattle.std.proofs.lemmas.List.{length-replicate, get_or-replicate}
 use Rattle.floats.specs.declared.Refusal.{Refusal}
+use Rattle.floats.specs.Reasons.{reason_number}
 use Rattle.rounded.specs.laws.RoundToOdd.{ordered}
 use Rattle.decimal.specs.declared.Rounded.{Rounded}
-use Rattle.decimal.specs.declared.Decimals.{Decimals}
-use Rattle.decimal.specs.declared.Decimals.TheVariants.{Shown, Beyond}
+use Rattle.std.specs.Prelude.{Option, Some, None}
 use Rattle.bondreport.specs.declared.Leftward.{Leftward}
 use Rattle.bondreport.specs.Columns.{blank_line, put_at}
 use Rattle.bondreport.specs.Numbers.{byte_left, digits_left, width_from, width_of, whole_left}
-use Rattle.bondreport.specs.Figures.{before, put_whole, point_left, minus_left, decimals_left, on_decimals}
+use Rattle.bondreport.specs.Figures.{before, put_whole, point_left, minus_left, decimals_left}
 use Rattle.closingsheet.specs.Cells.{cell_of}
 use Rattle.closingsheet.specs.Shown.{ValueColumns, RefusedColumns}
 use Rattle.closingsheet.specs.Sheet.{at, numbered, refused_sheet, shown_sheet}
@@ -199,7 +199,7 @@ value_columns_lem bond count cell h l =
     behind : (i : ℕ) → 30 ≤ i → i < 35 → get_or (take 35 filled) i 0 ≡ get_or (numbered bond) i 0
     behind i p q = cut i q ∙ put_other cell counted 6 i (inr (omega arith)) ∙ whole-other (numbered bond) 30 count i (inr p)
 
-pub refused-columns : (bond : ℕ) (q : Refusal) → q.number ≤ 9999 → RefusedColumns bond q.number (refused_sheet bond q).line
+pub refused-columns : (bond : ℕ) (q : Refusal) → reason_number q.reason ≤ 9999 → RefusedColumns bond (reason_number q.reason) (refused_sheet bond q).line
 refused-columns bond q h =
     record {
       size = length-take-le 35 filled (omega (arith, filled-length));
@@ -208,18 +208,18 @@ refused-columns bond q h =
       refusal =
           λ i p r.
           get_or-take 35 filled i 0 (omega arith)
-          ∙ whole-alike (numbered bond) blank_line 34 q.number i (numbered-length bond ∙ sym (blank-length)) (omega (arith, numbered-length bond)) (numbered_as_blank bond i (omega arith) r);
-      newline = get_or-take 35 filled 34 0 (omega arith) ∙ whole-other (numbered bond) 34 q.number 34 (inr (omega arith)) ∙ numbered-newline bond;
+          ∙ whole-alike (numbered bond) blank_line 34 (reason_number q.reason) i (numbered-length bond ∙ sym (blank-length)) (omega (arith, numbered-length bond)) (numbered_as_blank bond i (omega arith) r);
+      newline = get_or-take 35 filled 34 0 (omega arith) ∙ whole-other (numbered bond) 34 (reason_number q.reason) 34 (inr (omega arith)) ∙ numbered-newline bond;
     }
   where
     filled : List ℕ
-    filled = put_whole (numbered bond) 34 q.number
+    filled = put_whole (numbered bond) 34 (reason_number q.reason)
 
     filled-length : length filled ≡ 80
-    filled-length = whole_length (numbered bond) 34 q.number ∙ numbered-length bond
+    filled-length = whole_length (numbered bond) 34 (reason_number q.reason) ∙ numbered-length bond
 
     front : (i : ℕ) → i < 30 → get_or (take 35 filled) i 0 ≡ get_or (numbered bond) i 0
-    front i p = get_or-take 35 filled i 0 (omega arith) ∙ whole-other (numbered bond) 34 q.number i (inl (omega (arith, four-digits q.number h)))
+    front i p = get_or-take 35 filled i 0 (omega arith) ∙ whole-other (numbered bond) 34 (reason_number q.reason) i (inl (omega (arith, four-digits (reason_number q.reason) h)))
 
 -- ---- the value's cell
 
@@ -253,7 +253,6 @@ written-length v =
     pointed : Leftward
     pointed = byte_left (digits_left 2 (before blank_line 16) v.part) 46
 
-pub cell-length : (d : Decimals) → length (cell_of d).cell ≡ 16
-unfolding on_decimals
-cell-length (Shown v) = length-take-le 16 (decimals_left (before blank_line 16) 2 v).line (omega (arith, written-length v))
-cell-length Beyond = length-replicate {A = ℕ} 16 32
+pub cell-length : (d : Option Rounded) → length (cell_of d).cell ≡ 16
+cell-length (Some v) = length-take-le 16 (decimals_left (before blank_line 16) 2 v).line (omega (arith, written-length v))
+cell-length None = length-replicate {A = ℕ} 16 32

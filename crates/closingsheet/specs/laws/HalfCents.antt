@@ -7,10 +7,9 @@ use Rattle.std.specs.Float.Ieee.Fits.{down_pos}
 use Rattle.std.specs.Float.Ieee.Nearest.{closest, closest_mono}
 use Rattle.floats.specs.laws.Fractions.{Leq, leq_of_le}
 use Rattle.rounded.specs.laws.RoundToOdd.{ordered, closest_down, closest_up, closest-tie}
-use Rattle.decimal.specs.declared.Decimals.{Decimals}
-use Rattle.decimal.specs.declared.Decimals.TheVariants.{Shown, Beyond}
+use Rattle.std.specs.Prelude.{Option, Some, None}
+use Rattle.decimal.specs.declared.Rounded.{Rounded}
 use Rattle.decimal.specs.Writing.{in_units}
-use Rattle.bondreport.specs.Figures.{on_decimals}
 use Rattle.closingsheet.specs.Cells.{printed_of, cell_of, value_cell}
 use Rattle.closingsheet.specs.HalfAway.{in_cents}
 use Rattle.closingsheet.specs.Shown.{Decimal, read_back, HalfCent, NoLower}
@@ -118,24 +117,24 @@ pub record Printed (x : Float) : Type 0 where
   pub shown : Sides sign (closest (100 * (size * up power)) (down power)) (read_back (value_cell x).cell)
 
 printed_of_lem : (s : Bool) (cents : ℕ) → (cell_of (in_cents s cents)).wide ≡ false → Sides s cents (read_back (cell_of (in_cents s cents)).cell)
-unfolding in_cents on_decimals
+unfolding in_cents
 printed_of_lem s cents w = go (ordered cents 99999999999999)
   where
     go : (cents ≤ 99999999999999) ⊎ (99999999999999 < cents) → Sides s cents (read_back (cell_of (in_cents s cents)).cell)
     go (inl h) =
-        subst (λ (b : Bool). Sides s cents (read_back (cell_of (cond b Beyond (Shown (in_units s 2 cents)))).cell)) (sym (le-ltb 99999999999999 cents h))
+        subst (λ (b : Bool). Sides s cents (read_back (cell_of (cond b None (Some (in_units s 2 cents)))).cell)) (sym (le-ltb 99999999999999 cents h))
         (subst (λ (d : Decimal). Sides s cents d) (sym (reads s cents h)) (sides s cents))
-    go (inr h) = absurd (subst T (ap (λ (b : Bool). (cell_of (cond b Beyond (Shown (in_units s 2 cents)))).wide) (sym (lt-ltb 99999999999999 cents h)) ∙ w) tt)
+    go (inr h) = absurd (subst T (ap (λ (b : Bool). (cell_of (cond b None (Some (in_units s 2 cents)))).wide) (sym (lt-ltb 99999999999999 cents h)) ∙ w) tt)
 
 shown-cents : (s : Bool) (m : ℕ) (e : ℤ) → (value_cell (fin s m e)).wide ≡ false → Sides s (closest (100 * (m * up e)) (down e)) (read_back (value_cell (fin s m e)).cell)
 shown-cents s m e w =
     let cents = closest (100 * (m * up e)) (down e) in
     let as-cents = cents_are s m e in
-    subst (λ (d : Decimals). Sides s cents (read_back (cell_of d).cell)) (sym as-cents)
-    (printed_of_lem s cents (sym (ap (λ (d : Decimals). (cell_of d).wide) as-cents) ∙ w))
+    subst (λ (d : Option Rounded). Sides s cents (read_back (cell_of d).cell)) (sym as-cents)
+    (printed_of_lem s cents (sym (ap (λ (d : Option Rounded). (cell_of d).wide) as-cents) ∙ w))
 
 printed : (x : Float) → (value_cell x).wide ≡ false → Printed x
-unfolding printed_of on_decimals
+unfolding printed_of
 printed nan w = absurd (subst T w tt)
 printed (inf s) w = absurd (subst T w tt)
 printed (fin s m e) w = record { sign = s; size = m; power = e; is = refl; shown = shown-cents s m e w }

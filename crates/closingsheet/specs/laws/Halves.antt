@@ -1,5 +1,6 @@
 -- Where an exact half goes changes nothing on the sheet but the value's columns. Assumes nothing.
-use Rattle.std.specs.Prelude.{ℕ, zero, suc, ◌+◌, ◌*◌, ◌/◌, ◌%◌, ◌≤◌, ◌<◌, ◌≡◌, refl, ◌⊎◌, Bool, true, false, cond, List, [], ◌∷◌, ltb, length, set, take, drop, Float}
+use Rattle.std.specs.Option.{option_map_or}
+use Rattle.std.specs.Prelude.{ℕ, zero, suc, ◌+◌, ◌*◌, ◌/◌, ◌%◌, ◌≤◌, ◌<◌, ◌≡◌, refl, ◌⊎◌, Bool, true, false, cond, List, [], ◌∷◌, ltb, length, set, take, drop, Float, Ok, Err}
 use Rattle.std.proofs.Common.{sym, ap, ◌∙◌, subst, inl, inr, le_of_eq, eq-or-lt_of_le, zero-add, suc-add, mul_left_comm, add-mul, div-add-mod', mod-lt, arith, lt-ltb, le-ltb, take-take, drop-set-lt}
 use Rattle.std.proofs.Math.Nat.{div-eq_of_lt-le}
 use Rattle.std.proofs.Math.Seq.{take-nil}
@@ -9,13 +10,13 @@ use Rattle.std.specs.Float.Ieee.{up, down}
 use Rattle.std.specs.Float.Ieee.Fits.{down_pos}
 use Rattle.std.specs.Float.Ieee.Nearest.{closest}
 use Rattle.rounded.specs.laws.RoundToOdd.{ordered, closest_down, closest_up, closest-tie}
-use Rattle.decimal.specs.declared.Decimals.{Decimals}
-use Rattle.decimal.specs.declared.Decimals.TheVariants.{Shown, Beyond}
+use Rattle.std.specs.Prelude.{Option, Some, None}
+use Rattle.decimal.specs.declared.Rounded.{Rounded}
 use Rattle.decimal.specs.Writing.{in_units}
 use Rattle.bondreport.specs.Columns.{put_at}
-use Rattle.bondreport.specs.Figures.{put_whole, on_decimals}
+use Rattle.bondreport.specs.Figures.{put_whole}
 use Rattle.treebasedbondpricer.specs.declared.TreeValue.{TreeValue}
-use Rattle.treebasedbondpricer.specs.declared.TreeValue.TheVariants.{Value, Refused}
+use Rattle.floats.specs.Answers.{Outcome}
 use Rattle.closingsheet.specs.declared.ClosingLine.{ClosingLine}
 use Rattle.closingsheet.specs.laws.Columns.{cell-length}
 use Rattle.closingsheet.specs.declared.ValueCell.{ValueCell}
@@ -23,6 +24,7 @@ use Rattle.closingsheet.specs.Cells.{printed_of, cell_of, value_cell}
 use Rattle.closingsheet.specs.Sheet.{at, numbered, refused_sheet, shown_sheet, value_sheet, no_sheet, answer_sheet, sheet_by, sheet_of}
 use Rattle.closingsheet.specs.HalfAway.{half_away, in_cents, printed_away, away_cell, away_sheet, Alike}
 use Rattle.closingsheet.specs.laws.Cents.{cents_are}
+use Rattle.floats.specs.declared.Reason.TheVariants as reason
 
 -- ---- 32 is the same: 99,999,999,999,999 is odd, so a half above it goes up both ways
 
@@ -70,18 +72,17 @@ module _ (a c : ℕ) (C : 0 < c) where
 
 -- ---- the cell
 
-wide_by : (s : Bool) (cents : ℕ) → on_decimals (in_cents s cents) true (λ v. false) ≡ ltb 99999999999999 cents
-unfolding on_decimals in_cents
+wide_by : (s : Bool) (cents : ℕ) → option_map_or (λ v. false) (in_cents s cents) true ≡ ltb 99999999999999 cents
+unfolding in_cents
 wide_by s cents = go (ltb 99999999999999 cents)
   where
-    go : (b : Bool) → on_decimals (cond b Beyond (Shown (in_units s 2 cents))) true (λ v. false) ≡ b
+    go : (b : Bool) → option_map_or (λ v. false) (cond b None (Some (in_units s 2 cents))) true ≡ b
     go true = refl
     go false = refl
 
-wide_of : (d : Decimals) → (cell_of d).wide ≡ on_decimals d true (λ v. false)
-unfolding on_decimals
-wide_of (Shown v) = refl
-wide_of Beyond = refl
+wide_of : (d : Option Rounded) → (cell_of d).wide ≡ option_map_or (λ v. false) d true
+wide_of (Some v) = refl
+wide_of None = refl
 
 pub same_width : (x : Float) → (away_cell x).wide ≡ (value_cell x).wide
 unfolding printed_away printed_of
@@ -93,7 +94,7 @@ same_width (fin s m e) =
     ∙ same_side (100 * (m * up e)) (down e) (down_pos e)
     ∙ sym (wide_by s (closest (100 * (m * up e)) (down e)))
     ∙ sym (wide_of (in_cents s (closest (100 * (m * up e)) (down e))))
-    ∙ sym (ap (λ (d : Decimals). (cell_of d).wide) (cents_are s m e))
+    ∙ sym (ap (λ (d : Option Rounded). (cell_of d).wide) (cents_are s m e))
 
 -- ---- the line
 
@@ -133,7 +134,7 @@ module _ (bond count : ℕ) where
   values u v e p q = subst (λ (b : Bool). Alike (value_sheet bond u count) (by b v.cell)) e (go u.wide (ltb 99999999 count))
     where
       r32 : ClosingLine
-      r32 = refused_sheet bond (at 32 0)
+      r32 = refused_sheet bond (at reason.TooWide 0)
 
       by : Bool → List ℕ → ClosingLine
       by b cell = cond b r32 (cond (ltb 99999999 count) r32 (shown_sheet bond count cell))
@@ -143,13 +144,13 @@ module _ (bond count : ℕ) where
       go false true = alike r32
       go false false = cells u.cell v.cell p q
 
-answers : (bond : ℕ) (answer : TreeValue) → Alike (answer_sheet away_cell bond answer) (answer_sheet value_cell bond answer)
+answers : (bond : ℕ) (answer : Outcome TreeValue) → Alike (answer_sheet away_cell bond answer) (answer_sheet value_cell bond answer)
 unfolding answer_sheet
-answers bond (Value x count) = values bond count (away_cell x) (value_cell x) (same_width x) (le_of_eq (cell-length (printed_away x))) (le_of_eq (cell-length (printed_of x)))
-answers bond (Refused q) = alike (refused_sheet bond q)
+answers bond (Ok v) = values bond v.nodes (away_cell v.value) (value_cell v.value) (same_width v.value) (le_of_eq (cell-length (printed_away v.value))) (le_of_eq (cell-length (printed_of v.value)))
+answers bond (Err q) = alike (refused_sheet bond q)
 
 -- For every bond number and every answer of the tree value.
-pub nothing_else : (bond : ℕ) (answer : TreeValue) → Alike (away_sheet bond answer) (sheet_of bond answer)
+pub nothing_else : (bond : ℕ) (answer : Outcome TreeValue) → Alike (away_sheet bond answer) (sheet_of bond answer)
 unfolding sheet_by
 nothing_else bond answer = go (ltb bond 1) (ltb 999999 bond)
   where

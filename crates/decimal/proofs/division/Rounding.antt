@@ -11,7 +11,7 @@ use lib.Ieee.Scale.{round_same}
 use Rattle.rounded.specs.laws.Packing.{Stuck, scale, scale_is}
 use Rattle.rounded.specs.laws.RoundToOdd.{round-odd}
 use Rattle.rounded.proofs.pack.Numbers.{odd_stuck, stuck_ge}
-use Rattle.decimal.specs.laws.Division.{Divided, five_pos, ten-pos, ten_is}
+use Rattle.decimal.specs.laws.Division.{Divided, five_small, five_pos, ten-pos, ten_is}
 
 rounds : (s : Bool) (n k whole rest t w : ℕ) → k ≤ 22 → Divided n (5 ^ k) whole rest t → Stuck whole rest w → round binary64 s (w * 2 ^ (2336 - t - k)) (2 ^ scale) ≡ round binary64 s n (10 ^ k)
 rounds s n k whole rest t w h d o =
@@ -38,3 +38,5 @@ rounded {x} {d} {whole} {rest} {t} {w} s n k h e a o r = r ∙ rounds s n k whol
 
 pub nothing : {x : Float} (s : Bool) (n k : ℕ) → n ≡ 0 → x ≡ round binary64 s (0 * 2 ^ 64) (2 ^ scale) → x ≡ round binary64 s n (10 ^ k)
 nothing s n k z r = r ∙ round_same binary64 s (0 * 2 ^ 64) (2 ^ scale) n (10 ^ k) (pow_pos scale) (ten-pos k) (zero-mul (10 ^ k) ∙ sym (ap (λ (x : ℕ). x * 2 ^ scale) z ∙ zero-mul (2 ^ scale)))
+
+pub ruleset quotients = (five_small, five_pos, rounded, nothing)

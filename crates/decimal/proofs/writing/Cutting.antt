@@ -8,12 +8,16 @@ use lib.Ieee.Nearest.{closest}
 use Rattle.rounded.specs.laws.Packing.{Stuck}
 use Rattle.rounded.specs.laws.RoundToOdd.{closest-odd}
 use Rattle.rounded.proofs.pack.Numbers.{odd_stuck}
+use Rattle.decimal.specs.laws.Division.{ten-pos}
 
 pub five_most : (k : ℕ) → k ≤ 6 → 5 ^ k ≤ 15625
 five_most k h = pow-le-pow_right {n = 5} (omega arith) h
 
 pub five_few : (k : ℕ) → k ≤ 4 → 5 ^ k ≤ 625
 five_few k h = pow-le-pow_right {n = 5} (omega arith) h
+
+pub ten-few : (k : ℕ) → k ≤ 6 → 10 ^ k ≤ 1000000
+ten-few k h = pow-le-pow_right {n = 10} (omega arith) h
 
 pub whole-product : (k d : ℕ) {five : ℕ} → k ≤ 4 → five ≡ 5 ^ k → d ≤ 2 ^ 53 → five * d ≤ 625 * 2 ^ 53
 whole-product k d h e l = mul-le-mul (le_trans (le_of_eq e) (five_few k h)) l
@@ -57,3 +61,7 @@ cut-nearest {r} {five} {w} k d shift e h s g =
 
 pub whole-nearest : {r five : ℕ} (k d shift : ℕ) → five ≡ 5 ^ k → r ≡ closest (five * d) (2 ^ shift) → r ≡ closest (5 ^ k * d) (2 ^ shift)
 whole-nearest k d shift e g = g ∙ ap (λ (z : ℕ). closest (z * d) (2 ^ shift)) e
+
+pub ruleset cutting = (five_most, whole-product, low_product, high_product, whole-nearest, cut-nearest)
+
+pub ruleset tens = (ten-pos, ten-few)

@@ -2,40 +2,38 @@
 use Prim.Native.Nat.{ℕ, ◌+◌, ◌-◌, ◌*◌, ◌^◌, ◌≤◌, ◌<◌}
 use mathlib.Core.Path.{◌≡◌, refl, sym, ap, subst, ◌∙◌}
 use mathlib.Core.Logic.{◌⊎◌, inl, inr}
-use mathlib.Core.Bool.{Bool, true, false}
-use native.Mathlib.Nat.{lt_of_lt_of_le, le_trans, le_of_eq, le-add_right, zero-mul, zero-add, add_comm, mul_comm, mul_assoc, mul_left_comm, mul-le-mul, mul-le-mul_right, mul-lt-mul_of_pos_right, pow-le-pow_right}
+use mathlib.Core.Bool.{Bool, true, false, not}
+use native.Mathlib.Nat.{lt_of_lt_of_le, le_trans, le_of_eq, le-add_right, zero-mul, zero-add, add_comm, mul_comm, mul_assoc, mul_left_comm, mul-le-mul, mul-le-mul_right, mul-lt-mul_of_pos_right}
 use native.Mathlib.Omega.{arith}
 use lib.Dec.{T}
 use lib.Pow.{pow-add, pow_pos, pow_mono}
-use lib.Ieee.{Float, nan, inf, fin, binary64, fits}
+use lib.Ieee.{Float, nan, inf, fin, binary64, fits, is_nan}
 use lib.Ieee.Scale.{finite}
 use lib.Ieee.Nearest.{closest, closest_same}
 use Rattle.floats.specs.Answers.{not_finite}
 use Rattle.rounded.specs.laws.RoundToOdd.{ordered, closest_down}
-use Rattle.rounded.proofs.pack.Numbers.{unit, unit-is}
 use Rattle.floats.proofs.Patterns.{sign_of, field_of, digits_of, low_value, mid-value, large-value}
 use Rattle.decimal.specs.declared.Rounded.{Rounded}
-use Rattle.decimal.specs.declared.Decimals.TheVariants.{Shown, Beyond}
+use Rattle.std.specs.Prelude.{Some, None}
 use Rattle.decimal.specs.Writing.{whole_digits, in_units, decimals_of}
 use Rattle.decimal.specs.laws.Division.{ten_is}
 use Rattle.decimal.specs.laws.Writing.{few-digits, fewer_digits, too_many, shown, hidden}
 use Rattle.decimal.proofs.writing.Cutting.{five_most}
 
-pub many : (places : ℕ) (x : Float) → 6 < places → Beyond ≡ decimals_of places x
+pub many : (places : ℕ) (x : Float) → 6 < places → None ≡ decimals_of places x
 many places x h = sym (too_many places x h)
 
-pub not_finite_lem : {f : Bool} (places : ℕ) (x : Float) → f ≡ not_finite x → f ≡ true → Beyond ≡ decimals_of places x
+pub not_finite_lem : {f : Bool} (places : ℕ) (x : Float) → f ≡ not_finite x → f ≡ true → None ≡ decimals_of places x
 unfolding decimals_of
 not_finite_lem places nan e t = refl
 not_finite_lem places (inf s) e t = refl
 not_finite_lem places (fin s m k) e t = let z : false ≡ true = sym e ∙ t in absurd (subst T (sym z) tt)
 
--- A power of ten as it is computed.
-pub tens_are : (k : ℕ) {five : ℕ} → k ≤ 6 → five ≡ 5 ^ k → unit k * five ≡ 10 ^ k
-tens_are k {five} h e = ap (λ (z : ℕ). z * five) (unit-is k (omega arith)) ∙ ap (λ (z : ℕ). 2 ^ k * z) e ∙ sym (ten_is k)
-
-pub ten-few : (k : ℕ) → k ≤ 6 → 10 ^ k ≤ 1000000
-ten-few k h = pow-le-pow_right {n = 10} (omega arith) h
+pub no_nan : {f : Bool} (x : Float) → f ≡ not_finite x → f ≡ false → T (not (is_nan x))
+unfolding is_nan
+no_nan nan e t = let z : true ≡ false = sym e ∙ t in absurd (subst T z tt)
+no_nan (inf s) e t = tt
+no_nan (fin s m k) e t = tt
 
 -- How far up the field of a number that is shown may lie.
 pub most-digits : (places : ℕ) {n : ℕ} → n ≡ whole_digits places → n ≤ 49
@@ -94,10 +92,10 @@ under d n j l h = lt_of_lt_of_le (twice l) (le_trans (pow_mono h) (le_of_eq (pow
     twice l = omega arith
 
 module _ (places : ℕ) (few : places ≤ 6) (x : Float) (p : T (fits binary64 x)) (q : T (finite x)) where
-  pub large : {n : ℕ} → n ≡ whole_digits places → 1022 + n < field_of x → Beyond ≡ decimals_of places x
+  pub large : {n : ℕ} → n ≡ whole_digits places → 1022 + n < field_of x → None ≡ decimals_of places x
   large {n} e h = go (ordered (field_of x) 1074)
     where
-      go : (field_of x ≤ 1074) ⊎ (1074 < field_of x) → Beyond ≡ decimals_of places x
+      go : (field_of x ≤ 1074) ⊎ (1074 < field_of x) → None ≡ decimals_of places x
       go (inl l) =
           sym (hidden places x (sign_of x) (2 ^ 52 + digits_of x) (2 ^ (1075 - field_of x)) (pow_pos (1075 - field_of x)) (mid-value x p q (omega arith) l)
           (subst (λ (z : ℕ). 2 ^ z * 2 ^ (1075 - field_of x) ≤ 2 ^ 52 + digits_of x) e (above (digits_of x) n (1075 - field_of x) (omega arith))))
@@ -105,15 +103,15 @@ module _ (places : ℕ) (few : places ≤ 6) (x : Float) (p : T (fits binary64 x
           sym (hidden places x (sign_of x) ((2 ^ 52 + digits_of x) * 2 ^ (field_of x - 1075)) 1 (omega arith) (large-value x p q l)
           (mul-le-mul (subst (λ (z : ℕ). 2 ^ z ≤ 2 ^ 52 + digits_of x) e (least (digits_of x) n (omega (arith, most-digits places e)))) (pow_pos (field_of x - 1075))))
 
-  pub small : {r : Rounded} → field_of x < 1008 - places → r ≡ in_units (sign_of x) places 0 → Shown r ≡ decimals_of places x
+  pub small : {r : Rounded} → field_of x < 1008 - places → r ≡ in_units (sign_of x) places 0 → Some r ≡ decimals_of places x
   small h f =
       let l = low_value x p q (1007 - places) (omega arith) in
       let e : 52 + (1007 - places) ≡ 1059 - places = omega arith in
       let s : l.size < 2 ^ (1059 - places) = subst (λ (z : ℕ). l.size < 2 ^ z) e l.small in
       let b : l.size < 2 ^ whole_digits places * 2 ^ 1074 = lt_of_lt_of_le s (le_trans (pow_mono {i = 1059 - places} {j = whole_digits places + 1074} (omega arith)) (le_of_eq (pow-add 2 (whole_digits places) 1074))) in
-      ap Shown f
+      ap Some f
       ∙ sym (shown places few x (sign_of x) l.size (2 ^ 1074) (pow_pos 1074) l.value b
-      ∙ ap (λ (z : ℕ). Shown (in_units (sign_of x) places z)) (closest_down (10 ^ places * l.size) (2 ^ 1074) 0 (10 ^ places * l.size) (none (10 ^ places * l.size) (2 ^ 1074)) (tiny l.size places few s)))
+      ∙ ap (λ (z : ℕ). Some (in_units (sign_of x) places z)) (closest_down (10 ^ places * l.size) (2 ^ 1074) 0 (10 ^ places * l.size) (none (10 ^ places * l.size) (2 ^ 1074)) (tiny l.size places few s)))
 
   -- Tens are twos times fives: the twos go into the divisor.
   fives : (d s : ℕ) → places ≤ s → closest (5 ^ places * (d + 4503599627370496)) (2 ^ (s - places)) ≡ closest (10 ^ places * (2 ^ 52 + d)) (2 ^ s)
@@ -132,10 +130,12 @@ module _ (places : ℕ) (few : places ≤ 6) (x : Float) (p : T (fits binary64 x
 
   pub middling : {r : Rounded} {n u : ℕ} → n ≡ whole_digits places → 1008 - places ≤ field_of x → field_of x ≤ 1022 + n
       → u ≡ closest (5 ^ places * (digits_of x + 4503599627370496)) (2 ^ (1075 - field_of x - places)) → r ≡ in_units (sign_of x) places u
-      → Shown r ≡ decimals_of places x
+      → Some r ≡ decimals_of places x
   middling {n = n} e h k g f =
       let m : n ≤ 49 = most-digits places e in
-      ap Shown f
-      ∙ ap (λ (z : ℕ). Shown (in_units (sign_of x) places z)) (g ∙ fives (digits_of x) (1075 - field_of x) (room places (field_of x) few e k))
+      ap Some f
+      ∙ ap (λ (z : ℕ). Some (in_units (sign_of x) places z)) (g ∙ fives (digits_of x) (1075 - field_of x) (room places (field_of x) few e k))
       ∙ sym (shown places few x (sign_of x) (2 ^ 52 + digits_of x) (2 ^ (1075 - field_of x)) (pow_pos (1075 - field_of x)) (mid-value x p q (omega arith) (omega arith))
       (subst (λ (z : ℕ). 2 ^ 52 + digits_of x < 2 ^ z * 2 ^ (1075 - field_of x)) e (under (digits_of x) n (1075 - field_of x) (omega arith) (omega arith))))
+
+pub ruleset fields = (many, not_finite_lem, no_nan, most-digits, room, shifted-enough, large, small, middling)

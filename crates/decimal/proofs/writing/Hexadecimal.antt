@@ -61,3 +61,5 @@ done n text i w h =
   where
     all : i ≡ 16
     all = omega (arith, w.within)
+
+pub ruleset writing = (begin, turn, done)

@@ -1,12 +1,10 @@
 -- exp without a test of each operation: a straight series, and one test at the end gives the answer of the definition. Assumes nothing.
-use Rattle.std.specs.Prelude.{ℕ, zero, suc, ◌+◌, ◌≡◌, T, pos, Float}
+use Rattle.std.specs.Prelude.{ℕ, zero, suc, ◌+◌, ◌≡◌, T, pos, Float, Ok}
 use Rattle.std.proofs.Common.{sym, ap, ◌∙◌}
 use Rattle.std.specs.Float.{nan, inf, fin, binary64}
 use Rattle.std.specs.Float.Ieee.{of_bits, of_int, add, sub, mul, div}
 use Rattle.std.specs.Float.Ieee.Scale.{finite}
-use Rattle.floats.specs.declared.Answer.{Answer}
-use Rattle.floats.specs.declared.Answer.TheVariants.{Value}
-use Rattle.floats.specs.Answers.{and_then, not_finite, when_finite, tested, one}
+use Rattle.floats.specs.Answers.{Answer, follow, not_finite, when_finite, tested, one}
 use Rattle.floats.specs.Whole.{rounded}
 use Rattle.elementary.specs.Exponential.{inverse_ln2, ln2_high, ln2_low, term, series, remainder, power_of_two, exp_reduced, exp_at}
 use Rattle.floats.specs.laws.Propagation.{Spoils, passes, test_later, then_chain, then_later, add_right, sub-left, sub_right, mul_left, mul_right, div_left}
@@ -42,9 +40,9 @@ argument_spoils low count r p h = series_spoils low count r (plain_term (low + s
 
 pub series-tested : (low count : ℕ) (r p : Float) (place : ℕ) → T (finite p) → series low count r p place ≡ tested (plain_series low count r p) place
 unfolding series plain_series
-series-tested low zero r p place h = sym (passes p place Value h)
+series-tested low zero r p place h = sym (passes p place Ok h)
 series-tested low (suc count) r p place h =
-    ap (λ (a : Answer). and_then a (λ q. series low count r q place)) (term-tested (low + suc count) r p place)
+    ap (λ (a : Answer). follow a (λ q. series low count r q place)) (term-tested (low + suc count) r p place)
     ∙ then_chain (λ q. series low count r q place) (plain_series low count r) (plain_term (low + suc count) r p) place (λ y f. series-tested low count r y place f) (λ y b. series_spoils low count r y b)
 
 -- ---- the reduced argument and the whole
@@ -89,9 +87,9 @@ one_finite = unfold of_bits in tt
 pub exp-straight : (x : Float) (place : ℕ) → exp_reduced x place ≡ tested (plain_exp x (steps x)) place
 unfolding exp_reduced
 exp-straight x place =
-    (λ i. when_finite (mul binary64 x inverse_ln2) place (λ y. and_then (test_later rounded y place rounded_spoils i) (λ k. and_then (remainder-tested x k place i) (λ r. and_then (series-tested 0 13 r one place one_finite i) (λ p. tested (mul binary64 p (power_of_two k)) place)))))
-    ∙ (λ i. when_finite (mul binary64 x inverse_ln2) place (λ y. and_then (tested (rounded y) place) (λ k. and_then (tested (plain_remainder x k) place) (λ r. then_later (λ p. mul binary64 p (power_of_two k)) (plain_series 0 13 r one) place (λ p h. mul_left binary64 p (power_of_two k) h) i))))
-    ∙ (λ i. when_finite (mul binary64 x inverse_ln2) place (λ y. and_then (tested (rounded y) place) (λ k. then_later (λ r. mul binary64 (plain_series 0 13 r one) (power_of_two k)) (plain_remainder x k) place (scaled_spoils k) i)))
+    (λ i. when_finite (mul binary64 x inverse_ln2) place (λ y. follow (test_later rounded y place rounded_spoils i) (λ k. follow (remainder-tested x k place i) (λ r. follow (series-tested 0 13 r one place one_finite i) (λ p. tested (mul binary64 p (power_of_two k)) place)))))
+    ∙ (λ i. when_finite (mul binary64 x inverse_ln2) place (λ y. follow (tested (rounded y) place) (λ k. follow (tested (plain_remainder x k) place) (λ r. then_later (λ p. mul binary64 p (power_of_two k)) (plain_series 0 13 r one) place (λ p h. mul_left binary64 p (power_of_two k) h) i))))
+    ∙ (λ i. when_finite (mul binary64 x inverse_ln2) place (λ y. follow (tested (rounded y) place) (λ k. then_later (λ r. mul binary64 (plain_series 0 13 r one) (power_of_two k)) (plain_remainder x k) place (scaled_spoils k) i)))
     ∙ (λ i. when_finite (mul binary64 x inverse_ln2) place (λ y. then_later (plain_exp x) (rounded y) place (exp_spoils x) i))
     ∙ test_later (λ y. plain_exp x (rounded y)) (mul binary64 x inverse_ln2) place (λ y h. exp_spoils x (rounded y) (rounded_spoils y h))
 
@@ -105,10 +103,10 @@ abbrev pub near_zero : Float → ℕ → Answer
 near_zero x place = tested (mul binary64 x (plain_series 1 12 x one)) place
 
 abbrev pub less_one : Float → ℕ → Answer
-less_one x place = and_then (exp_at x place) λ e. tested (sub binary64 e one) place
+less_one x place = follow (exp_at x place) λ e. tested (sub binary64 e one) place
 
-pub near_zero_is : {a : Answer} (x : Float) (place : ℕ) → a ≡ near_zero x place → a ≡ and_then (series 1 12 x one place) (λ p. tested (mul binary64 x p) place)
+pub near_zero_is : {a : Answer} (x : Float) (place : ℕ) → a ≡ near_zero x place → a ≡ follow (series 1 12 x one place) (λ p. tested (mul binary64 x p) place)
 near_zero_is x place h =
     h
-    ∙ sym ((λ i. and_then (series-tested 1 12 x one place one_finite i) (λ p. tested (mul binary64 x p) place))
+    ∙ sym ((λ i. follow (series-tested 1 12 x one place one_finite i) (λ p. tested (mul binary64 x p) place))
     ∙ then_later (mul binary64 x) (plain_series 1 12 x one) place (λ p b. mul_right binary64 x p b))

@@ -1,13 +1,11 @@
 -- ln without a test of each operation: a straight series and sum, and one test at the end gives the answer of the definition. Assumes nothing.
-use Rattle.std.specs.Prelude.{ℕ, zero, suc, ◌+◌, ◌*◌, ◌≡◌, T, pos, Float}
+use Rattle.std.specs.Prelude.{ℕ, zero, suc, ◌+◌, ◌*◌, ◌≡◌, T, pos, Float, Ok}
 use Rattle.std.proofs.Common.{sym, ap, ◌∙◌, subst}
 use Rattle.std.specs.Float.{binary64}
 use Rattle.std.specs.Float.Ieee.{of_bits, to_bits, fits, of_int, add, sub, mul, div}
 use Rattle.std.specs.Float.Ieee.Bits.{of_bits-to_bits}
 use Rattle.std.specs.Float.Ieee.Scale.{finite}
-use Rattle.floats.specs.declared.Answer.{Answer}
-use Rattle.floats.specs.declared.Answer.TheVariants.{Value}
-use Rattle.floats.specs.Answers.{and_then, not_finite, when_finite, tested, one, two}
+use Rattle.floats.specs.Answers.{Answer, follow, not_finite, when_finite, tested, one, two}
 use Rattle.elementary.specs.Exponential.{ln2_high, ln2_low}
 use Rattle.elementary.specs.Logarithm.{log_term, log_series, ratio, log_sum, fraction, exponent, ln_of}
 use Rattle.elementary.specs.laws.Normal.{Loggable, loggable-normal}
@@ -45,9 +43,9 @@ log_argument_spoils j z q h = log_series_spoils j z (plain_log_term j z q) (of_l
 
 pub log_series-tested : (j : ℕ) (z q : Float) (place : ℕ) → T (finite q) → log_series j z q place ≡ tested (plain_log_series j z q) place
 unfolding log_series plain_log_series
-log_series-tested zero z q place h = sym (passes q place Value h)
+log_series-tested zero z q place h = sym (passes q place Ok h)
 log_series-tested (suc j) z q place h =
-    ap (λ (a : Answer). and_then a (λ y. log_series j z y place)) (log_term-tested j z q place)
+    ap (λ (a : Answer). follow a (λ y. log_series j z y place)) (log_term-tested j z q place)
     ∙ then_chain (λ y. log_series j z y place) (plain_log_series j z) (plain_log_term j z q) place (λ y f. log_series-tested j z y place f) (λ y b. log_series_spoils j z y b)
 
 -- ---- the ratio, the sum and the whole
@@ -99,10 +97,10 @@ plain_log k s = plain_log_sum k s (plain_log_series 10 (mul binary64 s s) log_st
 pub ln-straight : (m k : Float) (place : ℕ) → T (finite (add binary64 m one)) → ln_of m k place ≡ tested (plain_log k (plain_ratio m)) place
 unfolding ln_of
 ln-straight m k place h =
-    (λ i. and_then (ratio-tested m place h i) (λ s. when_finite (mul binary64 s s) place (λ z. passes log_start place (λ q. and_then (log_series 10 z q place) (λ q. log_sum k s q place)) start-finite i)))
-    ∙ (λ i. and_then (tested (plain_ratio m) place) (λ s. when_finite (mul binary64 s s) place (λ z. and_then (log_series-tested 10 z log_start place start-finite i) (λ q. log_sum-tested k s q place i))))
-    ∙ (λ i. and_then (tested (plain_ratio m) place) (λ s. when_finite (mul binary64 s s) place (λ z. then_later (plain_log_sum k s) (plain_log_series 10 z log_start) place (λ y b. sum_spoils k s y (mul_right binary64 (mul binary64 two s) y b)) i)))
-    ∙ (λ i. and_then (tested (plain_ratio m) place) (λ s. test_later (λ z. plain_log_sum k s (plain_log_series 10 z log_start)) (mul binary64 s s) place (λ y b. sum_spoils k s (plain_log_series 10 y log_start) (mul_right binary64 (mul binary64 two s) (plain_log_series 10 y log_start) (log_argument_spoils 9 y log_start b))) i))
+    (λ i. follow (ratio-tested m place h i) (λ s. when_finite (mul binary64 s s) place (λ z. passes log_start place (λ q. follow (log_series 10 z q place) (λ q. log_sum k s q place)) start-finite i)))
+    ∙ (λ i. follow (tested (plain_ratio m) place) (λ s. when_finite (mul binary64 s s) place (λ z. follow (log_series-tested 10 z log_start place start-finite i) (λ q. log_sum-tested k s q place i))))
+    ∙ (λ i. follow (tested (plain_ratio m) place) (λ s. when_finite (mul binary64 s s) place (λ z. then_later (plain_log_sum k s) (plain_log_series 10 z log_start) place (λ y b. sum_spoils k s y (mul_right binary64 (mul binary64 two s) y b)) i)))
+    ∙ (λ i. follow (tested (plain_ratio m) place) (λ s. test_later (λ z. plain_log_sum k s (plain_log_series 10 z log_start)) (mul binary64 s s) place (λ y b. sum_spoils k s (plain_log_series 10 y log_start) (mul_right binary64 (mul binary64 two s) (plain_log_series 10 y log_start) (log_argument_spoils 9 y log_start b))) i))
     ∙ then_later (plain_log k) (plain_ratio m) place (λ s b. let q = plain_log_series 10 (mul binary64 s s) log_start in sum_spoils k s q (mul_left binary64 (mul binary64 two s) q (mul_right binary64 two s b)))
 
 -- ln of x = m × 2^k.

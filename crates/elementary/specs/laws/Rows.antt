@@ -1,10 +1,9 @@
 -- exp of a row, loop by loop: what each leaves at an index, and that one after the other they give exp there. Assumes nothing.
-use Rattle.std.specs.Prelude.{ℕ, ◌+◌, ◌≤◌, ◌<◌, ◌≡◌, refl, Bool, true, false, cond, ◌&&◌, List, T, length, get_or, set, Float}
+use Rattle.std.specs.Prelude.{ℕ, ◌+◌, ◌≤◌, ◌<◌, ◌≡◌, refl, Bool, true, false, cond, ◌&&◌, List, T, length, get_or, set, Float, Ok}
 use Rattle.std.proofs.Common.{sym, ap, ◌∙◌, subst, le_refl, le_antisymm, arith, below_more, length-set, get_or-set_same, get_or-set_other}
 use Rattle.std.specs.Float.{nan, inf, fin, binary64}
 use Rattle.std.specs.Float.Ieee.{sub, mul, eq, lt, le, neg, of_bits, fits}
 use Rattle.std.specs.Float.Ieee.Scale.{finite}
-use Rattle.floats.specs.declared.Answer.TheVariants.{Value}
 use Rattle.floats.specs.Answers.{refusal, one, plus_zero}
 use Rattle.floats.specs.laws.Order as order
 use Rattle.floats.specs.laws.Propagation.{passes}
@@ -12,6 +11,7 @@ use Rattle.elementary.specs.Exponential.{seven_hundred, power_of_two, exp_reduce
 use Rattle.elementary.specs.laws.Exponential.{plain_series, plain_remainder, plain_exp, steps, exp-straight}
 use Rattle.elementary.specs.laws.Steps.{Step, Reducible, reducible-finite, steps-step}
 use Rattle.elementary.specs.laws.Small.{small_limit, Small, series-finite, small-reducible, small-exp}
+use Rattle.floats.specs.declared.Reason.TheVariants as reason
 
 -- ---- a row on the way
 
@@ -159,14 +159,14 @@ not_so false h = refl
 not_so true h = absurd (h tt)
 
 -- exp of a number within ±700 whose plain result is finite
-pub exp_plain : (x : Float) (place : ℕ) → Reducible x → T (finite (plain_exp x (steps x))) → exp_at x place ≡ Value (plain_exp x (steps x))
+pub exp_plain : (x : Float) (place : ℕ) → Reducible x → T (finite (plain_exp x (steps x))) → exp_at x place ≡ Ok (plain_exp x (steps x))
 unfolding exp_at
 exp_plain x place d f =
-    passes x place (λ z. cond (lt seven_hundred z) (refusal 26 place) (cond (lt z (neg seven_hundred)) (Value plus_zero) (exp_reduced z place))) (reducible-finite x d)
-    ∙ ap (λ (b : Bool). cond b (refusal 26 place) (cond (lt x (neg seven_hundred)) (Value plus_zero) (exp_reduced x place))) (not_so (lt seven_hundred x) λ h. order.not_le_of_lt seven_hundred x h d.high)
-    ∙ ap (λ (b : Bool). cond b (Value plus_zero) (exp_reduced x place)) (not_so (lt x (neg seven_hundred)) λ h. order.not_le_of_lt x (neg seven_hundred) h d.low)
+    passes x place (λ z. cond (lt seven_hundred z) (refusal reason.Outside place) (cond (lt z (neg seven_hundred)) (Ok plus_zero) (exp_reduced z place))) (reducible-finite x d)
+    ∙ ap (λ (b : Bool). cond b (refusal reason.Outside place) (cond (lt x (neg seven_hundred)) (Ok plus_zero) (exp_reduced x place))) (not_so (lt seven_hundred x) λ h. order.not_le_of_lt seven_hundred x h d.high)
+    ∙ ap (λ (b : Bool). cond b (Ok plus_zero) (exp_reduced x place)) (not_so (lt x (neg seven_hundred)) λ h. order.not_le_of_lt x (neg seven_hundred) h d.low)
     ∙ exp-straight x place
-    ∙ passes (plain_exp x (steps x)) place Value f
+    ∙ passes (plain_exp x (steps x)) place Ok f
 
 pub series_row_lem : {rs y₀ y₁ y₂ : List Float} → length y₀ ≡ length rs → Filled (first_terms rs) y₀ y₁ (length rs) → Filled (last_terms rs y₁) y₁ y₂ (length rs) → SeriesRow rs y₂
 series_row_lem {rs} {y₀} {y₁} {y₂} e a b = record {
@@ -188,7 +188,7 @@ row_is {good} {xs} {ks} {rs} {ys} {zs} p s r = record {
       let q : get_or ys i nan ≡ plain_series 0 13 (plain_remainder x (steps x)) one = s.each i l ∙ ap (λ (z : Float). plain_series 0 13 z one) (p.rest i h) in
       let w : raised_of ks ys i ≡ plain_exp x (steps x) =
       ap (λ (z : Float). mul binary64 z (power_of_two (get_or ks i nan))) q ∙ ap (λ (k : Float). mul binary64 (plain_series 0 13 (plain_remainder x (steps x)) one) (power_of_two k)) (p.stepped i h) in
-      exp_plain x place (p.inside i h) (subst (λ (z : Float). T (finite z)) w (r.sound g i k)) ∙ ap Value (sym (r.filled.below i k ∙ w));
+      exp_plain x place (p.inside i h) (subst (λ (z : Float). T (finite z)) w (r.sound g i k)) ∙ ap Ok (sym (r.filled.below i k ∙ w));
 }
 
 -- ---- a row near 0
@@ -226,5 +226,5 @@ small_is {xs} {ys} r s = record {
   values = λ g i place h.
       let x = get_or xs i nan in
       let d = r.each i h in
-      exp_plain x place (small-reducible x d) (subst (λ (z : Float). T (finite z)) (sym (small-exp x d)) (series-finite x d)) ∙ ap Value (small-exp x d ∙ sym (s.each i h));
+      exp_plain x place (small-reducible x d) (subst (λ (z : Float). T (finite z)) (sym (small-exp x d)) (series-finite x d)) ∙ ap Ok (small-exp x d ∙ sym (s.each i h));
 }

@@ -1,7 +1,7 @@
 -- The line behind a refusal of a file's bond is that of an entry at fault. Assumes nothing.
-use Rattle.std.specs.Prelude.{ℕ, ◌≡◌, refl, List}
+use Rattle.floats.specs.Reasons.{reason_number}
+use Rattle.std.specs.Prelude.{ℕ, ◌≡◌, refl, List, Err}
 use Rattle.floats.specs.declared.Refusal.{Refusal}
-use Rattle.terms.specs.declared.Check.TheVariants.{Refused}
 use Rattle.terms.specs.Entries.{tree_checks}
 use Rattle.filebond.specs.Bond.{calls_of, market_of}
 use Rattle.places.specs.declared.Whose.{Whose}
@@ -13,11 +13,11 @@ use Rattle.fileline.specs.Lines.{line_for, line_behind}
 -- Whose line it is, and that the check of this number that looks there refuses so too.
 pub record AtFault (text : List ℕ) (r : Refusal) (w : Whose) : Type 0 where
   pub line : line_behind text r ≡ line_for text w r.place
-  pub refused : check_of (market_of text) (calls_of text) r.number w ≡ Refused r
+  pub refused : check_of (market_of text) (calls_of text) (reason_number r.reason) w ≡ Err r
   pub somebody : w ≡ Nobody → ⊥
 
 -- 2 is about a count, and so about no line.
-pub line_at-fault : (text : List ℕ) (r : Refusal) → tree_checks (market_of text) (calls_of text) ≡ Refused r → (r.number ≡ 2 → ⊥) → AtFault text r (blamed (market_of text) (calls_of text) r)
+pub line_at-fault : (text : List ℕ) (r : Refusal) → tree_checks (market_of text) (calls_of text) ≡ Err r → ((reason_number r.reason) ≡ 2 → ⊥) → AtFault text r (blamed (market_of text) (calls_of text) r)
 line_at-fault text r h not-2 =
     record {
       line = refl;

@@ -1,27 +1,25 @@
 -- What the calls of a bond that has a value are worth isn't below 0, by the call-list rule. Assumes nothing.
-use Rattle.std.specs.Prelude.{ℕ, ◌<◌, ◌≡◌, refl, Bool, not, cond, T, Float}
+use Rattle.std.specs.Prelude.{ℕ, ◌<◌, ◌≡◌, refl, Bool, not, cond, T, Float, Ok, Err}
 use Rattle.std.proofs.Common.{arith, sym, ap, subst, ◌∙◌, T_not}
 use Rattle.std.proofs.Math.Bool.{true, false}
 use Rattle.std.specs.Float.Ieee.{binary64, sub, le}
 use Rattle.std.specs.Float.Ieee.Scale.{finite}
-use Rattle.floats.specs.declared.Answer.TheVariants as answer
-use Rattle.floats.specs.Answers.{plus_zero, refusal, not_finite, on_answer}
+use Rattle.floats.specs.Answers.{plus_zero, refusal, not_finite, on_outcome, Outcome}
 use Rattle.floats.specs.laws.Propagation.{sub-left, sub_right, finite-back}
 use Rattle.floats.specs.laws.Signs.{sub-above}
 use Rattle.terms.specs.Terms.{CallSchedule, Market}
 use Rattle.terms.specs.CallLists.{MadeFrom}
 use Rattle.lattice.specs.Layers.{Room}
 use Rattle.treebasedbondpricer.specs.declared.TreeValue.{TreeValue}
-use Rattle.treebasedbondpricer.specs.declared.TreeValue.TheVariants as tree
 use Rattle.treebasedbondpricer.specs.Tree.{tree_value, room_of}
 use Rattle.treebasedbondpricer.specs.CallLists.{NoLowerOr27, accepted}
 use Rattle.treebasedbondpricer.specs.CallLists as lists
 use Rattle.treebasedbondpricer.proofs.laws.CallLists.{call_list_rule}
 use Rattle.filevalue.specs.declared.Ask.TheVariants as ask
 use Rattle.filevalue.specs.declared.Reply.{Reply}
-use Rattle.filevalue.specs.declared.Reply.TheVariants.{Found, Refused}
 use Rattle.filevalue.specs.Values.{of_value, no_calls, worth_of_calls, reply_to}
 use Rattle.filevalue.specs.CallsWorth.{WorthOr27, not_below_lem, refused_27, CallsWorthRule}
+use Rattle.floats.specs.declared.Reason.TheVariants as reason
 
 -- The empty list is made from any other, by dropping all.
 none_of-none : {A : Type 0} (i : ℕ) → i < 0 → A
@@ -47,26 +45,29 @@ module _ (x : Float) (n : ℕ) where
       (finite-back x (λ (b : T (not_finite x)). T_not (not_finite (sub binary64 y x)) k (sub_right binary64 y x b)))
       h
 
-  shown : (b : Bool) (d : Float) → (T (not b) → T (le plus_zero d)) → WorthOr27 (on_answer (cond b (refusal 27 0) (answer.Value d)) Refused λ z. Found z n)
-  unfolding on_answer
+  shown : (b : Bool) (d : Float) → (T (not b) → T (le plus_zero d)) → WorthOr27 (on_outcome (cond b (refusal reason.NotFinite 0) (Ok d)) Err λ z. Ok (record { found = z; count = n }))
+  unfolding on_outcome
   shown true d h = refused_27
   shown false d h = not_below_lem (h tt)
 
-  no_lower : (v : TreeValue) → NoLowerOr27 x v → WorthOr27 (worth_of_calls (tree.Value x n) v)
+  no_lower : (v : Outcome TreeValue) → NoLowerOr27 x v → WorthOr27 (worth_of_calls (Ok (record { value = x; nodes = n })) v)
   unfolding worth_of_calls
-  no_lower (tree.Value y k) (accepted h) = shown (not_finite (sub binary64 y x)) (sub binary64 y x) (rising y h)
-  no_lower (tree.Refused r) lists.refused_27 = refused_27
+  no_lower (Ok v) (accepted h) = shown (not_finite (sub binary64 v.value x)) (sub binary64 v.value x) (rising v.value h)
+  no_lower (Err r) lists.refused_27 = refused_27
 
 -- In the same room.
-worth_of_calls_lem : (m : Market) (calls : CallSchedule) (room : Room) (x : Float) (n : ℕ) → tree_value m calls room ≡ tree.Value x n → WorthOr27 (reply_to ask.Calls m calls room)
+worth_of_calls_lem : (m : Market) (calls : CallSchedule) (room : Room) (x : Float) (n : ℕ) → tree_value m calls room ≡ Ok (record { value = x; nodes = n }) → WorthOr27 (reply_to ask.Calls m calls room)
 unfolding reply_to
 worth_of_calls_lem m calls room x n e =
     rw e (no_lower x n (tree_value m no_calls room) ((call_list_rule m room calls no_calls x n (all_dropped calls) e).otherwise λ s. none_of-none s.entry s.of_list))
 
-valued_as : (v : TreeValue) (x : Float) (n : ℕ) → of_value v ≡ Found x n → v ≡ tree.Value x n
+valued_as : (v : Outcome TreeValue) (x : Float) (n : ℕ) → of_value v ≡ Ok (record { found = x; count = n }) → v ≡ Ok (record { value = x; nodes = n })
 unfolding of_value
-valued_as (tree.Value y k) x n e = let p : y ≡ x = cc in let q : k ≡ n = cc in rw (p, q) refl
-valued_as (tree.Refused r) x n e = let z : ◌≡◌ {A = ℕ} 0 1 = cc in absurd (omega arith)
+valued_as (Ok v) x n e =
+    let p : ◌≡◌ {A = Reply} (record { found = v.value; count = v.nodes }) (record { found = x; count = n }) = cc in
+    let q : ◌≡◌ {A = TreeValue} v (record { value = x; nodes = n }) = ap (λ (r : Reply). record { value = r.found; nodes = r.count }) p in
+    ap Ok q
+valued_as (Err r) x n e = let z : ◌≡◌ {A = ℕ} 0 1 = cc in absurd (omega arith)
 
 pub calls_worth_rule : CallsWorthRule
 unfolding reply_to

@@ -1,9 +1,8 @@
 -- What holds of every case of a choice holds of the choice, each case with what is known in it. In the shape that `search` wants. Of answers: which numbers they are refused with. Assumes nothing.
-use Rattle.std.specs.Prelude.{ℕ, ◌≡◌, refl, Bool, true, false, cond, Float}
+use Rattle.std.specs.Prelude.{ℕ, ◌≡◌, refl, Bool, true, false, cond, Float, Ok, Err}
 use Rattle.floats.specs.declared.Refusal.{Refusal}
-use Rattle.floats.specs.declared.Answer.{Answer}
-use Rattle.floats.specs.declared.Answer.TheVariants.{Value, Refused}
-use Rattle.floats.specs.Answers.{on_answer}
+use Rattle.floats.specs.Reasons.{reason_number}
+use Rattle.floats.specs.Answers.{Answer, Outcome, on_outcome}
 
 pub record Holds {A : Type 0} (P : A → Type 0) (x : A) : Type 0 where
   pub it : P x
@@ -12,10 +11,10 @@ pub of_cond : {A : Type 0} {P : A → Type 0} (b : Bool) (x y : A) → (b ≡ tr
 of_cond true x y p q = p refl
 of_cond false x y p q = q refl
 
-pub of_answer : {A : Type 0} {P : A → Type 0} (a : Answer) (f : Refusal → A) (g : Float → A) → ((r : Refusal) → a ≡ Refused r → Holds P (f r)) → ((x : Float) → a ≡ Value x → Holds P (g x)) → Holds P (on_answer a f g)
-unfolding on_answer
-of_answer (Value x) f g p q = q x refl
-of_answer (Refused r) f g p q = p r refl
+pub of_answer : {B : Type 0} {A : Type 0} {P : A → Type 0} (a : Outcome B) (f : Refusal → A) (g : B → A) → ((r : Refusal) → a ≡ Err r → Holds P (f r)) → ((x : B) → a ≡ Ok x → Holds P (g x)) → Holds P (on_outcome a f g)
+unfolding on_outcome
+of_answer (Ok x) f g p q = q x refl
+of_answer (Err r) f g p q = p r refl
 
 pub ruleset cases = (of_cond, of_answer)
 
@@ -23,19 +22,19 @@ pub ruleset cases = (of_cond, of_answer)
 
 -- A refusal's number has P; a value has none.
 abbrev pub RefusedOnly : (ℕ → Type 0) → Answer → Type 0
-RefusedOnly P (Value x) = Unit
-RefusedOnly P (Refused r) = P r.number
+RefusedOnly P (Ok x) = Unit
+RefusedOnly P (Err r) = P (reason_number r.reason)
 
-pub value-only : (P : ℕ → Type 0) (x : Float) → Holds (RefusedOnly P) (Value x)
+pub value-only : (P : ℕ → Type 0) (x : Float) → Holds (RefusedOnly P) (Ok x)
 value-only P x = record { it = tt }
 
-pub refused-only : (P : ℕ → Type 0) (r : Refusal) → P r.number → Holds (RefusedOnly P) (Refused r)
+pub refused-only : (P : ℕ → Type 0) (r : Refusal) → P (reason_number r.reason) → Holds (RefusedOnly P) (Err r)
 refused-only P r h = record { it = h }
 
 -- andThen
-pub then_only : (P : ℕ → Type 0) (a : Answer) (k : Float → Answer) → Holds (RefusedOnly P) a → ((x : Float) → Holds (RefusedOnly P) (k x)) → Holds (RefusedOnly P) (on_answer a Refused k)
-unfolding on_answer
-then_only P (Value x) k h q = q x
-then_only P (Refused r) k h q = h
+pub then_only : (P : ℕ → Type 0) (a : Answer) (k : Float → Answer) → Holds (RefusedOnly P) a → ((x : Float) → Holds (RefusedOnly P) (k x)) → Holds (RefusedOnly P) (on_outcome a Err k)
+unfolding on_outcome
+then_only P (Ok x) k h q = q x
+then_only P (Err r) k h q = h
 
 pub ruleset refusing = (of_cond, value-only, refused-only, then_only)

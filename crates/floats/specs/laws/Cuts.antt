@@ -3,7 +3,7 @@
 use Prim.Native.Nat.{ℕ, zero, suc, ◌+◌, ◌*◌, ◌%◌, ◌^◌, ◌≤◌, ◌<◌, zero-le}
 use Rattle.std.proofs.Common.{le_antisymm, le_of_eq, le_trans, le_of_lt, lt_irrefl, zero-lt-suc, mul-one, add_comm, zero-mul, mul-pos, mul_assoc, mul-lt-mul_of_pos_right, le-mul_of_pos_right, eq-zero-or-pos, arith, ap, ◌∙◌, inl, inr, true≢false, lit<, ltb→lt, pow-add, pow_pos}
 use Rattle.std.proofs.Math.Nat.{sub-zero}
-use Rattle.std.specs.Prelude.{◌≡◌, refl, ◌⊎◌, Bool, cond, ◌&&◌, ℤ, pos, negsuc, T, eqb, ltb, leb, Float}
+use Rattle.std.specs.Prelude.{◌≡◌, refl, ◌⊎◌, Bool, cond, ◌&&◌, ℤ, pos, negsuc, T, eqb, ltb, leb, Float, Ok}
 use Rattle.std.proofs.Math.Path.{sym, subst}
 use Rattle.std.proofs.Math.Bool.{true, false}
 use Rattle.std.proofs.Math.Dec.{eqb-suc-zero}
@@ -14,7 +14,6 @@ use Rattle.std.specs.Float.Ieee.Bits.{of_bits-fits}
 use Rattle.std.specs.Float.Ieee.Exact.{HasValue, round_exact}
 use Rattle.std.specs.Float.Ieee.Back.{round_whole, whole_unique}
 use Rattle.std.specs.Float.Ieee.Scale.{finite}
-use Rattle.floats.specs.declared.Answer.TheVariants.{Value}
 use Rattle.floats.specs.Answers.{plus_zero, tested}
 use Rattle.floats.specs.Whole.{whole_of}
 use Rattle.floats.specs.laws.Fractions.{leq_of_le, on_finite}
@@ -64,7 +63,7 @@ whole-finite (inf s) w = absurd w.value
 whole-finite (fin s m e) w = tt
 
 -- so the test of it as a result passes
-pub whole-tested : (y : Float) (place : ℕ) → IsWhole y → tested y place ≡ Value y
+pub whole-tested : (y : Float) (place : ℕ) → IsWhole y → tested y place ≡ Ok y
 whole-tested nan place w = absurd w.value
 whole-tested (inf s) place w = absurd w.value
 whole-tested (fin s m e) place w = refl

@@ -1,13 +1,13 @@
 -- What isn't finite stays so: a sum, a difference or a product with a part that isn't finite, and a quotient of a numerator that isn't, are not finite.
 -- So one test at the end of a chain of such operations equals a test of each operation. Assumes nothing.
-use Rattle.std.specs.Prelude.{ℕ, ◌≡◌, refl, Bool, true, false, cond, T, eqb, Float}
-use Rattle.std.proofs.Common.{sym, ap, ◌∙◌, T_not}
+use Rattle.std.specs.Prelude.{ℕ, ◌≡◌, refl, Bool, true, false, cond, T, eqb, Float, Ok, Err}
+use Rattle.std.proofs.Common.{sym, ap, subst, ◌∙◌, T_not, arith}
 use Rattle.std.specs.Float.{nan, inf, fin, Format}
 use Rattle.std.specs.Float.Ieee.{unlike, add, sub, mul, div, neg}
 use Rattle.std.specs.Float.Ieee.Scale.{finite}
-use Rattle.floats.specs.declared.Answer.{Answer}
-use Rattle.floats.specs.declared.Answer.TheVariants.{Value}
-use Rattle.floats.specs.Answers.{refusal, on_answer, and_then, not_finite, when_finite, tested}
+use Rattle.floats.specs.declared.Refusal.{Refusal}
+use Rattle.floats.specs.Answers.{Answer, Outcome, refusal, on_outcome, follow, not_finite, when_finite, tested}
+use Rattle.floats.specs.declared.Reason.TheVariants as reason
 
 -- ---- the operations
 
@@ -93,18 +93,18 @@ caught true x y h = refl
 caught false x y h = absurd h
 
 pub test_later : (g : Float → Float) (x : Float) (place : ℕ) → Spoils g → when_finite x place (λ t. tested (g t) place) ≡ tested (g x) place
-test_later g nan place h = caught (not_finite (g nan)) (refusal 27 place) (Value (g nan)) (h nan tt)
-test_later g (inf s) place h = caught (not_finite (g (inf s))) (refusal 27 place) (Value (g (inf s))) (h (inf s) tt)
+test_later g nan place h = caught (not_finite (g nan)) (refusal reason.NotFinite place) (Ok (g nan)) (h nan tt)
+test_later g (inf s) place h = caught (not_finite (g (inf s))) (refusal reason.NotFinite place) (Ok (g (inf s))) (h (inf s) tt)
 test_later g (fin s m e) place h = refl
 
 -- k tests the value of g at every finite number
-pub then_chain : (k : Float → Answer) (g : Float → Float) (x : Float) (place : ℕ) → ((y : Float) → T (finite y) → k y ≡ tested (g y) place) → Spoils g → and_then (tested x place) k ≡ tested (g x) place
-unfolding on_answer
-then_chain k g nan place e h = caught (not_finite (g nan)) (refusal 27 place) (Value (g nan)) (h nan tt)
-then_chain k g (inf s) place e h = caught (not_finite (g (inf s))) (refusal 27 place) (Value (g (inf s))) (h (inf s) tt)
+pub then_chain : (k : Float → Answer) (g : Float → Float) (x : Float) (place : ℕ) → ((y : Float) → T (finite y) → k y ≡ tested (g y) place) → Spoils g → follow (tested x place) k ≡ tested (g x) place
+unfolding on_outcome
+then_chain k g nan place e h = caught (not_finite (g nan)) (refusal reason.NotFinite place) (Ok (g nan)) (h nan tt)
+then_chain k g (inf s) place e h = caught (not_finite (g (inf s))) (refusal reason.NotFinite place) (Ok (g (inf s))) (h (inf s) tt)
 then_chain k g (fin s m e) place l h = l (fin s m e) tt
 
-pub then_later : (g : Float → Float) (x : Float) (place : ℕ) → Spoils g → and_then (tested x place) (λ t. tested (g t) place) ≡ tested (g x) place
+pub then_later : (g : Float → Float) (x : Float) (place : ℕ) → Spoils g → follow (tested x place) (λ t. tested (g t) place) ≡ tested (g x) place
 then_later g x place h = then_chain (λ t. tested (g t) place) g x place (λ y f. refl) h
 
 -- a number known to be finite passes its test
@@ -113,11 +113,31 @@ passes nan place k h = absurd h
 passes (inf s) place k h = absurd h
 passes (fin s m e) place k h = refl
 
+-- what passes the test of a result is that number, and finite
+pub passed_test : (x : Float) (place : ℕ) {y : Float} → tested x place ≡ Ok y → (y ≡ x) × T (finite x)
+passed_test nan place h = absurd (let z : ◌≡◌ {A = ℕ} 0 1 = cc in omega arith)
+passed_test (inf s) place h = absurd (let z : ◌≡◌ {A = ℕ} 0 1 = cc in omega arith)
+passed_test (fin s m e) place {y} h = (cc, tt)
+
+-- what is made of the number that passed is made of the number that was tested
+pub passed_on : {A : Type 0} (k : Float → Outcome A) (x : Float) (place : ℕ) {y : Float} {a : Outcome A} → tested x place ≡ Ok y → (T (finite y) → a ≡ k y) → a ≡ when_finite x place k
+passed_on k nan place h e = absurd (passed_test nan place h).1
+passed_on k (inf s) place h e = absurd (passed_test (inf s) place h).1
+passed_on k (fin s m d) place h e =
+    let q = passed_test (fin s m d) place h in
+    e (subst (λ (v : Float). T (finite v)) (sym q.0) q.1) ∙ ap k q.0
+
+-- and what was refused is not gone on with
+pub stopped : {A : Type 0} (k : Float → Outcome A) (x : Float) (place : ℕ) {r : Refusal} {a : Outcome A} → tested x place ≡ Err r → a ≡ Err r → a ≡ when_finite x place k
+stopped k nan place h e = cc
+stopped k (inf s) place h e = cc
+stopped k (fin s m d) place h e = cc
+
 -- ---- what the code's own test says: its flag f tells whether y is not finite
 
 -- y is z, which the definition tests
-pub tested_bad : {f : Bool} {y : Float} (z : Float) (place : ℕ) → y ≡ z → f ≡ not_finite y → f ≡ true → refusal 27 place ≡ tested z place
-tested_bad {f} {y} z place q e t = ap (λ (b : Bool). cond b (refusal 27 place) (Value y)) (sym t ∙ e) ∙ ap (λ (x : Float). tested x place) q
+pub tested_bad : {f : Bool} {y : Float} (z : Float) (place : ℕ) → y ≡ z → f ≡ not_finite y → f ≡ true → refusal reason.NotFinite place ≡ tested z place
+tested_bad {f} {y} z place q e t = ap (λ (b : Bool). cond b (refusal reason.NotFinite place) (Ok y)) (sym t ∙ e) ∙ ap (λ (x : Float). tested x place) q
 
-pub tested-good : {f : Bool} {y : Float} (z : Float) (place : ℕ) → y ≡ z → f ≡ not_finite y → f ≡ false → Value y ≡ tested z place
-tested-good {f} {y} z place q e t = ap (λ (b : Bool). cond b (refusal 27 place) (Value y)) (sym t ∙ e) ∙ ap (λ (x : Float). tested x place) q
+pub tested-good : {f : Bool} {y : Float} (z : Float) (place : ℕ) → y ≡ z → f ≡ not_finite y → f ≡ false → Ok y ≡ tested z place
+tested-good {f} {y} z place q e t = ap (λ (b : Bool). cond b (refusal reason.NotFinite place) (Ok y)) (sym t ∙ e) ∙ ap (λ (x : Float). tested x place) q

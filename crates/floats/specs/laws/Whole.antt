@@ -1,5 +1,5 @@
 -- Laws of round and ceil: they keep the order, and of a finite number they give a finite whole number, never -0. Assumes nothing.
-use Rattle.std.specs.Prelude.{ℕ, ◌+◌, ◌-◌, ◌*◌, ◌/◌, ◌≤◌, ◌<◌, ◌≡◌, refl, Bool, true, false, cond, T, Float}
+use Rattle.std.specs.Prelude.{ℕ, ◌+◌, ◌-◌, ◌*◌, ◌/◌, ◌≤◌, ◌<◌, ◌≡◌, refl, Bool, true, false, cond, T, Float, Ok}
 use Rattle.std.proofs.Common.{le_trans, le_of_eq, le_of_suc-le-suc, div-one, mul-pos, mul_comm, mul_assoc, mul_left_comm, mul_right_comm, add-mul, suc-mul, mul-le-mul_right, le_of_mul-le-mul_right, div-lt_iff_lt-mul, arith, sym, subst, ◌∙◌, lit<}
 use Rattle.std.proofs.Math.Nat.{lt-div-mul-add}
 use Rattle.std.specs.Float.{nan, inf, fin, binary64}
@@ -7,7 +7,6 @@ use Rattle.std.specs.Float.Ieee.{fits, le, in_signed, in_unsigned}
 use Rattle.std.specs.Float.Ieee.Exact.{HasValue}
 use Rattle.std.specs.Float.Ieee.Nearest.{div_mono}
 use Rattle.std.specs.Float.Ieee.Scale.{finite}
-use Rattle.floats.specs.declared.Answer.TheVariants.{Value}
 use Rattle.floats.specs.Whole.{whole_of, rounded, ceiled, round_at, ceil_at}
 use Rattle.floats.specs.Answers.{plus_zero}
 use Rattle.floats.specs.laws.Casts.{signed-between, unsigned-upto}
@@ -99,12 +98,12 @@ ceiled-whole x p h = subst IsWhole (sym (ceiled_is x)) (cut-whole upwards upward
 
 -- ---- and a value is answered
 
-pub round-answers : (x : Float) (place : ℕ) → T (fits binary64 x) → T (finite x) → round_at x place ≡ Value (rounded x)
+pub round-answers : (x : Float) (place : ℕ) → T (fits binary64 x) → T (finite x) → round_at x place ≡ Ok (rounded x)
 round-answers nan place p h = absurd h
 round-answers (inf s) place p h = absurd h
 round-answers (fin s m e) place p h = whole-tested (rounded (fin s m e)) place (rounded-whole (fin s m e) p h)
 
-pub ceil-answers : (x : Float) (place : ℕ) → T (fits binary64 x) → T (finite x) → ceil_at x place ≡ Value (ceiled x)
+pub ceil-answers : (x : Float) (place : ℕ) → T (fits binary64 x) → T (finite x) → ceil_at x place ≡ Ok (ceiled x)
 ceil-answers nan place p h = absurd h
 ceil-answers (inf s) place p h = absurd h
 ceil-answers (fin s m e) place p h = whole-tested (ceiled (fin s m e)) place (ceiled-whole (fin s m e) p h)

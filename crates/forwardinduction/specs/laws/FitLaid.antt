@@ -1,17 +1,11 @@
 -- The fit over all layers of a laid tree, on parts of the slices: what each way of one turn leaves of the whole. Assumes nothing.
-use Rattle.std.specs.Prelude.{ℕ, ◌+◌, ◌*◌, ◌<◌, ◌≡◌, refl, Bool, length, get_or, take, drop, set, ℤ, pos, Float}
+use Rattle.std.specs.Prelude.{ℕ, ◌+◌, ◌*◌, ◌<◌, ◌≡◌, refl, Bool, length, get_or, take, drop, set, ℤ, pos, Float, Ok, Err}
 use Rattle.std.proofs.Common.{sym, ap, ◌∙◌, add-one, arith}
 use mathlib.Core.List.{List, [], ◌∷◌}
 use Rattle.std.specs.Float.{nan}
 use Rattle.floats.specs.declared.Refusal.{Refusal}
-use Rattle.floats.specs.declared.Answer.{Answer}
-use Rattle.floats.specs.declared.Answer.TheVariants as answer
-use Rattle.floats.specs.Answers.{one, on_answer}
-use Rattle.terms.specs.declared.Check.{Check}
-use Rattle.terms.specs.declared.Check.TheVariants.{Passed}
-use Rattle.terms.specs.Outcomes.{Outcome, given, refused, on_outcome, follow}
+use Rattle.floats.specs.Answers.{Answer, one, on_outcome, Check, Outcome, follow}
 use Rattle.terms.specs.laws.Outcomes.{same_given, given_or_refused, follow-given, follow-refused}
-use Rattle.terms.specs.Checks.{refused_by}
 use Rattle.hullwhite.specs.laws.Filled.{check_of}
 use Rattle.lattice.specs.Layers.{At}
 use Rattle.lattice.specs.Lattice.{root_layer}
@@ -28,16 +22,16 @@ use Rattle.forwardinduction.specs.laws.Fitting.{moved_of, row_in}
 
 -- ---- what a turn leaves
 
-one_more : (shift : Float) (o : Outcome (List Float)) (r : Check) (shifts : List Float) → Found o r shifts → Found (follow o λ shifts. given (shift ∷ shifts)) r (shift ∷ shifts)
+one_more : (shift : Float) (o : Outcome (List Float)) (r : Check) (shifts : List Float) → Found o r shifts → Found (follow o λ shifts. Ok (shift ∷ shifts)) r (shift ∷ shifts)
 unfolding on_outcome check_of
-one_more shift (given ys) r shifts f = record { outcome = f.outcome; slice = λ xs g. ap (λ (l : List Float). shift ∷ l) (f.slice ys refl) ∙ same_given g }
-one_more shift (refused q) r shifts f = record { outcome = f.outcome; slice = λ xs g. absurd (given_or_refused g refl) }
+one_more shift (Ok ys) r shifts f = record { outcome = f.outcome; slice = λ xs g. ap (λ (l : List Float). shift ∷ l) (f.slice ys refl) ∙ same_given g }
+one_more shift (Err q) r shifts f = record { outcome = f.outcome; slice = λ xs g. absurd (given_or_refused g refl) }
 
 module _ (curve : Float → ℕ → Answer) (dt : Float) where
   -- no layer but the last
   pub found_none : {flat : Bool} {one two : ℕ} {counts : List ℕ} {spacings : List Float} {nodes : List ℤ} {probabilities : List Float} (step : ℕ) (row : List At) (shifts : List Float)
       → Laid flat one two counts spacings nodes probabilities → length shifts ≡ length spacings → length spacings ≡ 0
-      → Found (shifts_from curve dt step (layers_in flat counts spacings nodes probabilities) row) Passed shifts
+      → Found (shifts_from curve dt step (layers_in flat counts spacings nodes probabilities) row) (Ok tt) shifts
   unfolding layers_in shifts_from check_of
   found_none step row [] (last_laid p q r) e h = record { outcome = refl; slice = λ xs g. same_given g }
   found_none step row (x ∷ shifts) (last_laid p q r) e h = absurd (omega arith)
@@ -54,24 +48,24 @@ module _ (curve : Float → ℕ → Answer) (dt : Float) where
     abbrev one_step : Outcome Moved
     one_step = step_at curve dt step flat (front_count counts) (get_or spacings 0 nan) (front_nodes (front_count counts) nodes) (take (front_count counts * 3) probabilities) lent
 
-    turn : whole ≡ follow one_step λ m. follow (others m.rows) λ shifts. given (m.shift ∷ shifts)
+    turn : whole ≡ follow one_step λ m. follow (others m.rows) λ shifts. Ok (m.shift ∷ shifts)
     turn =
         rw (a.layers, part_from_lem 1 counts, part_from_lem 1 spacings, part_from_lem (front_count counts * 2) nodes, part_from_lem (front_count counts * 3) probabilities, a.next)
         (rw (← add-one step) at (fit_more a.stepped curve dt (get_or spacings 0 nan) step lent (layers_in flat (drop 1 counts) (drop 1 spacings) (drop (front_count counts * 2) nodes) (drop (front_count counts * 3) probabilities)) a.stepped.first_room a.stepped.second-room a.stepped.next_first a.stepped.next_second))
 
     module _ {s : Answer} (e : moved_of s left ≡ one_step) where
       -- the step refused
-      pub found-refused : {q : Refusal} (r : Check) (shifts : List Float) → s ≡ answer.Refused q → r ≡ refused_by s → Found whole r shifts
-      unfolding on_answer check_of
-      found-refused {q} r shifts v f =
-          let w : whole ≡ refused q = turn ∙ follow-refused one_step _ (sym e ∙ rw v) in
-          record { outcome = f ∙ rw (v, w); slice = λ xs g. absurd (given_or_refused g w) }
+      pub found-refused : {q : Refusal} {r : Check} (shifts : List Float) → s ≡ Err q → r ≡ Err q → Found whole r shifts
+      unfolding on_outcome check_of
+      found-refused {q} shifts v f =
+          let w : whole ≡ Err q = turn ∙ follow-refused one_step _ (sym e ∙ rw v) in
+          record { outcome = f ∙ rw w; slice = λ xs g. absurd (given_or_refused g w) }
 
       -- the step gave a shift
-      pub found_more : {shift : Float} (r : Check) (shifts rest : List Float) → 0 < length shifts → s ≡ answer.Value shift → Found (others left) r rest → Found whole r (with_part 1 (set shifts 0 shift) rest)
-      unfolding on_answer
+      pub found_more : {shift : Float} (r : Check) (shifts rest : List Float) → 0 < length shifts → s ≡ Ok shift → Found (others left) r rest → Found whole r (with_part 1 (set shifts 0 shift) rest)
+      unfolding on_outcome
       found_more {shift} r shifts rest h v f =
-          let w : whole ≡ follow (others left) λ shifts. given (shift ∷ shifts) = turn ∙ follow-given one_step _ (sym e ∙ rw v) in
+          let w : whole ≡ follow (others left) λ shifts. Ok (shift ∷ shifts) = turn ∙ follow-given one_step _ (sym e ∙ rw v) in
           rw (with_rest shifts shift rest h, w) (one_more shift (others left) r rest f)
 
 -- ---- from the root

@@ -1,5 +1,5 @@
 -- One step of the fit over the lent rows is one step of the definition. Assumes nothing.
-use Rattle.std.specs.Prelude.{ℕ, suc, ◌+◌, ◌*◌, ◌%◌, ◌≤◌, ◌≡◌, Bool, cond, take, drop, ℤ}
+use Rattle.std.specs.Prelude.{ℕ, suc, ◌+◌, ◌*◌, ◌%◌, ◌≤◌, ◌≡◌, Bool, cond, take, drop, ℤ, Ok}
 use Rattle.std.proofs.Math.Path.{refl, sym, ap}
 use Rattle.std.proofs.Common.{◌∙◌, arith}
 use Rattle.std.proofs.Math.Bool.{true, false}
@@ -8,9 +8,7 @@ use borrow.Author.Tests.{eqb-true, eqb-false, eq-eqb, ne_eqb}
 use Rattle.std.proofs.Math.ListN.{length}
 use Rattle.std.proofs.Math.Seq.{length-take-le}
 use Rattle.std.specs.Float.Ieee.{Float}
-use Rattle.floats.specs.Answers.{plus_zero}
-use Rattle.floats.specs.declared.Answer.{Answer}
-use Rattle.terms.specs.Outcomes.{Outcome, given, follow}
+use Rattle.floats.specs.Answers.{plus_zero, Answer, Outcome, follow}
 use Rattle.lattice.specs.Layers.{At}
 use Rattle.lattice.specs.Lattice.{Layer}
 use Rattle.forwardinduction.specs.Fit.{weighted, shift_of, onward, shifts_from}
@@ -54,7 +52,7 @@ module _ {flat : Bool} {one two c n : ℕ} {nodes : List ℤ} {probabilities : L
   -- the contributions, from a current row to the other
   onward-front : (spacing dt shift : Float) (place : ℕ) (row out : List Float) → c ≤ length row → n ≤ length out
       → onward spacing dt shift place (transitions_in flat (front_nodes c nodes) (take (c * 3) probabilities)) (row_of (numbers_in (front_nodes c nodes)) (take c row)) []
-      ≡ follow (onward_at spacing dt shift place flat (start_of (front_nodes c nodes)) (front_nodes c nodes) (take (c * 3) probabilities) (take c row) out) λ o. given (row_of s.numbers o)
+      ≡ follow (onward_at spacing dt shift place flat (start_of (front_nodes c nodes)) (front_nodes c nodes) (take (c * 3) probabilities) (take c row) out) λ o. Ok (row_of s.numbers o)
   unfolding row_of
   onward-front spacing dt shift place row out h k =
       let e : length (take c row) ≡ c = length-take-le c row h in
@@ -76,8 +74,8 @@ module _ {flat : Bool} {one two c n : ℕ} {nodes : List ℤ} {probabilities : L
       go : (b : Bool) → even step ≡ b
           → follow (onward spacing dt shift step (transitions_in flat (front_nodes c nodes) (take (c * 3) probabilities)) (row_of (numbers_in (front_nodes c nodes)) (cond b (take c rows.first) (take c rows.second))) []) k
           ≡ follow (cond b
-          (follow (onward_at spacing dt shift step flat (start_of (front_nodes c nodes)) (front_nodes c nodes) (take (c * 3) probabilities) (take c rows.first) rows.second) λ o. given (record { first = rows.first; second = o }))
-          (follow (onward_at spacing dt shift step flat (start_of (front_nodes c nodes)) (front_nodes c nodes) (take (c * 3) probabilities) (take c rows.second) rows.first) λ o. given (record { first = o; second = rows.second })))
+          (follow (onward_at spacing dt shift step flat (start_of (front_nodes c nodes)) (front_nodes c nodes) (take (c * 3) probabilities) (take c rows.first) rows.second) λ o. Ok (record { first = rows.first; second = o }))
+          (follow (onward_at spacing dt shift step flat (start_of (front_nodes c nodes)) (front_nodes c nodes) (take (c * 3) probabilities) (take c rows.second) rows.first) λ o. Ok (record { first = o; second = rows.second })))
           λ rows. k (next_row step rows)
       go true q =
           let h : step % 2 ≡ 0 = eqb-true (step % 2) 0 q in
@@ -100,15 +98,15 @@ module _ {flat : Bool} {one two c n : ℕ} {nodes : List ℤ} {probabilities : L
   -- one step, then the others
   pub fit_more : (curve : Float → ℕ → Answer) (dt spacing : Float) (step : ℕ) (rows : Both) (layers : List Layer) → c ≤ length rows.first → c ≤ length rows.second → n ≤ length rows.first → n ≤ length rows.second
       → shifts_from curve dt step (front_layer flat c spacing nodes probabilities ∷ layers) (row_of (numbers_in (front_nodes c nodes)) (current_part step c rows.first rows.second))
-      ≡ follow (step_at curve dt step flat c spacing (front_nodes c nodes) (take (c * 3) probabilities) rows) λ m. follow (shifts_from curve dt (suc step) layers (next_row step m.rows)) λ shifts. given (m.shift ∷ shifts)
+      ≡ follow (step_at curve dt step flat c spacing (front_nodes c nodes) (take (c * 3) probabilities) rows) λ m. follow (shifts_from curve dt (suc step) layers (next_row step m.rows)) λ shifts. Ok (m.shift ∷ shifts)
   unfolding shifts_from step_at
   fit_more curve dt spacing step rows layers a b d e =
       let row : List At = row_of (numbers_in (front_nodes c nodes)) (current_part step c rows.first rows.second) in
-      let rest : Float → List At → Outcome (List Float) = λ shift next. follow (shifts_from curve dt (suc step) layers next) λ shifts. given (shift ∷ shifts) in
+      let rest : Float → List At → Outcome (List Float) = λ shift next. follow (shifts_from curve dt (suc step) layers next) λ shifts. Ok (shift ∷ shifts) in
       let after : Moved → Outcome (List Float) = λ m. rest m.shift (next_row step m.rows) in
       let adv : Float → Outcome Both = λ shift. advanced_at spacing dt shift step flat c (front_nodes c nodes) (take (c * 3) probabilities) rows in
       let on : Float → Outcome (List Float) = λ shift. follow (onward spacing dt shift step (transitions_in flat (front_nodes c nodes) (take (c * 3) probabilities)) row []) (rest shift) in
       sym (valued_then on (weighted spacing dt step row plus_zero) (λ sum. shift_of curve dt step sum) _ (λ sum. refl))
-      ∙ valued_same (layer_shift curve dt step spacing row) on (λ shift. follow (follow (adv shift) λ rows. given (record { shift = shift; rows = rows })) after)
+      ∙ valued_same (layer_shift curve dt step spacing row) on (λ shift. follow (follow (adv shift) λ rows. Ok (record { shift = shift; rows = rows })) after)
       (λ shift. advance_more spacing dt shift step rows (rest shift) a b d e ∙ sym (follow-follow after (adv shift) _ _ (λ rows. follow-given after _)))
       ∙ sym (follow-valued after (layer_shift curve dt step spacing row) _ _ (λ shift. refl))

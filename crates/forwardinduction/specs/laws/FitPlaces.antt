@@ -1,5 +1,5 @@
 -- The fit by positions is the fit: over a next layer whose numbers climb, and whose places the replay finds, one layer's contributions are those of the definition. Assumes nothing.
-use Rattle.std.specs.Prelude.{ℕ, ◌*◌, ◌≤◌, ◌≡◌, refl, Bool, ltb, length, get_or, take, ℤ}
+use Rattle.std.specs.Prelude.{ℕ, ◌*◌, ◌≤◌, ◌≡◌, refl, Bool, ltb, length, get_or, take, ℤ, Ok}
 use Rattle.std.proofs.Math.Path.{sym, ap}
 use Rattle.std.proofs.Common.{◌∙◌, arith, length-set}
 use Rattle.std.proofs.Math.Bool.{cond}
@@ -7,8 +7,7 @@ use mathlib.Core.List.{List, [], ◌∷◌}
 use Rattle.std.proofs.Math.Seq.{take-length}
 use Rattle.std.specs.Float.Ieee.{Float, binary64, add, mul}
 use Rattle.std.specs.Float.{nan}
-use Rattle.floats.specs.Answers.{not_finite}
-use Rattle.terms.specs.Outcomes.{Outcome, given, follow, valued, finite_then, refuse}
+use Rattle.floats.specs.Answers.{not_finite, Outcome, follow, when_finite, refusal}
 use Rattle.lattice.specs.declared.Transition.{Transition}
 use Rattle.lattice.specs.declared.reach.Reach.{Reach}
 use Rattle.lattice.specs.Layers.{At, node_float}
@@ -22,6 +21,7 @@ use Rattle.lattice.specs.laws.Positions.{spot_at, past}
 use Rattle.lattice.specs.laws.Spots.{Spot, Spots, after_three, Placed, all_placed, next_placed}
 use Rattle.forwardinduction.specs.laws.Placing.{contribute_at, made_down, made-middle, made_up, made_first, made-second, made-third}
 use Rattle.forwardinduction.specs.laws.FitSteps.{discounted_of, add_at, share_at, add_three, onward_at}
+use Rattle.floats.specs.declared.Reason.TheVariants as reason
 
 -- ---- lengths are kept
 
@@ -56,31 +56,31 @@ three_length place flat c count price d m u out =
 
 module _ {t : ℤ} {ns : List ℤ} (climbs : Climbs t ns) (place : ℕ) (price : Float) where
   -- the last of a node's contributions
-  share_last : {c p : ℕ} {n : ℤ} (pr : Float) (out : List Float) → Spot ns c p n → length ns ≤ length out → finite_then (mul binary64 price pr) place (λ x. contribute place n x (row_of (take c ns) out)) ≡ follow (share_at place p c price pr out) λ o. given (row_of (take (past c p) ns) o)
+  share_last : {c p : ℕ} {n : ℤ} (pr : Float) (out : List Float) → Spot ns c p n → length ns ≤ length out → when_finite (mul binary64 price pr) place (λ x. contribute place n x (row_of (take c ns) out)) ≡ follow (share_at place p c price pr out) λ o. Ok (row_of (take (past c p) ns) o)
   unfolding share_at
   share_last {c} {p} {n} pr out s l =
       let x : Float = mul binary64 price pr in
-      let g : List Float → Outcome (List At) = λ o. given (row_of (take (past c p) ns) o) in
+      let g : List Float → Outcome (List At) = λ o. Ok (row_of (take (past c p) ns) o) in
       let inner : contribute place n x (row_of (take c ns) out) ≡ follow (add_at place p c x out) g =
       ap (λ (z : ℤ). contribute place z x (row_of (take c ns) out)) (sym s.number) ∙ contribute_at place x climbs p c out s.reached s.inside l in
-      ap (λ (z : Outcome (List At)). cond (not_finite x) (refuse 27 place) z) inner
-      ∙ sym (follow-cond g (not_finite x) 27 place (add_at place p c x out) (follow (add_at place p c x out) g) refl)
+      ap (λ (z : Outcome (List At)). cond (not_finite x) (refusal reason.NotFinite place) z) inner
+      ∙ sym (follow-cond g (not_finite x) reason.NotFinite place (add_at place p c x out) (follow (add_at place p c x out) g) refl)
 
   -- one that others follow
-  share_then : {c p : ℕ} {n : ℤ} (pr : Float) (out : List Float) → Spot ns c p n → length ns ≤ length out → (k : List At → Outcome (List At)) → finite_then (mul binary64 price pr) place (λ x. follow (contribute place n x (row_of (take c ns) out)) k) ≡ follow (share_at place p c price pr out) λ o. k (row_of (take (past c p) ns) o)
+  share_then : {c p : ℕ} {n : ℤ} (pr : Float) (out : List Float) → Spot ns c p n → length ns ≤ length out → (k : List At → Outcome (List At)) → when_finite (mul binary64 price pr) place (λ x. follow (contribute place n x (row_of (take c ns) out)) k) ≡ follow (share_at place p c price pr out) λ o. k (row_of (take (past c p) ns) o)
   share_then {c} {p} {n} pr out s l k =
       let x : Float = mul binary64 price pr in
-      sym (follow-cond k (not_finite x) 27 place (contribute place n x (row_of (take c ns) out)) (follow (contribute place n x (row_of (take c ns) out)) k) refl)
+      sym (follow-cond k (not_finite x) reason.NotFinite place (contribute place n x (row_of (take c ns) out)) (follow (contribute place n x (row_of (take c ns) out)) k) refl)
       ∙ ap (λ (z : Outcome (List At)). follow z k) (share_last pr out s l)
       ∙ follow-follow k (share_at place p c price pr out) _ (λ o. k (row_of (take (past c p) ns) o)) (λ o. follow-given k _)
 
   three_of : {c a b e : ℕ} {nd nm nu : ℤ} (pd pm pu : Float) (out : List Float)
       → Spot ns c a nd → Spot ns (past c a) b nm → Spot ns (past (past c a) b) e nu → length ns ≤ length out
-      → finite_then (mul binary64 price pd) place (λ x. follow (contribute place nd x (row_of (take c ns) out)) λ row. finite_then (mul binary64 price pm) place λ y. follow (contribute place nm y row) λ row. finite_then (mul binary64 price pu) place λ z. contribute place nu z row)
-      ≡ follow (share_at place a c price pd out) λ o. follow (share_at place b (past c a) price pm o) λ o. follow (share_at place e (past (past c a) b) price pu o) λ o. given (row_of (take (past (past (past c a) b) e) ns) o)
+      → when_finite (mul binary64 price pd) place (λ x. follow (contribute place nd x (row_of (take c ns) out)) λ row. when_finite (mul binary64 price pm) place λ y. follow (contribute place nm y row) λ row. when_finite (mul binary64 price pu) place λ z. contribute place nu z row)
+      ≡ follow (share_at place a c price pd out) λ o. follow (share_at place b (past c a) price pm o) λ o. follow (share_at place e (past (past c a) b) price pu o) λ o. Ok (row_of (take (past (past (past c a) b) e) ns) o)
   three_of {c} {a} {b} {e} {nd} {nm} {nu} pd pm pu out low mid high l =
-      let k2 : List At → Outcome (List At) = λ row. finite_then (mul binary64 price pu) place λ z. contribute place nu z row in
-      let k1 : List At → Outcome (List At) = λ row. finite_then (mul binary64 price pm) place λ y. follow (contribute place nm y row) k2 in
+      let k2 : List At → Outcome (List At) = λ row. when_finite (mul binary64 price pu) place λ z. contribute place nu z row in
+      let k1 : List At → Outcome (List At) = λ row. when_finite (mul binary64 price pm) place λ y. follow (contribute place nm y row) k2 in
       share_then pd out low l k1
       ∙ follow_where _ _ (share-length place a c price pd out)
       (λ o lo.
@@ -89,10 +89,10 @@ module _ {t : ℤ} {ns : List ℤ} (climbs : Climbs t ns) (place : ℕ) (price :
       ∙ follow_where _ _ (share-length place b (past c a) price pm o) (λ q lq. let w : length ns ≤ length q = omega arith in share_last pu q high w))
 
   -- a node's three contributions
-  three_at : {flat : Bool} {c count : ℕ} {m : ℤ} (d p u : Float) (out : List Float) → Spots ns flat c count m → length ns ≤ length out → contribute_three place (made_of flat m d p u) price (row_of (take c ns) out) ≡ follow (add_three place flat c count price d p u out) λ o. given (row_of (take (after_three flat c count) ns) o)
+  three_at : {flat : Bool} {c count : ℕ} {m : ℤ} (d p u : Float) (out : List Float) → Spots ns flat c count m → length ns ≤ length out → contribute_three place (made_of flat m d p u) price (row_of (take c ns) out) ≡ follow (add_three place flat c count price d p u out) λ o. Ok (row_of (take (after_three flat c count) ns) o)
   unfolding add_three
   three_at {flat} {c} {count} {m} d p u out s l =
-      let g : List Float → Outcome (List At) = λ o. given (row_of (take (after_three flat c count) ns) o) in
+      let g : List Float → Outcome (List At) = λ o. Ok (row_of (take (after_three flat c count) ns) o) in
       rw (made_down flat m d p u, made-middle flat m d p u, made_up flat m d p u, made_first flat m d p u, made-second flat m d p u, made-third flat m d p u)
       (three_of d p u out s.low s.mid s.high l
       ∙ sym (follow-follow g (share_at place (spot_at flat count 3) c price d out) _ _ (λ o. follow-follow g (share_at place (spot_at flat count 2) (past c (spot_at flat count 3)) price p o) _ _ (λ q. refl))))
@@ -101,17 +101,17 @@ module _ {t : ℤ} {ns : List ℤ} (climbs : Climbs t ns) (place : ℕ) (price :
 
 -- The first node, then the others.
 onward_more : (spacing dt shift : Float) (place : ℕ) (t : Transition) (ts : List Transition) (a : At) (row next : List At)
-    → valued (discounted_of spacing dt shift place (node_float a.node) a.value) (λ price. follow (contribute_three place t price next) λ next. onward spacing dt shift place ts row next) ≡ onward spacing dt shift place (t ∷ ts) (a ∷ row) next
+    → follow (discounted_of spacing dt shift place (node_float a.node) a.value) (λ price. follow (contribute_three place t price next) λ next. onward spacing dt shift place ts row next) ≡ onward spacing dt shift place (t ∷ ts) (a ∷ row) next
 unfolding onward discounted_of
 onward_more spacing dt shift place t ts a row next = search binds depth 12
 
-onward-none : (spacing dt shift : Float) (place : ℕ) (row next : List At) → onward spacing dt shift place [] row next ≡ given next
+onward-none : (spacing dt shift : Float) (place : ℕ) (row next : List At) → onward spacing dt shift place [] row next ≡ Ok next
 unfolding onward
 onward-none spacing dt shift place row next = refl
 
 module _ {t : ℤ} {ns : List ℤ} (climbs : Climbs t ns) (flat : Bool) (spacing dt shift : Float) (place : ℕ) where
   abbrev laid_out : List Float → Outcome (List At)
-  laid_out o = given (row_of ns o)
+  laid_out o = Ok (row_of ns o)
 
   -- The next row holds the values of the definition's, in order.
   pub onward_at_lem : (r : Reach) (c : ℕ) (nodes : List ℤ) (probabilities row out : List Float) → Placed ns flat r c (middles_in nodes) → length nodes ≡ length row * 2 → length probabilities ≡ length row * 3 → length ns ≤ length out → onward spacing dt shift place (transitions_in flat nodes probabilities) (row_of (numbers_in nodes) row) (row_of (take c ns) out) ≡ follow (onward_at spacing dt shift place flat r nodes probabilities row out) laid_out

@@ -1,14 +1,9 @@
 -- One step of the fit in the code: its answer beside the rows that it leaves, by the way it went. Assumes nothing.
-use Rattle.std.specs.Prelude.{ℕ, ◌≤◌, ◌≡◌, Bool, true, false, cond, List, length, take, ℤ, Float}
+use Rattle.std.specs.Prelude.{ℕ, ◌≤◌, ◌≡◌, Bool, true, false, cond, List, length, take, ℤ, Float, Ok, Err}
 use Rattle.std.proofs.Math.Path.{sym, ap}
 use Rattle.std.proofs.Common.{◌∙◌, length-take-le}
 use Rattle.floats.specs.declared.Refusal.{Refusal}
-use Rattle.floats.specs.declared.Answer.{Answer}
-use Rattle.floats.specs.declared.Answer.TheVariants.{Value, Refused}
-use Rattle.floats.specs.Answers.{on_answer}
-use Rattle.terms.specs.declared.Check.{Check}
-use Rattle.terms.specs.declared.Check.TheVariants as check
-use Rattle.terms.specs.Outcomes.{Outcome, given, valued}
+use Rattle.floats.specs.Answers.{Answer, on_outcome, Check, Outcome, follow}
 use Rattle.terms.specs.laws.Outcomes.{follow-given, follow-refused}
 use Rattle.lattice.specs.Layers.{At}
 use Rattle.lattice.specs.laws.Stored.{numbers_in, row_of}
@@ -23,24 +18,24 @@ row_in step c nodes rows = row_of (numbers_in (front_nodes c nodes)) (current_pa
 
 -- A step's shift with the rows that are left, or its refusal.
 abbrev pub moved_of : Answer → Both → Outcome Moved
-moved_of r rows = valued r λ shift. given (record { shift = shift; rows = rows })
+moved_of r rows = follow r λ shift. Ok (record { shift = shift; rows = rows })
 
 module _ (curve : Float → ℕ → Answer) (dt : Float) (step : ℕ) (flat : Bool) (count : ℕ) (spacing : Float) (nodes : List ℤ) (probabilities : List Float) (rows after : Both) where
   module _ {row : List Float} {s : Answer} (here : row ≡ current_part step count rows.first rows.second) (e : s ≡ layer_shift curve dt step spacing (row_of (numbers_in nodes) row)) where
     -- no shift
-    pub step-refused : {q : Refusal} → s ≡ Refused q → moved_of s after ≡ step_at curve dt step flat count spacing nodes probabilities rows
-    unfolding step_at on_answer
+    pub step-refused : {q : Refusal} → s ≡ Err q → moved_of s after ≡ step_at curve dt step flat count spacing nodes probabilities rows
+    unfolding step_at on_outcome
     step-refused v = rw v (sym (stopped_at _ _ (rw here at e) v))
 
-    module _ {shift : Float} (v : s ≡ Value shift) {a : Check} (w : outcome_of a after ≡ advanced_at spacing dt shift step flat count nodes probabilities rows) where
+    module _ {shift : Float} (v : s ≡ Ok shift) {a : Check} (w : outcome_of a after ≡ advanced_at spacing dt shift step flat count nodes probabilities rows) where
       -- a shift, and no other row
-      pub step-halted : {q : Refusal} → a ≡ check.Refused q → moved_of (Refused q) after ≡ step_at curve dt step flat count spacing nodes probabilities rows
-      unfolding step_at on_answer outcome_of
+      pub step-halted : {q : Refusal} → a ≡ Err q → moved_of (Err q) after ≡ step_at curve dt step flat count spacing nodes probabilities rows
+      unfolding step_at on_outcome outcome_of
       step-halted h = sym (went_on _ _ (rw here at e) v ∙ follow-refused _ _ (sym w ∙ ap (λ (z : Check). outcome_of z after) h))
 
       -- both
-      pub step-moved : a ≡ check.Passed → moved_of (Value shift) after ≡ step_at curve dt step flat count spacing nodes probabilities rows
-      unfolding step_at on_answer outcome_of
+      pub step-moved : a ≡ Ok tt → moved_of (Ok shift) after ≡ step_at curve dt step flat count spacing nodes probabilities rows
+      unfolding step_at on_outcome outcome_of
       step-moved h = sym (went_on _ _ (rw here at e) v ∙ follow-given _ _ (sym w ∙ ap (λ (z : Check). outcome_of z after) h))
 
 -- The current part is as long as the layer.

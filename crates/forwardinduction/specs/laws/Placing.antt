@@ -1,5 +1,5 @@
 -- Node numbers and positions: in a layer whose numbers climb, what a row has at a node is what it has at the node's position, and a contribution to the node goes there. Assumes nothing.
-use Rattle.std.specs.Prelude.{ℕ, zero, suc, ◌+◌, ◌≤◌, ◌<◌, ◌≡◌, Bool, true, false, not, List, [], ◌∷◌, T, ltb, length, get_or, set, take, ℤ, pos, negsuc, Float}
+use Rattle.std.specs.Prelude.{ℕ, zero, suc, ◌+◌, ◌≤◌, ◌<◌, ◌≡◌, Bool, true, false, not, List, [], ◌∷◌, T, ltb, length, get_or, set, take, ℤ, pos, negsuc, Float, Ok}
 use Rattle.std.proofs.Math.Path.{refl}
 use Rattle.std.proofs.Common.{sym, ◌∙◌, arith, lt-ltb, ltb→lt, lt→ltb}
 use Rattle.std.proofs.Math.Bool.{cond}
@@ -8,8 +8,7 @@ use Rattle.std.proofs.Math.IntN.{pred_ℤ, suc_ℤ}
 use Rattle.std.specs.Float.{binary64, nan}
 use Rattle.std.specs.Float.Ieee.{add}
 use Rattle.std.specs.Float.Ieee.Scale.{finite}
-use Rattle.floats.specs.Answers.{not_finite}
-use Rattle.terms.specs.Outcomes.{given, on_outcome, follow, refuse}
+use Rattle.floats.specs.Answers.{not_finite, follow, on_outcome, refusal}
 use Rattle.lattice.specs.Layers.{below, value_at}
 use Rattle.forwardinduction.specs.Fit.{contribute}
 use Rattle.lattice.specs.laws.IntegerOrder.{below_self, below_asym}
@@ -18,6 +17,7 @@ use Rattle.lattice.specs.laws.Stored.{row_of, made_of}
 use Rattle.lattice.specs.laws.Binds.{follow-cond, follow-follow, follow-given}
 use Rattle.lattice.specs.laws.Positions.{past}
 use Rattle.forwardinduction.specs.laws.FitSteps.{add_at}
+use Rattle.floats.specs.declared.Reason.TheVariants as reason
 
 -- ---- the order of numbers
 
@@ -54,22 +54,22 @@ value_at_lem (above {x = x} {xs = xs} b c) (suc p) (v ∷ vs) h l =
 
 -- ---- contributing
 
-add-suc : (place p c : ℕ) (x o : Float) (out : List Float) → add_at place (suc p) (suc c) x (o ∷ out) ≡ follow (add_at place p c x out) λ rest. given (o ∷ rest)
+add-suc : (place p c : ℕ) (x o : Float) (out : List Float) → add_at place (suc p) (suc c) x (o ∷ out) ≡ follow (add_at place p c x out) λ rest. Ok (o ∷ rest)
 unfolding add_at on_outcome
 add-suc place p c x o out = rw (leb-suc-suc (suc p) c) (go (ltb p c) (finite (add binary64 (get_or out p nan) x)))
   where
     go : (b f : Bool)
-        → cond b (cond (not f) (refuse 27 place) (given (o ∷ set out p (add binary64 (get_or out p nan) x)))) (given (o ∷ set out p x))
-        ≡ follow (cond b (cond (not f) (refuse 27 place) (given (set out p (add binary64 (get_or out p nan) x)))) (given (set out p x))) λ rest. given (o ∷ rest)
+        → cond b (cond (not f) (refusal reason.NotFinite place) (Ok (o ∷ set out p (add binary64 (get_or out p nan) x)))) (Ok (o ∷ set out p x))
+        ≡ follow (cond b (cond (not f) (refusal reason.NotFinite place) (Ok (set out p (add binary64 (get_or out p nan) x)))) (Ok (set out p x))) λ rest. Ok (o ∷ rest)
     go true true = refl
     go true false = refl
     go false f = refl
 
-add-first : (place : ℕ) (x o : Float) (out : List Float) → add_at place 0 0 x (o ∷ out) ≡ given (x ∷ out)
+add-first : (place : ℕ) (x o : Float) (out : List Float) → add_at place 0 0 x (o ∷ out) ≡ Ok (x ∷ out)
 unfolding add_at
 add-first place x o out = refl
 
-add_again : (place c : ℕ) (x o : Float) (out : List Float) → add_at place 0 (suc c) x (o ∷ out) ≡ cond (not_finite (add binary64 o x)) (refuse 27 place) (given (add binary64 o x ∷ out))
+add_again : (place c : ℕ) (x o : Float) (out : List Float) → add_at place 0 (suc c) x (o ∷ out) ≡ cond (not_finite (add binary64 o x)) (refusal reason.NotFinite place) (Ok (add binary64 o x ∷ out))
 unfolding add_at
 add_again place c x o out = rw (lt-ltb 0 (suc c) (omega arith))
 
@@ -81,22 +81,22 @@ past-suc c p = rw (leb-suc-suc (suc p) c) (go (ltb p c))
     go false = omega arith
 
 -- The row so far has the first c numbers; a contribution goes to a position among them, or to the next.
-pub contribute_at : (place : ℕ) (x : Float) {t : ℤ} {ns : List ℤ} → Climbs t ns → (p c : ℕ) (out : List Float) → p ≤ c → p < length ns → length ns ≤ length out → contribute place (get_or ns p (pos 0)) x (row_of (take c ns) out) ≡ follow (add_at place p c x out) λ o. given (row_of (take (past c p) ns) o)
+pub contribute_at : (place : ℕ) (x : Float) {t : ℤ} {ns : List ℤ} → Climbs t ns → (p c : ℕ) (out : List Float) → p ≤ c → p < length ns → length ns ≤ length out → contribute place (get_or ns p (pos 0)) x (row_of (take c ns) out) ≡ follow (add_at place p c x out) λ o. Ok (row_of (take (past c p) ns) o)
 unfolding contribute row_of
 contribute_at place x none p c out a b l = absurd (omega arith)
 contribute_at place x (above g r) p c [] a b l = absurd (omega arith)
-contribute_at place x (above {x = n} {xs = ns} g r) zero zero (o ∷ out) a b l = rw (add-first place x o out) (sym (follow-given (λ z. given (row_of (take 1 (n ∷ ns)) z)) (x ∷ out)))
+contribute_at place x (above {x = n} {xs = ns} g r) zero zero (o ∷ out) a b l = rw (add-first place x o out) (sym (follow-given (λ z. Ok (row_of (take 1 (n ∷ ns)) z)) (x ∷ out)))
 contribute_at place x (above {x = n} {xs = ns} g r) zero (suc c) (o ∷ out) a b l =
     let e : ltb 0 (suc c) ≡ true = lt-ltb 0 (suc c) (omega arith) in
     rw (below_self n, add_again place c x o out, e)
-    (sym (follow-cond (λ z. given (row_of (take (suc c) (n ∷ ns)) z)) (not_finite (add binary64 o x)) 27 place (given (add binary64 o x ∷ out)) _ (follow-given (λ z. given (row_of (take (suc c) (n ∷ ns)) z)) (add binary64 o x ∷ out))))
+    (sym (follow-cond (λ z. Ok (row_of (take (suc c) (n ∷ ns)) z)) (not_finite (add binary64 o x)) reason.NotFinite place (Ok (add binary64 o x ∷ out)) _ (follow-given (λ z. Ok (row_of (take (suc c) (n ∷ ns)) z)) (add binary64 o x ∷ out))))
 contribute_at place x (above g r) (suc p) zero (o ∷ out) a b l = absurd (omega arith)
 contribute_at place x (above {x = n} {xs = ns} g r) (suc p) (suc c) (o ∷ out) a b l =
     let k : p < length ns = omega arith in
     let t : below n (get_or ns p (pos 0)) ≡ true = T_true _ (climbs_at r p k) in
     rw (t, below_asym n (get_or ns p (pos 0)) t, contribute_at place x r p c out (omega arith) k (omega arith), add-suc place p c x o out, past-suc c p)
-    (follow-follow (λ row. given (record { node = n; value = o } ∷ row)) (add_at place p c x out) _ _ (λ z. follow-given _ _)
-    ∙ sym (follow-follow (λ z. given (row_of (take (suc (past c p)) (n ∷ ns)) z)) (add_at place p c x out) _ _ (λ z. follow-given _ _)))
+    (follow-follow (λ row. Ok (record { node = n; value = o } ∷ row)) (add_at place p c x out) _ _ (λ z. follow-given _ _)
+    ∙ sym (follow-follow (λ z. Ok (row_of (take (suc (past c p)) (n ∷ ns)) z)) (add_at place p c x out) _ _ (λ z. follow-given _ _)))
 
 -- ---- what a transition's fields are, flat tree or not
 

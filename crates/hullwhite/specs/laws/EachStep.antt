@@ -2,33 +2,27 @@
 use Prim.Native.Nat.{ℕ, zero, suc, ◌+◌, ◌-◌, ◌≤◌, ◌<◌}
 use Rattle.std.proofs.Math.Numerals.{add-one}
 use native.Mathlib.Omega.{arith}
-use Rattle.std.specs.Prelude.{◌≡◌, List, [], ◌∷◌, length, set, Float}
+use Rattle.std.specs.Prelude.{◌≡◌, List, [], ◌∷◌, length, set, Float, Ok, Err}
 use Rattle.std.proofs.Math.Path.{refl}
 use Rattle.std.proofs.Common.{sym, ◌∙◌}
 use Rattle.floats.specs.declared.Refusal.{Refusal}
-use Rattle.floats.specs.declared.Answer.{Answer}
-use Rattle.floats.specs.declared.Answer.TheVariants as answer
-use Rattle.floats.specs.Answers.{on_answer}
-use Rattle.terms.specs.declared.Check.{Check}
-use Rattle.terms.specs.declared.Check.TheVariants.{Passed}
+use Rattle.floats.specs.Answers.{Answer, on_outcome, Check, follow}
 use Rattle.terms.specs.Terms.{HullWhite}
-use Rattle.terms.specs.Checks.{refused_by}
-use Rattle.terms.specs.Outcomes.{given, follow, valued}
 use Rattle.hullwhite.specs.Variance.{step_variance, variances_from}
 use Rattle.hullwhite.specs.laws.Filled.{Filled, Filling, filling-none, filling-refused, filling-done, filling_more}
 
 module _ (model : HullWhite) (dt : Float) where
   -- step k's variance, and then those of the steps after it
-  variances_more : (steps k : ℕ) → k < steps → variances_from model dt (steps - k) k ≡ valued (step_variance model dt k) (λ v. follow (variances_from model dt (steps - (k + 1)) (k + 1)) λ vs. given (v ∷ vs))
+  variances_more : (steps k : ℕ) → k < steps → variances_from model dt (steps - k) k ≡ follow (step_variance model dt k) (λ v. follow (variances_from model dt (steps - (k + 1)) (k + 1)) λ vs. Ok (v ∷ vs))
   unfolding variances_from
   variances_more steps k h =
       let e : steps - k ≡ suc (steps - (k + 1)) = omega arith in
       rw (e, add-one k) (one (steps - suc k))
     where
-      one : (n : ℕ) → variances_from model dt (suc n) k ≡ valued (step_variance model dt k) (λ v. follow (variances_from model dt n (suc k)) λ vs. given (v ∷ vs))
+      one : (n : ℕ) → variances_from model dt (suc n) k ≡ follow (step_variance model dt k) (λ v. follow (variances_from model dt n (suc k)) λ vs. Ok (v ∷ vs))
       one n = refl
 
-  variances-end : (steps k : ℕ) → steps ≤ k → variances_from model dt (steps - k) k ≡ given []
+  variances-end : (steps k : ℕ) → steps ≤ k → variances_from model dt (steps - k) k ≡ Ok []
   unfolding variances_from
   variances-end steps k h = let e : steps - k ≡ zero = omega arith in rw e
 
@@ -42,13 +36,13 @@ module _ (model : HullWhite) (dt : Float) where
   reached-none steps row h = record { within = omega arith; room = h; filling = let e : steps - 0 ≡ steps = omega arith in rw e (filling-none (variances_from model dt steps 0) row) }
 
   module _ (steps : ℕ) (before after : List Float) (k : ℕ) (r : Reached steps before after k) where
-    pub reached-refused : {a : Answer} {q : Check} {p : Refusal} → k < steps → a ≡ step_variance model dt k → a ≡ answer.Refused p → q ≡ refused_by a → Filled (variances_from model dt steps 0) q before after
-    unfolding on_answer
+    pub reached-refused : {a : Answer} {q : Check} {p : Refusal} → k < steps → a ≡ step_variance model dt k → a ≡ Err p → q ≡ Err p → Filled (variances_from model dt steps 0) q before after
+    unfolding on_outcome
     reached-refused h e g c =
         let w = variances_more steps k h in
-        rw (c, g) (filling-refused _ _ before after k r.filling (rw (w, ← e, g)))
+        rw c (filling-refused _ _ before after k r.filling (rw (w, ← e, g)))
 
-    pub reached_more : {a : Answer} {v : Float} → k < steps → a ≡ step_variance model dt k → a ≡ answer.Value v → Reached steps before (set after k v) (k + 1)
+    pub reached_more : {a : Answer} {v : Float} → k < steps → a ≡ step_variance model dt k → a ≡ Ok v → Reached steps before (set after k v) (k + 1)
     reached_more {a} {v} h e g =
         let b = r.room in
         record {
@@ -60,5 +54,5 @@ module _ (model : HullWhite) (dt : Float) where
               (sym e ∙ g);
         }
 
-    pub reached_all : steps ≤ k → Filled (variances_from model dt steps 0) Passed before after
+    pub reached_all : steps ≤ k → Filled (variances_from model dt steps 0) (Ok tt) before after
     reached_all h = filling-done _ _ before after k r.filling (let a = r.within in let b = r.room in omega arith) (variances-end steps k h)

@@ -1,14 +1,12 @@
 -- The pieces of a variance from an entry on: what is left to do gives the whole. Assumes nothing.
-use Rattle.std.specs.Prelude.{ℕ, suc, ◌+◌, ◌≤◌, ◌<◌, ◌≡◌, get_or, Float}
+use Rattle.std.specs.Prelude.{ℕ, suc, ◌+◌, ◌≤◌, ◌<◌, ◌≡◌, get_or, Float, Ok, Err}
 use Rattle.std.proofs.Common.{add-one, arith, ◌∙◌, drop_of_length-le}
 use Rattle.std.proofs.Math.Path.{refl}
 use mathlib.Core.List.{List, [], ◌∷◌}
 use Rattle.std.proofs.Math.ListN.{length, drop}
 use Rattle.std.proofs.Math.Seq.{drop-cons}
-use Rattle.floats.specs.declared.Answer.{Answer}
-use Rattle.floats.specs.declared.Answer.TheVariants.{Value, Refused}
+use Rattle.floats.specs.Answers.{Answer, plus_zero, on_outcome, follow}
 use Rattle.floats.specs.declared.Refusal.{Refusal}
-use Rattle.floats.specs.Answers.{plus_zero, on_answer, and_then}
 use Rattle.floats.specs.Extremes.{max_of, min_of}
 use Rattle.hullwhite.specs.Variance.{with_piece, pieces, variance_over}
 
@@ -19,11 +17,11 @@ module _ (alpha : Float) (times sigmas : List Float) (start end : Float) (place 
     pub some : 0 < length times
     pub same : pieces alpha start end lower (drop (i + 1) times) (drop i sigmas) total place ≡ variance_over alpha times sigmas start end place
 
-  pub none : length times ≡ 0 → Value plus_zero ≡ variance_over alpha times sigmas start end place
+  pub none : length times ≡ 0 → Ok plus_zero ≡ variance_over alpha times sigmas start end place
   unfolding variance_over
   none e = go times e
     where
-      go : (ts : List Float) → length ts ≡ 0 → Value plus_zero ≡ variance_over alpha ts sigmas start end place
+      go : (ts : List Float) → length ts ≡ 0 → Ok plus_zero ≡ variance_over alpha ts sigmas start end place
       go [] e = refl
       go (t ∷ ts) e = absurd (omega arith)
 
@@ -36,12 +34,12 @@ module _ (alpha : Float) (times sigmas : List Float) (start end : Float) (place 
       go (t ∷ ts) h = refl
 
   module _ (total lower : Float) (i : ℕ) (l : Left total lower i) where
-    no_sigma : (ts : List Float) → Value total ≡ pieces alpha start end lower ts [] total place
+    no_sigma : (ts : List Float) → Ok total ≡ pieces alpha start end lower ts [] total place
     unfolding pieces
     no_sigma [] = refl
     no_sigma (t ∷ ts) = refl
 
-    pub ended : length sigmas ≤ i → Value total ≡ variance_over alpha times sigmas start end place
+    pub ended : length sigmas ≤ i → Ok total ≡ variance_over alpha times sigmas start end place
     ended h = no_sigma (drop (i + 1) times) ∙ (rw (drop_of_length-le sigmas h) at l.same)
 
     -- the last entry holds on and on
@@ -57,13 +55,13 @@ module _ (alpha : Float) (times sigmas : List Float) (start end : Float) (place 
     onward next total = pieces alpha start end (max_of start next) (drop (i + 1 + 1) times) (drop (i + 1) sigmas) total place
 
     more : (next sigma : Float) (ts ss : List Float)
-        → and_then (with_piece alpha lower (min_of end next) end sigma total place) (λ sum. pieces alpha start end (max_of start next) ts ss sum place)
+        → follow (with_piece alpha lower (min_of end next) end sigma total place) (λ sum. pieces alpha start end (max_of start next) ts ss sum place)
         ≡ pieces alpha start end lower (next ∷ ts) (sigma ∷ ss) total place
     unfolding pieces
     more next sigma ts ss = refl
 
     turn : (d : Float) → i < length sigmas → i + 1 < length times
-        → and_then (with_piece alpha lower (min_of end (get_or times (i + 1) d)) end (get_or sigmas i d) total place) (onward (get_or times (i + 1) d))
+        → follow (with_piece alpha lower (min_of end (get_or times (i + 1) d)) end (get_or sigmas i d) total place) (onward (get_or times (i + 1) d))
         ≡ variance_over alpha times sigmas start end place
     turn d h k =
         let a : drop (i + 1) times ≡ get_or times (i + 1) d ∷ drop (i + 1 + 1) times = rw (add-one (i + 1)) (drop-cons times (i + 1) d k) in
@@ -72,13 +70,13 @@ module _ (alpha : Float) (times sigmas : List Float) (start end : Float) (place 
 
     -- the piece of entry i, its upper end being u
     module _ {a : Answer} {u : Float} (d : Float) (p : a ≡ with_piece alpha lower u end (get_or sigmas i d) total place) (m : u ≡ min_of end (get_or times (i + 1) d)) (h : i < length sigmas) (k : i + 1 < length times) where
-      joined : and_then a (onward (get_or times (i + 1) d)) ≡ variance_over alpha times sigmas start end place
+      joined : follow a (onward (get_or times (i + 1) d)) ≡ variance_over alpha times sigmas start end place
       joined = rw (p, m) (turn d h k)
 
-      pub refused : {q : Refusal} → a ≡ Refused q → a ≡ variance_over alpha times sigmas start end place
-      unfolding on_answer
+      pub refused : {q : Refusal} → a ≡ Err q → a ≡ variance_over alpha times sigmas start end place
+      unfolding on_outcome
       refused e = e ∙ (rw e at joined)
 
-      pub next : {v w : Float} → a ≡ Value v → w ≡ max_of start (get_or times (i + 1) d) → Left v w (i + 1)
-      unfolding on_answer
+      pub next : {v w : Float} → a ≡ Ok v → w ≡ max_of start (get_or times (i + 1) d) → Left v w (i + 1)
+      unfolding on_outcome
       next e f = record { within = omega arith; some = l.some; same = rw f (rw e at joined) }

@@ -1,4 +1,5 @@
 -- The loops over the cashflows and over their parts: what is left to do from an index on is the whole answer. Assumes nothing.
+use Rattle.std.specs.Prelude.{Ok, Err}
 use Prim.Native.Nat.{ℕ, ◌+◌, ◌-◌, ◌≤◌, ◌<◌}
 use mathlib.Core.Path.{◌≡◌, refl, sym, ap, ◌∙◌}
 use mathlib.Core.Bool.{cond}
@@ -14,7 +15,7 @@ use Rattle.floats.specs.declared.Refusal.{Refusal}
 use Rattle.terms.specs.declared.Epoch.{Epoch}
 use Rattle.interestrate.specs.declared.Compounding.{Compounding}
 use Rattle.interestrate.specs.declared.YieldPrice.{YieldPrice}
-use Rattle.interestrate.specs.declared.YieldPrice.TheVariants.{Price, Refused}
+use Rattle.floats.specs.Answers.{Outcome}
 use Rattle.interestrate.specs.Prices.{on_price, from_price, with_flow, flows}
 use Rattle.interestrate.specs.laws.Rows.{PartEnd}
 
@@ -33,7 +34,7 @@ module _ (y : Float) (compounding : Compounding) (settlement : Epoch) (days : Li
     turn : i < length days
         → flows y compounding settlement (drop i days) (drop i amounts) price derivative
         ≡ from_price
-        (cond (ltb settlement.day (get_or days i 0)) (with_flow y compounding settlement (get_or days i 0) (get_or amounts i nan) price derivative) (Price price derivative))
+        (cond (ltb settlement.day (get_or days i 0)) (with_flow y compounding settlement (get_or days i 0) (get_or amounts i nan) price derivative) (Ok (record { price = price; derivative = derivative })))
         (λ p d. flows y compounding settlement (drop (i + 1) days) (drop (i + 1) amounts) p d)
     unfolding flows
     turn h =
@@ -41,7 +42,7 @@ module _ (y : Float) (compounding : Compounding) (settlement : Epoch) (days : Li
         rw (add-one i, drop-cons days i 0 h, drop-cons amounts i nan a)
 
     -- The same where the flow's own outcome is known.
-    follows : {s : YieldPrice}
+    follows : {s : Outcome YieldPrice}
         → i < length days
         → settlement.day < get_or days i 0
         → s ≡ with_flow y compounding settlement (get_or days i 0) (get_or amounts i nan) price derivative
@@ -49,38 +50,39 @@ module _ (y : Float) (compounding : Compounding) (settlement : Epoch) (days : Li
         ≡ flows y compounding settlement days amounts price₀ derivative₀
     follows h u e = sym (rw (lt-ltb settlement.day (get_or days i 0) u, ← e) at (turn h)) ∙ g.rest
 
-    pub paid : {s : YieldPrice} (p d : Float)
+    pub paid : {s : Outcome YieldPrice} (v : YieldPrice)
         → i < length days
         → settlement.day < get_or days i 0
         → s ≡ with_flow y compounding settlement (get_or days i 0) (get_or amounts i nan) price derivative
-        → s ≡ Price p d
-        → Going (i + 1) p d
+        → s ≡ Ok v
+        → Going (i + 1) v.price v.derivative
     unfolding on_price
-    paid p d h u e v = record { within = omega arith; rest = rw v at (follows h u e) }
+    paid v h u e given = record { within = omega arith; rest = rw given at (follows h u e) }
 
     pub unpaid : i < length days → get_or days i 0 ≤ settlement.day → Going (i + 1) price derivative
     unfolding on_price
     unpaid h u = record { within = omega arith; rest = sym (rw (le-ltb settlement.day (get_or days i 0) u) at (turn h)) ∙ g.rest }
 
-    pub stopped : {s : YieldPrice} {q : Refusal}
+    pub stopped : {s r : Outcome YieldPrice} {q : Refusal}
         → i < length days
         → settlement.day < get_or days i 0
         → s ≡ with_flow y compounding settlement (get_or days i 0) (get_or amounts i nan) price derivative
-        → s ≡ Refused q
-        → s ≡ flows y compounding settlement days amounts price₀ derivative₀
+        → s ≡ Err q
+        → r ≡ Err q
+        → r ≡ flows y compounding settlement days amounts price₀ derivative₀
     unfolding on_price
-    stopped h u e v = v ∙ (rw v at (follows h u e))
+    stopped h u e v p = p ∙ (rw v at (follows h u e))
 
-    pub done : length days ≤ i → Price price derivative ≡ flows y compounding settlement days amounts price₀ derivative₀
+    pub done : length days ≤ i → Ok (record { price = price; derivative = derivative }) ≡ flows y compounding settlement days amounts price₀ derivative₀
     unfolding flows
     done h = rw (drop_of_length-le days h) at g.rest
 
 -- ---- parts, one after the other
 
-after_both : (s : YieldPrice) (k l m : Float → Float → YieldPrice) → ((p d : Float) → k p d ≡ from_price (l p d) m) → from_price s k ≡ from_price (from_price s l) m
+after_both : (s : Outcome YieldPrice) (k l m : Float → Float → Outcome YieldPrice) → ((p d : Float) → k p d ≡ from_price (l p d) m) → from_price s k ≡ from_price (from_price s l) m
 unfolding on_price
-after_both (Price p d) k l m h = h p d
-after_both (Refused q) k l m h = refl
+after_both (Ok v) k l m h = h v.price v.derivative
+after_both (Err q) k l m h = refl
 
 module _ (y : Float) (compounding : Compounding) (settlement : Epoch) (rest-days : List ℕ) (rest : List Float) where
   appended : (days : List ℕ) (amounts : List Float) (price derivative : Float) → length amounts ≡ length days
@@ -91,7 +93,7 @@ module _ (y : Float) (compounding : Compounding) (settlement : Epoch) (rest-days
   appended [] (a ∷ more) price derivative e = absurd (omega arith)
   appended (day ∷ days) [] price derivative e = absurd (omega arith)
   appended (day ∷ days) (a ∷ more) price derivative e =
-      after_both (cond (ltb settlement.day day) (with_flow y compounding settlement day a price derivative) (Price price derivative))
+      after_both (cond (ltb settlement.day day) (with_flow y compounding settlement day a price derivative) (Ok (record { price = price; derivative = derivative })))
       (λ p d. flows y compounding settlement (days ++ rest-days) (more ++ rest) p d)
       (λ p d. flows y compounding settlement days more p d)
       (λ p d. flows y compounding settlement rest-days rest p d)
@@ -121,27 +123,28 @@ module _ (y : Float) (compounding : Compounding) (settlement : Epoch) (days : Li
   module _
       (i : ℕ) (price derivative : Float) (same : length amounts ≡ length days) (g : Going y compounding settlement days amounts price₀ derivative₀ i price derivative)
       (end : ℕ) (w : PartEnd i (length days) end) where
-    part_then : {s : YieldPrice}
+    part_then : {s : Outcome YieldPrice}
         → s ≡ flows y compounding settlement (part i end days) (part i end amounts) price derivative
         → from_price s (λ p d. flows y compounding settlement (drop end days) (drop end amounts) p d) ≡ flows y compounding settlement days amounts price₀ derivative₀
     part_then e =
         let v : PartEnd i (length amounts) end = rw same w in
-        ap (λ (z : YieldPrice). from_price z (λ p d. flows y compounding settlement (drop end days) (drop end amounts) p d)) e
+        ap (λ (z : Outcome YieldPrice). from_price z (λ p d. flows y compounding settlement (drop end days) (drop end amounts) p d)) e
         ∙ sym (appended y compounding settlement (drop end days) (drop end amounts) (part i end days) (part i end amounts) price derivative (part-fits days amounts i end same w).0)
         ∙ ap (λ (zs : List ℕ). flows y compounding settlement zs (part i end amounts ++ drop end amounts) price derivative) (part-rest days i end w)
         ∙ ap (λ (zs : List Float). flows y compounding settlement (drop i days) zs price derivative) (part-rest amounts i end v)
         ∙ g.rest
 
-    pub part-paid : {s : YieldPrice} (p d : Float)
+    pub part-paid : {s : Outcome YieldPrice} (v : YieldPrice)
         → s ≡ flows y compounding settlement (part i end days) (part i end amounts) price derivative
-        → s ≡ Price p d
-        → Going y compounding settlement days amounts price₀ derivative₀ end p d
+        → s ≡ Ok v
+        → Going y compounding settlement days amounts price₀ derivative₀ end v.price v.derivative
     unfolding on_price
-    part-paid p d e v = record { within = w.ends; rest = rw v at (part_then e) }
+    part-paid v e given = record { within = w.ends; rest = rw given at (part_then e) }
 
-    pub part-stopped : {s : YieldPrice} {q : Refusal}
+    pub part-stopped : {s r : Outcome YieldPrice} {q : Refusal}
         → s ≡ flows y compounding settlement (part i end days) (part i end amounts) price derivative
-        → s ≡ Refused q
-        → s ≡ flows y compounding settlement days amounts price₀ derivative₀
+        → s ≡ Err q
+        → r ≡ Err q
+        → r ≡ flows y compounding settlement days amounts price₀ derivative₀
     unfolding on_price
-    part-stopped e v = v ∙ (rw v at (part_then e))
+    part-stopped e v p = p ∙ (rw v at (part_then e))

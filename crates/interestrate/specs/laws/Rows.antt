@@ -1,12 +1,11 @@
 -- Compounded interest by rows: what each loop leaves at an index, and that together they give each flow's discount and derivative. Assumes nothing.
-use Rattle.std.specs.Prelude.{ℕ, ◌+◌, ◌≤◌, ◌<◌, ◌≡◌, refl, Bool, true, false, cond, ◌&&◌, List, T, length, get_or, set, Float}
+use Rattle.std.specs.Prelude.{ℕ, ◌+◌, ◌≤◌, ◌<◌, ◌≡◌, refl, Bool, true, false, cond, ◌&&◌, List, T, length, get_or, set, Float, Ok, Err}
 use Rattle.std.proofs.Common.{sym, ap, ◌∙◌, subst, le_refl, arith, below_more}
 use Rattle.std.specs.Float.{nan, inf, fin, binary64}
 use Rattle.std.specs.Float.Ieee.{add, sub, mul, div, neg, eq, le}
 use Rattle.std.specs.Float.Ieee.Scale.{finite}
-use Rattle.floats.specs.declared.Answer.{Answer}
-use Rattle.floats.specs.declared.Answer.TheVariants.{Value}
-use Rattle.floats.specs.Answers.{on_answer, not_finite, plus_zero, one}
+use Rattle.floats.specs.declared.Reason.TheVariants as reason
+use Rattle.floats.specs.Answers.{Answer, on_outcome, not_finite, plus_zero, one, Outcome}
 use Rattle.floats.specs.laws.Propagation.{finite-back, finite-clash, add_left, mul_left, div_left, passes}
 use Rattle.elementary.specs.Exponential.{exp_at, ExpRow}
 use Rattle.elementary.specs.Logarithm.{ln_at}
@@ -19,23 +18,22 @@ use Rattle.terms.specs.declared.Epoch.{Epoch}
 use Rattle.terms.specs.Times.{time_from}
 use Rattle.interestrate.specs.declared.Compounding.{Compounding}
 use Rattle.interestrate.specs.declared.YieldPrice.{YieldPrice}
-use Rattle.interestrate.specs.declared.YieldPrice.TheVariants.{Price, Refused}
 use Rattle.interestrate.specs.Prices.{on_price, from_price, from_answer, no, finitely, compoundly, discount_and_derivative, with_flow}
 
 -- ---- what is known of a row
 
 -- A discount and its derivative are this price's two, where the flag holds.
-abbrev pub KnownFlow : Bool → YieldPrice → Float → Float → Type 0
-KnownFlow good a discount slope = good ≡ true → a ≡ Price discount slope
+abbrev pub KnownFlow : Bool → Outcome YieldPrice → Float → Float → Type 0
+KnownFlow good a discount slope = good ≡ true → a ≡ Ok (record { price = discount; derivative = slope })
 
 abbrev pub time_at : Epoch → List ℕ → ℕ → Float
 time_at settlement days i = time_from settlement (get_or days i 0)
 
 -- The rows hold what f gives at each flow's time, where the flag holds.
-pub record DiscountRow (good : Bool) (f : Float → YieldPrice) (settlement : Epoch) (days : List ℕ) (discounts slopes : List Float) : Type 0 where
+pub record DiscountRow (good : Bool) (f : Float → Outcome YieldPrice) (settlement : Epoch) (days : List ℕ) (discounts slopes : List Float) : Type 0 where
   pub each : (i : ℕ) → i < length days → KnownFlow good (f (time_at settlement days i)) (get_or discounts i nan) (get_or slopes i nan)
 
-pub no_row : {f : Float → YieldPrice} {settlement : Epoch} {days : List ℕ} {discounts slopes : List Float} → DiscountRow false f settlement days discounts slopes
+pub no_row : {f : Float → Outcome YieldPrice} {settlement : Epoch} {days : List ℕ} {discounts slopes : List Float} → DiscountRow false f settlement days discounts slopes
 no_row = record { each = λ i h g. false_not g }
 
 -- The rows are as long as the flows are many.
@@ -127,18 +125,18 @@ module _ (base : Float) (times discounts slopes₀ : List Float) where
 
 -- ---- together
 
-kept : (x : Float) (k : Float → YieldPrice) → T (finite x) → finitely x k ≡ k x
+kept : (x : Float) (k : Float → Outcome YieldPrice) → T (finite x) → finitely x k ≡ k x
 kept nan k h = absurd h
 kept (inf s) k h = absurd h
 kept (fin s m e) k h = refl
 
 -- powf by a logarithm and an exp that are known
 power-known : (base power log discount : Float)
-    → ln_at base 0 ≡ Value log
+    → ln_at base 0 ≡ Ok log
     → T (finite (mul binary64 power log))
-    → exp_at (mul binary64 power log) 0 ≡ Value discount
-    → powf_at base power 0 ≡ Value discount
-unfolding powf_at on_answer
+    → exp_at (mul binary64 power log) 0 ≡ Ok discount
+    → powf_at base power 0 ≡ Ok discount
+unfolding powf_at on_outcome
 power-known base power log discount l f e = rw l (passes (mul binary64 power log) 0 (λ t. exp_at t 0) f ∙ e)
 
 -- The base, rate/frequency + 1.
@@ -146,24 +144,24 @@ abbrev pub base_of : Float → Float → Float
 base_of rate frequency = add binary64 (div binary64 rate frequency) one
 
 -- the definition from the discount on, from the power on, and from the base on
-abbrev from_discount : Float → Float → Float → YieldPrice
-from_discount base time discount = finitely (mul binary64 (neg time) discount) λ x. finitely (div binary64 x base) λ derivative. Price discount derivative
+abbrev from_discount : Float → Float → Float → Outcome YieldPrice
+from_discount base time discount = finitely (mul binary64 (neg time) discount) λ x. finitely (div binary64 x base) λ derivative. Ok (record { price = discount; derivative = derivative })
 
-abbrev from_power : Float → Float → Float → YieldPrice
+abbrev from_power : Float → Float → Float → Outcome YieldPrice
 from_power base time power = from_answer (powf_at base power 0) λ discount. from_discount base time discount
 
-abbrev from_base : Float → Float → Float → YieldPrice
-from_base frequency time base = cond (le base plus_zero) (no 28) (finitely (mul binary64 (neg frequency) time) λ power. from_power base time power)
+abbrev from_base : Float → Float → Float → Outcome YieldPrice
+from_base frequency time base = cond (le base plus_zero) (no reason.YieldBase) (finitely (mul binary64 (neg frequency) time) λ power. from_power base time power)
 
 -- Compounded interest at one time, by the base's logarithm and the exp, where the derivative is finite.
 compounded-known : (rate frequency log time discount : Float)
     → T (finite (base_of rate frequency))
     → le (base_of rate frequency) plus_zero ≡ false
-    → ln_at (base_of rate frequency) 0 ≡ Value log
-    → exp_at (mul binary64 (mul binary64 (neg frequency) time) log) 0 ≡ Value discount
+    → ln_at (base_of rate frequency) 0 ≡ Ok log
+    → exp_at (mul binary64 (mul binary64 (neg frequency) time) log) 0 ≡ Ok discount
     → T (finite (div binary64 (mul binary64 (neg time) discount) (base_of rate frequency)))
-    → compoundly rate time frequency ≡ Price discount (div binary64 (mul binary64 (neg time) discount) (base_of rate frequency))
-unfolding compoundly on_answer
+    → compoundly rate time frequency ≡ Ok (record { price = discount; derivative = (div binary64 (mul binary64 (neg time) discount) (base_of rate frequency)) })
+unfolding compoundly on_outcome
 compounded-known rate frequency log time discount based above l e f =
     let part : Float = div binary64 rate frequency in
     let base : Float = base_of rate frequency in
@@ -175,17 +173,17 @@ compounded-known rate frequency log time discount based above l e f =
     let sloped : T (finite x) = finite-back x (λ b. finite-clash (div binary64 x base) f (div_left binary64 x base b)) in
     kept part (λ p. finitely (add binary64 p one) (λ b. from_base frequency time b)) parted
     ∙ kept base (λ b. from_base frequency time b) based
-    ∙ ap (λ (b : Bool). cond b (no 28) (finitely power (λ p. from_power base time p))) above
+    ∙ ap (λ (b : Bool). cond b (no reason.YieldBase) (finitely power (λ p. from_power base time p))) above
     ∙ kept power (λ p. from_power base time p) powered
-    ∙ ap (λ (a : Answer). on_answer a Refused (λ d. from_discount base time d)) (power-known base power log discount l t e)
-    ∙ kept x (λ z. finitely (div binary64 z base) (λ d. Price discount d)) sloped
-    ∙ kept (div binary64 x base) (λ d. Price discount d) f
+    ∙ ap (λ (a : Answer). on_outcome a Err (λ d. from_discount base time d)) (power-known base power log discount l t e)
+    ∙ kept x (λ z. finitely (div binary64 z base) (λ d. Ok (record { price = discount; derivative = d }))) sloped
+    ∙ kept (div binary64 x base) (λ d. Ok (record { price = discount; derivative = d })) f
 
 -- The loops one after the other.
 pub compounded_row_lem : {good said : Bool} (rate frequency log : Float) (settlement : Epoch) (days : List ℕ) {times₀ xs₀ times xs discounts slopes₀ slopes : List Float}
     → not_finite (base_of rate frequency) ≡ false
     → le (base_of rate frequency) plus_zero ≡ false
-    → ln_at (base_of rate frequency) 0 ≡ Value log
+    → ln_at (base_of rate frequency) 0 ≡ Ok log
     → length times₀ ≡ length days
     → length xs₀ ≡ length days
     → Exponents frequency log settlement days times₀ xs₀ times xs (length days)
@@ -200,26 +198,26 @@ compounded_row_lem rate frequency log settlement days {times₀} {xs₀} {times}
       let d : Float = get_or discounts i nan in
       let hx : i < length xs = omega (arith, e.raised.kept) in
       let ht : i < length times = omega (arith, e.timed.kept) in
-      let at : exp_at (exponent_at frequency log settlement days i) 0 ≡ Value d = ap (λ (z : Float). exp_at z 0) (sym (e.raised.below i h)) ∙ r.values said-so i 0 hx in
+      let at : exp_at (exponent_at frequency log settlement days i) 0 ≡ Ok d = ap (λ (z : Float). exp_at z 0) (sym (e.raised.below i h)) ∙ r.values said-so i 0 hx in
       let is : slope_at base times discounts i ≡ div binary64 (mul binary64 (neg time) d) base = ap (λ (z : Float). div binary64 (mul binary64 (neg z) d) base) (e.timed.below i h) in
       compounded-known rate frequency log time d (finite-passed base based) above l at (subst (λ (z : Float). T (finite z)) is (s.sound g i ht))
-      ∙ ap (Price d) (sym (s.filling.below i ht ∙ is));
+      ∙ ap (λ (z : Float). Ok (record { price = d; derivative = z })) (sym (s.filling.below i ht ∙ is));
 }
 
 -- ---- a flow whose discount and derivative are known
 
 -- Each joins its sum by mul_add.
-unfoldable pub join_sums : Float → Float → Float → Float → Float → YieldPrice
+unfoldable pub join_sums : Float → Float → Float → Float → Float → Outcome YieldPrice
 unfolding mul_add
 join_sums amount discount slope price derivative =
     from_answer (mul_add_at amount discount price 0) λ price.
-    from_answer (mul_add_at amount slope derivative 0) λ derivative. Price price derivative
+    from_answer (mul_add_at amount slope derivative 0) λ derivative. Ok (record { price = price; derivative = derivative })
 
 pub flow_known : (rate : Float) (compounding : Compounding) (settlement : Epoch) (day : ℕ) (amount price derivative discount slope : Float)
-    → discount_and_derivative rate (time_from settlement day) compounding ≡ Price discount slope
+    → discount_and_derivative rate (time_from settlement day) compounding ≡ Ok (record { price = discount; derivative = slope })
     → join_sums amount discount slope price derivative ≡ with_flow rate compounding settlement day amount price derivative
 unfolding with_flow join_sums on_price
-flow_known rate compounding settlement day amount price derivative discount slope e = ap (λ (a : YieldPrice). from_price a (λ d s. join_sums amount d s price derivative)) (sym e)
+flow_known rate compounding settlement day amount price derivative discount slope e = ap (λ (a : Outcome YieldPrice). from_price a (λ d s. join_sums amount d s price derivative)) (sym e)
 
 -- ---- parts
 

@@ -1,8 +1,6 @@
 -- The layer in front once it is filled: its transitions and middles, and what is known of the next layer. Assumes nothing.
-use Rattle.std.specs.Prelude.{ℕ, ◌*◌, ◌<◌, ◌≡◌, List, ◌++◌, length, drop, ℤ, Float}
+use Rattle.std.specs.Prelude.{ℕ, ◌*◌, ◌<◌, ◌≡◌, List, ◌++◌, length, drop, ℤ, Float, Ok}
 use Rattle.std.proofs.Common.{arith, sym, ◌∙◌}
-use Rattle.terms.specs.declared.Check.TheVariants.{Passed}
-use Rattle.terms.specs.Outcomes.{given}
 use Rattle.terms.specs.laws.Outcomes.{given_of}
 use Rattle.lattice.specs.declared.Transition.{Transition}
 use Rattle.lattice.specs.Transitions.{Step}
@@ -23,14 +21,14 @@ next_of : {s : Step} {t : ℤ} {ns : List ℤ} {ts : List Transition} → 0 < le
 next_of h u c no_node = absurd (omega arith)
 next_of h u c (one_node f a) = next_layer u c (one_node f a)
 
-front_with : {s : Step} {c : ℕ} {spacing decay : Float} {before mid : List ℤ} {beforeP midP : List Float} (ts : List Transition) → Front c spacing decay before beforeP → Upright s → FilledLayer s c Passed before mid beforeP midP → transitions_of s (numbers_from before 0 c) ≡ given ts → FilledFront s c before mid beforeP midP
+front_with : {s : Step} {c : ℕ} {spacing decay : Float} {before mid : List ℤ} {beforeP midP : List Float} (ts : List Transition) → Front c spacing decay before beforeP → Upright s → FilledLayer s c (Ok tt) before mid beforeP midP → transitions_of s (numbers_from before 0 c) ≡ Ok ts → FilledFront s c before mid beforeP midP
 front_with {s} {c} {spacing} {decay} {before} {mid} {beforeP} {midP} ts front u f g =
     let ns = numbers_in (front_nodes c before) in
     let p = front.pairs in
     let q = front.some-node in
     let l = f.kept in
     let e : numbers_from before 0 c ≡ ns = numbers-front before c p in
-    let m : transitions_of s ns ≡ given ts = rw e at g in
+    let m : transitions_of s ns ≡ Ok ts = rw e at g in
     let a : Along s ns ts = given_of (transitions-along s ns) m in
     let n : length ns ≡ c = rw e at (numbers-count before 0 c) in
     let k : length ts ≡ c = sym (along-count a) ∙ n in
@@ -54,7 +52,7 @@ front_with {s} {c} {spacing} {decay} {before} {mid} {beforeP} {midP} ts front u 
       kept_too = f.kept_too;
     }
 
-pub filled-front : {s : Step} {c : ℕ} {spacing decay : Float} {before mid : List ℤ} {beforeP midP : List Float} → Front c spacing decay before beforeP → Upright s → FilledLayer s c Passed before mid beforeP midP → FilledFront s c before mid beforeP midP
+pub filled-front : {s : Step} {c : ℕ} {spacing decay : Float} {before mid : List ℤ} {beforeP midP : List Float} → Front c spacing decay before beforeP → Upright s → FilledLayer s c (Ok tt) before mid beforeP midP → FilledFront s c before mid beforeP midP
 filled-front {s} {c} {before = before} front u f =
     let g = passed-given (transitions_of s (numbers_from before 0 c)) f.outcome in
     front_with g.0 front u f g.1

@@ -4,7 +4,7 @@ use Rattle.std.proofs.Common.{arith, sym, ap, ◌∙◌, append_assoc, drop-drop
 use Rattle.std.specs.Prelude.{◌≡◌, refl, List, ◌∷◌, ◌++◌, drop, ℤ, pos, Float}
 use Rattle.std.proofs.Math.ListN.{length, get_or}
 use Rattle.std.proofs.Math.Seq.{drop-append-add}
-use Rattle.terms.specs.Outcomes.{on_outcome}
+use Rattle.floats.specs.Answers.{on_outcome, Outcome}
 use Rattle.lattice.specs.declared.NextLayer.{NextLayer}
 use Rattle.lattice.specs.Layers.{fits}
 use Rattle.lattice.specs.Transitions.{Step}
@@ -23,6 +23,7 @@ use Rattle.lattice.specs.laws.FilledFront.{FilledFront}
 use Rattle.lattice.specs.laws.NextLaid.{room_of, reached, LaidNext}
 use Rattle.lattice.specs.laws.RoomTest.{fitting}
 use Rattle.lattice.specs.laws.Grown.{grown_by, grown_from}
+use Rattle.floats.specs.declared.Reason.TheVariants as reason
 
 module _ {s : Step} {c : ℕ} {before mid : List ℤ} {beforeP midP : List Float} (f : FilledFront s c before mid beforeP midP) where
   all_middles : middles_from mid 0 c ≡ f.next.first ∷ f.next.others
@@ -74,7 +75,7 @@ module _ {s : Step} {c : ℕ} {before mid : List ℤ} {beforeP midP : List Float
       ∙ ap (λ (z : List ℤ). (p ++ last_pairs (laid r ms)) ++ drop (2 * (c + (reach_all r ms).count)) z) (sym f.slice)
       ∙ (rw (laid_are, k, rest_is (length (destinations f.made))) (append_assoc p (last_pairs (destinations f.made)) _)))
 
-  pub grown_layer : (one two : ℕ) {r : NextLayer} {after : List ℤ} → LaidNext (room_of (length mid) (length midP) one two) s.new_spacing s.place c r mid after
+  pub grown_layer : (one two : ℕ) {r : Outcome NextLayer} {after : List ℤ} → LaidNext (room_of (length mid) (length midP) one two) s.new_spacing s.place c r mid after
       → GrownLayer (grown_from (room_left before beforeP one two) s (numbers_in (front_nodes c before))) c r before after beforeP midP
   unfolding grown_from on_outcome
   grown_layer one two {r} {after} l =
@@ -82,7 +83,7 @@ module _ {s : Step} {c : ℕ} {before mid : List ℤ} {beforeP midP : List Float
       let b = fits (room_left before beforeP one two) (c + n) n in
       let e : fits (room_of (length mid) (length midP) one two) (c + reached c mid) (reached c mid) ≡ b = rw (reached_is, f.kept, f.kept_too) in
       rw (f.is_made, f.numbers-many)
-      (grown_by b (record { spacing = s.new_spacing; transitions = f.made }) (record { number = 21; place = suc s.place }) c r before after beforeP midP
+      (grown_by b (record { spacing = s.new_spacing; transitions = f.made }) (record { reason = reason.NoRoom; place = suc s.place }) c r before after beforeP midP
       (rw (reached_is, f.kept, f.kept_too) at l.outcome)
       (λ h. l.nodes (e ∙ h) ∙ pushed_is (let k = (fitting (room_left before beforeP one two) (c + n) n h).pairs in let z = f.kept in omega arith))
       f.threes

@@ -1,5 +1,5 @@
 -- The probabilities of a tree: finite and between 0 and 1, whatever the terms. Assumes nothing.
-use Rattle.std.specs.Prelude.{ℕ, zero, suc, ◌+◌, ◌≡◌, refl, ◌||◌, List, [], ◌∷◌, length, T, ℤ, Float}
+use Rattle.std.specs.Prelude.{ℕ, zero, suc, ◌+◌, ◌≡◌, refl, ◌||◌, List, [], ◌∷◌, length, T, ℤ, Float, Ok}
 use Rattle.std.proofs.Common.{ap}
 use Rattle.std.specs.Float.{binary64}
 use Rattle.std.specs.Float.Ieee.{add, sub, mul, div, le, of_bits, fits}
@@ -13,7 +13,6 @@ use Rattle.floats.specs.Extremes.{max_of}
 use Rattle.floats.specs.Answers.{plus_zero, one, two}
 use Rattle.floats.specs.laws.Finite.{positive_of-div}
 use Rattle.elementary.specs.laws.Values.{Above}
-use Rattle.terms.specs.Outcomes.{given}
 use Rattle.terms.specs.laws.Outcomes.{Gives, gives, nothing, given_of, gives-follow, gives-valued, gives-finite, gives-cond, gives-known}
 use Rattle.lattice.specs.declared.Middle.{Middle}
 use Rattle.lattice.specs.Layers.{Room}
@@ -159,9 +158,9 @@ lattice-proper room alpha dt variances =
     gives-cond (all_flat variances) _ _ (flat-proper room 0 (length variances)) (curved-proper room alpha dt variances)
 
 -- Whatever tree the variances give, every probability in it is finite and between 0 and 1.
-pub proper_of_lattice : (room : Room) (alpha dt : Float) (variances : List Float) (t : Lattice) → lattice room alpha dt variances ≡ given t → Proper t.layers
+pub proper_of_lattice : (room : Room) (alpha dt : Float) (variances : List Float) (t : Lattice) → lattice room alpha dt variances ≡ Ok t → Proper t.layers
 proper_of_lattice room alpha dt variances t e = (given_of (lattice-proper room alpha dt variances) e).proper
 
 -- It has as many layers before the last as there are variances.
-pub layers_of_lattice : (room : Room) (alpha dt : Float) (variances : List Float) (t : Lattice) → lattice room alpha dt variances ≡ given t → length t.layers ≡ length variances
+pub layers_of_lattice : (room : Room) (alpha dt : Float) (variances : List Float) (t : Lattice) → lattice room alpha dt variances ≡ Ok t → length t.layers ≡ length variances
 layers_of_lattice room alpha dt variances t e = (given_of (lattice-proper room alpha dt variances) e).layer_count

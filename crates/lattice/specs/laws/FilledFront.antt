@@ -1,8 +1,7 @@
 -- The layer in front once it is filled: its transitions and middles, and what is known of the next layer. Assumes nothing.
-use Rattle.std.specs.Prelude.{ℕ, suc, ◌*◌, ◌≤◌, ◌<◌, ◌≡◌, refl, List, ◌++◌, length, drop, ℤ, Float}
+use Rattle.std.specs.Prelude.{ℕ, suc, ◌*◌, ◌≤◌, ◌<◌, ◌≡◌, refl, List, ◌++◌, length, drop, ℤ, Float, Ok, Err}
 use Rattle.std.proofs.Common.{arith, ap}
-use Rattle.terms.specs.declared.Check.TheVariants.{Passed}
-use Rattle.terms.specs.Outcomes.{Outcome, given, refused}
+use Rattle.floats.specs.Answers.{Outcome}
 use Rattle.hullwhite.specs.laws.Filled.{check_of}
 use Rattle.lattice.specs.declared.Transition.{Transition}
 use Rattle.lattice.specs.Transitions.{Step}
@@ -23,15 +22,15 @@ unfolding middles_of
 along-within no_node = no_middle
 along-within (one_node f a) = one_middle f.within (along-within a)
 
-pub passed-given : {A : Type 0} (o : Outcome A) → Passed ≡ check_of o → (x : A) × (o ≡ given x)
+pub passed-given : {A : Type 0} (o : Outcome A) → (Ok tt) ≡ check_of o → (x : A) × (o ≡ Ok x)
 unfolding check_of
-passed-given (given x) e = (x, refl)
-passed-given (refused r) e = let z : ◌≡◌ {A = ℕ} 0 1 = cc in absurd (omega arith)
+passed-given (Ok x) e = (x, refl)
+passed-given (Err r) e = let z : ◌≡◌ {A = ℕ} 0 1 = cc in absurd (omega arith)
 
 -- What is known of the layer in front once it is filled.
 pub record FilledFront (s : Step) (c : ℕ) (before mid : List ℤ) (beforeP midP : List Float) : Type 0 where
   pub made : List Transition
-  pub is_made : transitions_of s (numbers_in (front_nodes c before)) ≡ given made
+  pub is_made : transitions_of s (numbers_in (front_nodes c before)) ≡ Ok made
   pub numbers-many : length (numbers_in (front_nodes c before)) ≡ c
   pub many : length made ≡ c
   pub some-node : 0 < c

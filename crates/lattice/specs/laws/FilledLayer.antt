@@ -1,9 +1,8 @@
 -- What filling a layer leaves: each node's middle beside its number, and its three probabilities; and how a loop gets there. Assumes nothing.
-use Rattle.std.specs.Prelude.{ℕ, zero, suc, ◌+◌, ◌*◌, ◌≡◌, refl, List, [], ◌∷◌, ◌++◌, length, get_or, drop, set, ℤ, pos, Float}
+use Rattle.std.specs.Prelude.{ℕ, zero, suc, ◌+◌, ◌*◌, ◌≡◌, refl, List, [], ◌∷◌, ◌++◌, length, get_or, drop, set, ℤ, pos, Float, Ok}
 use Rattle.std.proofs.Common.{arith, sym, ap, ◌∙◌, append_assoc, length-append}
 use Rattle.std.proofs.lemmas.List.{set_at}
-use Rattle.terms.specs.declared.Check.{Check}
-use Rattle.terms.specs.Outcomes.{given}
+use Rattle.floats.specs.Answers.{Check}
 use Rattle.hullwhite.specs.laws.Filled.{check_of}
 use Rattle.lattice.specs.declared.Transition.{Transition}
 use Rattle.lattice.specs.Transitions.{Step}
@@ -18,8 +17,8 @@ numbers_from nodes i (suc k) = get_or nodes (2 * i) (pos 0) ∷ numbers_from nod
 -- The outcome of a layer's transitions, and both parts where they are given.
 pub record FilledLayer (s : Step) (count : ℕ) (r : Check) (before after : List ℤ) (beforeP afterP : List Float) : Type 0 where
   pub outcome : r ≡ check_of (transitions_of s (numbers_from before 0 count))
-  pub nodes : (ts : List Transition) → transitions_of s (numbers_from before 0 count) ≡ given ts → after ≡ pairs_of (numbers_from before 0 count) ts ++ drop (2 * count) before
-  pub probabilities : (ts : List Transition) → transitions_of s (numbers_from before 0 count) ≡ given ts → afterP ≡ threes_of ts ++ drop (3 * count) beforeP
+  pub nodes : (ts : List Transition) → transitions_of s (numbers_from before 0 count) ≡ Ok ts → after ≡ pairs_of (numbers_from before 0 count) ts ++ drop (2 * count) before
+  pub probabilities : (ts : List Transition) → transitions_of s (numbers_from before 0 count) ≡ Ok ts → afterP ≡ threes_of ts ++ drop (3 * count) beforeP
   pub kept : length after ≡ length before
   pub kept_too : length afterP ≡ length beforeP
 

@@ -1,23 +1,17 @@
 -- A loop that fills a layer node by node: what is left to do gives the whole. Assumes nothing.
-use Rattle.std.specs.Prelude.{ℕ, suc, ◌+◌, ◌-◌, ◌*◌, ◌≤◌, ◌<◌, refl, length, get_or, drop, set, ℤ, pos, Float}
+use Rattle.std.specs.Prelude.{ℕ, suc, ◌+◌, ◌-◌, ◌*◌, ◌≤◌, ◌<◌, refl, length, get_or, drop, set, ℤ, pos, Float, Ok, Err}
 use native.Mathlib.Omega.{arith}
 use Rattle.std.proofs.Math.Path.{◌≡◌}
 use Rattle.std.proofs.Common.{sym, ap, ◌∙◌, length-append, length-drop, get_or-append-add, get_or-drop}
 use mathlib.Core.List.{List, [], ◌∷◌, ◌++◌, append-nil}
 use Rattle.std.proofs.Math.Seq.{append_snoc}
 use Rattle.floats.specs.declared.Refusal.{Refusal}
-use Rattle.floats.specs.Answers.{plus_zero}
-use Rattle.terms.specs.declared.Check.{Check}
-use Rattle.terms.specs.declared.Check.TheVariants as check
-use Rattle.terms.specs.Outcomes.{Outcome, given, refused, on_outcome, follow}
+use Rattle.floats.specs.Answers.{plus_zero, Outcome, follow, on_outcome}
 use Rattle.hullwhite.specs.laws.Filled.{check_of}
 use Rattle.lattice.specs.declared.Transition.{Transition}
 use Rattle.lattice.specs.Transitions.{Step, transition_of}
 use Rattle.lattice.specs.Lattice.{transitions_of}
-use Rattle.lattice.specs.declared.node.MadeTransition.{MadeTransition}
-use Rattle.lattice.specs.declared.node.MadeTransition.TheVariants as node
 use Rattle.lattice.specs.laws.Bounds.{Within}
-use Rattle.lattice.specs.laws.Making.{made_outcome}
 use Rattle.lattice.specs.laws.Middles.{transition_from}
 use Rattle.terms.specs.laws.Outcomes.{same_given, given_of}
 use Rattle.lattice.specs.laws.Stored.{pairs_of, threes_of}
@@ -25,15 +19,15 @@ use Rattle.lattice.specs.laws.StoredAt.{get_d_inside, two_more, three_more}
 use Rattle.lattice.specs.laws.Counting.{left_over}
 use Rattle.lattice.specs.laws.FilledLayer.{FilledLayer, numbers_from, numbers_more, numbers-count, pairs_more, pairs-count, threes_more, threes-count, set-second, set_three}
 
-onto-given : {A : Type 0} (o : Outcome (List A)) → follow o (λ rest. given ([] ++ rest)) ≡ o
+onto-given : {A : Type 0} (o : Outcome (List A)) → follow o (λ rest. Ok ([] ++ rest)) ≡ o
 unfolding on_outcome
-onto-given (given x) = refl
-onto-given (refused r) = refl
+onto-given (Ok x) = refl
+onto-given (Err r) = refl
 
-onto_more : {A : Type 0} (done : List A) (t : A) (o : Outcome (List A)) → follow (follow o λ ts. given (t ∷ ts)) (λ rest. given (done ++ rest)) ≡ follow o (λ rest. given ((done ++ (t ∷ [])) ++ rest))
+onto_more : {A : Type 0} (done : List A) (t : A) (o : Outcome (List A)) → follow (follow o λ ts. Ok (t ∷ ts)) (λ rest. Ok (done ++ rest)) ≡ follow o (λ rest. Ok ((done ++ (t ∷ [])) ++ rest))
 unfolding on_outcome
-onto_more done t (given xs) = ap given (sym (append_snoc done t xs))
-onto_more done t (refused r) = refl
+onto_more done t (Ok xs) = ap Ok (sym (append_snoc done t xs))
+onto_more done t (Err r) = refl
 
 module _ (s : Step) (count : ℕ) (before : List ℤ) (beforeP : List Float) where
   pub record FillingLayer (after : List ℤ) (afterP : List Float) (i : ℕ) : Type 0 where
@@ -42,7 +36,7 @@ module _ (s : Step) (count : ℕ) (before : List ℤ) (beforeP : List Float) whe
     pub within : i ≤ count
     pub room : 2 * count ≤ length before
     pub room_too : 3 * count ≤ length beforeP
-    pub same : follow (transitions_of s (numbers_from before i (count - i))) (λ rest. given (done ++ rest)) ≡ transitions_of s (numbers_from before 0 count)
+    pub same : follow (transitions_of s (numbers_from before i (count - i))) (λ rest. Ok (done ++ rest)) ≡ transitions_of s (numbers_from before 0 count)
     pub nodes : after ≡ pairs_of (numbers_from before 0 i) done ++ drop (2 * i) before
     pub probabilities : afterP ≡ threes_of done ++ drop (3 * i) beforeP
 
@@ -88,16 +82,16 @@ module _ (s : Step) (count : ℕ) (before : List ℤ) (beforeP : List Float) whe
         let r = f.room in
         ap (λ (l : List ℤ). get_or l (2 * i) d) f.nodes ∙ ap (λ (j : ℕ). get_or (p ++ drop (2 * i) before) j d) e ∙ get_or-append-add p (drop (2 * i) before) 0 d ∙ get_or-drop (2 * i) before 0 d ∙ ap (λ (j : ℕ). get_or before j d) z ∙ get_d_inside before (2 * i) d (pos 0) (omega arith)
 
-    turned : (t : Transition) → i < count → transition_of s (get_or before (2 * i) (pos 0)) ≡ given t
-        → follow (follow (transitions_of s (numbers_from before (i + 1) (count - (i + 1)))) λ ts. given (t ∷ ts)) (λ rest. given (f.done ++ rest))
+    turned : (t : Transition) → i < count → transition_of s (get_or before (2 * i) (pos 0)) ≡ Ok t
+        → follow (follow (transitions_of s (numbers_from before (i + 1) (count - (i + 1)))) λ ts. Ok (t ∷ ts)) (λ rest. Ok (f.done ++ rest))
         ≡ transitions_of s (numbers_from before 0 count)
     unfolding numbers_from transitions_of on_outcome
     turned t h e = rw (left_over h, e) at f.same
 
-    pub filling-refused : {q : Refusal} → i < count → transition_of s (get_or before (2 * i) (pos 0)) ≡ refused q → FilledLayer s count (check.Refused q) before after beforeP afterP
+    pub filling-refused : {q : Refusal} → i < count → transition_of s (get_or before (2 * i) (pos 0)) ≡ Err q → FilledLayer s count (Err q) before after beforeP afterP
     unfolding numbers_from transitions_of on_outcome check_of
     filling-refused {q} h e =
-        let w : refused q ≡ transitions_of s (numbers_from before 0 count) = rw (left_over h, e) at f.same in
+        let w : Err q ≡ transitions_of s (numbers_from before 0 count) = rw (left_over h, e) at f.same in
         record {
           outcome = rw (← w);
           nodes = λ ts g. let z : ◌≡◌ {A = ℕ} 0 1 = cc in absurd (omega arith);
@@ -106,12 +100,12 @@ module _ (s : Step) (count : ℕ) (before : List ℤ) (beforeP : List Float) whe
           kept_too = after_long_too;
         }
 
-    pub filling_all : count ≤ i → FilledLayer s count check.Passed before after beforeP afterP
+    pub filling_all : count ≤ i → FilledLayer s count (Ok tt) before after beforeP afterP
     unfolding numbers_from transitions_of on_outcome check_of
     filling_all h =
         let i-is : i ≡ count = let w = f.within in omega arith in
         let z : count - i ≡ 0 = omega arith in
-        let w : given (f.done ++ []) ≡ transitions_of s (numbers_from before 0 count) = rw z at f.same in
+        let w : Ok (f.done ++ []) ≡ transitions_of s (numbers_from before 0 count) = rw z at f.same in
         record {
           outcome = rw (← w);
           nodes = λ ts g. let d : f.done ++ [] ≡ ts = same_given (w ∙ g) in f.nodes ∙ (rw (i-is, ← d, append-nil f.done));
@@ -120,7 +114,7 @@ module _ (s : Step) (count : ℕ) (before : List ℤ) (beforeP : List Float) whe
           kept_too = after_long_too;
         }
 
-    pub filling_one : (t : Transition) → i < count → transition_of s (get_or before (2 * i) (pos 0)) ≡ given t
+    pub filling_one : (t : Transition) → i < count → transition_of s (get_or before (2 * i) (pos 0)) ≡ Ok t
         → FillingLayer (set after (2 * i + 1) t.middle) (set (set (set afterP (3 * i) t.probability_down) (3 * i + 1) t.probability_middle) (3 * i + 2) t.probability_up) (i + 1)
     filling_one t h e =
         let r = f.room in
@@ -153,17 +147,16 @@ module _ (s : Step) (count : ℕ) (before : List ℤ) (beforeP : List Float) whe
 
     -- ---- with what the code has in hand
 
-    module _ (made : MadeTransition) {n : ℤ} (h : i < count) (read : n ≡ get_or before (2 * i) (pos 0)) (ensured : made_outcome made ≡ transition_of s n) where
-      made_is : made_outcome made ≡ transition_of s (get_or before (2 * i) (pos 0))
+    module _ (made : Outcome Transition) {n : ℤ} (h : i < count) (read : n ≡ get_or before (2 * i) (pos 0)) (ensured : made ≡ transition_of s n) where
+      made_is : made ≡ transition_of s (get_or before (2 * i) (pos 0))
       made_is = rw read at ensured
 
-      pub filling-stopped : {q : Refusal} {r : Check} → made ≡ node.Refused q → r ≡ check_of (made_outcome made) → FilledLayer s count r before after beforeP afterP
-      unfolding check_of
-      filling-stopped {q} {r} e k = rw (k, e) (filling-refused h (sym made_is ∙ (rw e)))
+      pub filling-stopped : {q : Refusal} → made ≡ Err q → FilledLayer s count (Err q) before after beforeP afterP
+      filling-stopped e = (filling-refused h (sym made_is ∙ (rw e)))
 
-      pub stored-within : {t : Transition} → made ≡ node.Made t → Within t.middle
+      pub stored-within : {t : Transition} → made ≡ Ok t → Within t.middle
       stored-within {t} e = (given_of {x = t} (transition_from s (get_or before (2 * i) (pos 0))) (sym made_is ∙ (rw e))).within
 
-      pub filling-stored : {t : Transition} {m : ℤ} → made ≡ node.Made t → m ≡ t.middle
+      pub filling-stored : {t : Transition} {m : ℤ} → made ≡ Ok t → m ≡ t.middle
           → FillingLayer (set after (2 * i + 1) m) (set (set (set afterP (3 * i) t.probability_down) (3 * i + 1) t.probability_middle) (3 * i + 2) t.probability_up) (i + 1)
       filling-stored {t} e k = rw k (filling_one t h (sym made_is ∙ (rw e)))

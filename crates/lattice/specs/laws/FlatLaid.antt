@@ -1,12 +1,9 @@
 -- A flat layer laid in front of the others: the flat tree from a layer on stands in the slices. Assumes nothing.
-use Rattle.std.specs.Prelude.{ℕ, suc, ◌+◌, ◌≤◌, ◌≡◌, refl, true, false, length, ℤ, pos, negsuc, Float}
+use Rattle.std.specs.Prelude.{ℕ, suc, ◌+◌, ◌≤◌, ◌≡◌, refl, true, false, length, ℤ, pos, negsuc, Float, Ok, Err}
 use Rattle.std.proofs.Common.{add-one, arith, sym, ap, ◌∙◌, length-drop}
 use mathlib.Core.List.{List, [], ◌∷◌}
 use Rattle.std.proofs.Math.ListN.{drop, drop_of_length-le}
-use Rattle.floats.specs.Answers.{plus_zero, one}
-use Rattle.terms.specs.declared.Check.{Check}
-use Rattle.terms.specs.declared.Check.TheVariants.{Passed, Refused}
-use Rattle.terms.specs.Outcomes.{Outcome, given, refused, follow, on_outcome}
+use Rattle.floats.specs.Answers.{plus_zero, one, Check, Outcome, follow, on_outcome}
 use Rattle.terms.specs.laws.Outcomes.{Gives, gives, nothing, given_of, same_given, given_or_refused}
 use Rattle.hullwhite.specs.laws.Filled.{check_of}
 use Rattle.lattice.specs.Layers.{Room, fits}
@@ -21,6 +18,7 @@ use Rattle.lattice.specs.laws.Growing.{room_left}
 use Rattle.lattice.specs.laws.Parts.{part_from, part_from_lem, with_part, with_part_lem}
 use Rattle.lattice.specs.laws.RoomTest.{fitting, room_behind}
 use Rattle.lattice.specs.laws.FlatLeft.{with_flat, flat_left, flat-refused, flat_last, flat_next}
+use Rattle.floats.specs.declared.Reason.TheVariants as reason
 
 -- ---- the layers
 
@@ -66,17 +64,17 @@ more_tree a b t counts spacings nodes probabilities h k l =
 
 -- ---- the whole
 
-check_flat : (o : Outcome Lattice) → check_of (follow o λ t. given (with_flat t)) ≡ check_of o
+check_flat : (o : Outcome Lattice) → check_of (follow o λ t. Ok (with_flat t)) ≡ check_of o
 unfolding check_of on_outcome
-check_flat (given t) = refl
-check_flat (refused q) = refl
+check_flat (Ok t) = refl
+check_flat (Err q) = refl
 
 front-known : {a b : ℕ} {counts : List ℕ} {spacings : List Float} {nodes : List ℤ} {probabilities : List Float} (o : Outcome Lattice) → 1 ≤ a → 1 ≤ b
-    → ((t : Lattice) → o ≡ given t → LaidTree true a b 1 root_layer t counts spacings nodes probabilities)
-    → Gives (λ t. LaidTree true a b 1 root_layer t (1 ∷ counts) (plus_zero ∷ spacings) (pos 0 ∷ pos 0 ∷ nodes) (plus_zero ∷ one ∷ plus_zero ∷ probabilities)) (follow o λ t. given (with_flat t))
+    → ((t : Lattice) → o ≡ Ok t → LaidTree true a b 1 root_layer t counts spacings nodes probabilities)
+    → Gives (λ t. LaidTree true a b 1 root_layer t (1 ∷ counts) (plus_zero ∷ spacings) (pos 0 ∷ pos 0 ∷ nodes) (plus_zero ∷ one ∷ plus_zero ∷ probabilities)) (follow o λ t. Ok (with_flat t))
 unfolding on_outcome
-front-known {a} {b} {counts} {spacings} {nodes} {probabilities} (given t) h k l = gives (more_tree a b t counts spacings nodes probabilities h k (l t refl))
-front-known (refused q) h k l = nothing
+front-known {a} {b} {counts} {spacings} {nodes} {probabilities} (Ok t) h k l = gives (more_tree a b t counts spacings nodes probabilities h k (l t refl))
+front-known (Err q) h k l = nothing
 
 module _ (nodes : List ℤ) (probabilities : List Float) (a b : ℕ) where
   abbrev here : Room
@@ -84,7 +82,7 @@ module _ (nodes : List ℤ) (probabilities : List Float) (a b : ℕ) where
 
   -- No room for the layer.
   pub lays-refused : (step left : ℕ) {counts : List ℕ} {spacings : List Float} {after : List ℤ} {afterP : List Float} → fits here 1 1 ≡ false
-      → LaysTree true a b 1 root_layer (flat_left here step left) (Refused (record { number = 21; place = step })) counts spacings after afterP
+      → LaysTree true a b 1 root_layer (flat_left here step left) (Err (record { reason = reason.NoRoom; place = step })) counts spacings after afterP
   unfolding check_of
   lays-refused step left e =
       let q = flat-refused here step left e in
@@ -93,7 +91,7 @@ module _ (nodes : List ℤ) (probabilities : List Float) (a b : ℕ) where
   -- The last layer.
   pub lays_last : (step : ℕ) (counts : List ℕ) (spacings : List Float) {counted : List ℕ} {after : List ℤ} {afterP : List Float} → fits here 1 1 ≡ true → length counts ≡ length spacings + 1 → length spacings ≡ 0
       → (counted ≡ 1 ∷ drop 1 counts) × (after ≡ pos 0 ∷ pos 0 ∷ drop 2 nodes)
-      → LaysTree true a b 1 root_layer (flat_left here step (length spacings)) Passed counted spacings after afterP
+      → LaysTree true a b 1 root_layer (flat_left here step (length spacings)) (Ok tt) counted spacings after afterP
   unfolding check_of
   lays_last step counts [] {counted} {after} {afterP} e n z l =
       let f = fitting here 1 1 e in

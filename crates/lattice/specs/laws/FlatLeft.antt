@@ -1,10 +1,11 @@
 -- A flat tree over the room that is left from a layer on, and that it is the flat tree over the whole room. Assumes nothing.
-use Rattle.std.specs.Prelude.{ℕ, zero, suc, ◌+◌, ◌-◌, ◌*◌, ◌≡◌, true, false, cond, [], ◌∷◌}
+use Rattle.std.specs.Prelude.{ℕ, zero, suc, ◌+◌, ◌-◌, ◌*◌, ◌≡◌, true, false, cond, [], ◌∷◌, Ok}
 use Rattle.std.proofs.Common.{arith}
-use Rattle.terms.specs.Outcomes.{Outcome, given, follow, refuse}
+use Rattle.floats.specs.Answers.{Outcome, follow, refusal}
 use Rattle.lattice.specs.Layers.{Room, fits}
 use Rattle.lattice.specs.Lattice.{Lattice, root_layer, flat_layer, flat}
 use Rattle.lattice.specs.laws.RoomTest.{room_behind, leb_same}
+use Rattle.floats.specs.declared.Reason.TheVariants as reason
 
 -- A flat layer in front of the others.
 abbrev pub with_flat : Lattice → Lattice
@@ -12,8 +13,8 @@ with_flat t = record { layers = flat_layer ∷ t.layers; final = t.final }
 
 -- The layers from k on: each takes one node of the room that is left.
 unfoldable pub flat_left : Room → ℕ → ℕ → Outcome Lattice
-flat_left room k zero = cond (fits room 1 1) (given (record { layers = []; final = root_layer })) (refuse 21 k)
-flat_left room k (suc left) = cond (fits room 1 1) (follow (flat_left (room_behind room 1) (suc k) left) λ rest. given (with_flat rest)) (refuse 21 k)
+flat_left room k zero = cond (fits room 1 1) (Ok (record { layers = []; final = root_layer })) (refusal reason.NoRoom k)
+flat_left room k (suc left) = cond (fits room 1 1) (follow (flat_left (room_behind room 1) (suc k) left) λ rest. Ok (with_flat rest)) (refusal reason.NoRoom k)
 
 fits_left : (room : Room) (k : ℕ) → fits (room_behind room k) 1 1 ≡ fits room (k + 1) 1
 fits_left room k =
@@ -41,15 +42,15 @@ flat_left_lem room left =
 
 -- ---- by whether one node fits
 
-pub flat-refused : (room : Room) (k left : ℕ) → fits room 1 1 ≡ false → flat_left room k left ≡ refuse 21 k
+pub flat-refused : (room : Room) (k left : ℕ) → fits room 1 1 ≡ false → flat_left room k left ≡ refusal reason.NoRoom k
 unfolding flat_left
 flat-refused room k zero e = rw e
 flat-refused room k (suc left) e = rw e
 
-pub flat_last : (room : Room) (k : ℕ) → fits room 1 1 ≡ true → flat_left room k 0 ≡ given (record { layers = []; final = root_layer })
+pub flat_last : (room : Room) (k : ℕ) → fits room 1 1 ≡ true → flat_left room k 0 ≡ Ok (record { layers = []; final = root_layer })
 unfolding flat_left
 flat_last room k e = rw e
 
-pub flat_next : (room : Room) (k left : ℕ) → fits room 1 1 ≡ true → flat_left room k (suc left) ≡ follow (flat_left (room_behind room 1) (suc k) left) λ rest. given (with_flat rest)
+pub flat_next : (room : Room) (k left : ℕ) → fits room 1 1 ≡ true → flat_left room k (suc left) ≡ follow (flat_left (room_behind room 1) (suc k) left) λ rest. Ok (with_flat rest)
 unfolding flat_left
 flat_next room k left e = rw e

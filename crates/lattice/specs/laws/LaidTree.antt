@@ -1,7 +1,6 @@
 -- What laying a whole tree in the slices promises: its outcome, and where there is a tree, that its layers stand there as fit and walk ask. Assumes nothing.
-use Rattle.std.specs.Prelude.{ℕ, ◌≡◌, Bool, List, ◌∷◌, ℤ, Float}
-use Rattle.terms.specs.declared.Check.{Check}
-use Rattle.terms.specs.Outcomes.{Outcome, given}
+use Rattle.std.specs.Prelude.{ℕ, ◌≡◌, Bool, List, ◌∷◌, ℤ, Float, Ok}
+use Rattle.floats.specs.Answers.{Check, Outcome}
 use Rattle.hullwhite.specs.laws.Filled.{check_of}
 use Rattle.lattice.specs.Lattice.{Lattice}
 use Rattle.lattice.specs.laws.Stored.{numbers_in}
@@ -18,4 +17,4 @@ pub record LaidTree (flat : Bool) (one two c : ℕ) (numbers : List ℤ) (t : La
 
 pub record LaysTree (flat : Bool) (one two c : ℕ) (numbers : List ℤ) (o : Outcome Lattice) (r : Check) (counts : List ℕ) (spacings : List Float) (nodes : List ℤ) (probabilities : List Float) : Type 0 where
   pub outcome : r ≡ check_of o
-  pub tree : (t : Lattice) → o ≡ given t → LaidTree flat one two c numbers t counts spacings nodes probabilities
+  pub tree : (t : Lattice) → o ≡ Ok t → LaidTree flat one two c numbers t counts spacings nodes probabilities

@@ -1,8 +1,7 @@
 -- What the layers of a tree leave in the slices, from the last one back to the front: no step left, a step refused, and a step grown before the rest. Assumes nothing.
-use Rattle.std.specs.Prelude.{ℕ, ◌+◌, ◌≤◌, ◌≡◌, refl, false, length, set, ℤ, Float}
+use Rattle.std.specs.Prelude.{ℕ, ◌+◌, ◌≤◌, ◌≡◌, refl, false, length, set, ℤ, Float, Ok}
 use Rattle.std.proofs.Common.{arith}
 use mathlib.Core.List.{List, [], ◌∷◌}
-use Rattle.terms.specs.declared.Check.TheVariants as check
 use Rattle.terms.specs.laws.Outcomes.{same_given}
 use Rattle.hullwhite.specs.laws.Filled.{check_of}
 use Rattle.lattice.specs.Layers.{Room}
@@ -20,7 +19,7 @@ module _ {one two c : ℕ} {decay spacing : Float} {nodes : List ℤ} {probabili
   last_tree = record { others = []; counted = refl; first_layer = refl; layers = refl; final = refl; laid = last_laid f.pairs h i }
 
   pub layers_last : (room : Room) (step : ℕ) (variances : List Float) (counts : List ℕ) (spacings : List Float) → length variances ≡ 0 → length counts ≡ length variances + 1 → length spacings ≡ length variances
-      → LaysTree false one two c (numbers_of c nodes) (grown room decay spacing 0 (numbers_of c nodes) step variances) check.Passed (set counts 0 c) spacings nodes probabilities
+      → LaysTree false one two c (numbers_of c nodes) (grown room decay spacing 0 (numbers_of c nodes) step variances) (Ok tt) (set counts 0 c) spacings nodes probabilities
   unfolding grown check_of
   layers_last room step [] (x ∷ []) [] a b d = record { outcome = refl; tree = λ t e. rw (← same_given e) last_tree }
   layers_last room step (v ∷ vs) counts spacings a b d = absurd (omega arith)

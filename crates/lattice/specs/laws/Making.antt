@@ -1,5 +1,5 @@
 -- How a transition is made, in the parts in which the code makes it. Assumes nothing.
-use Rattle.std.specs.Prelude.{ℕ, refl, Bool, cond, ◌||◌, ℤ, Float}
+use Rattle.std.specs.Prelude.{ℕ, refl, Bool, cond, ◌||◌, ℤ, Float, Ok}
 use Rattle.std.proofs.Math.Path.{◌≡◌}
 use Rattle.std.proofs.Math.Bool.{true, false, not}
 use Rattle.std.proofs.Common.{arith}
@@ -8,35 +8,15 @@ use Rattle.std.proofs.Math.IntN.{pred_ℤ, suc_ℤ}
 use Rattle.std.specs.Float.{binary64}
 use Rattle.std.specs.Float.Ieee.{add, sub, mul, div, to_signed, of_bits, of_int, fits}
 use Rattle.std.specs.Float.Ieee.Scale.{finite}
-use Rattle.floats.specs.declared.Refusal.{Refusal}
-use Rattle.floats.specs.Answers.{one, two, not_finite, on_answer}
+use Rattle.floats.specs.Answers.{one, two, not_finite, on_outcome, Outcome, when_finite, refusal}
 use Rattle.floats.specs.Whole.{rounded}
 use Rattle.floats.specs.laws.Whole.{round-answers}
 use Rattle.terms.specs.Numbers.{float}
-use Rattle.terms.specs.Outcomes.{Outcome, given, refused, finite_then, refuse}
 use Rattle.lattice.specs.declared.Middle.{Middle}
 use Rattle.lattice.specs.declared.Transition.{Transition}
-use Rattle.lattice.specs.declared.node.MadeMiddle.{MadeMiddle}
-use Rattle.lattice.specs.declared.node.MadeMiddle.TheVariants as middle
-use Rattle.lattice.specs.declared.node.MadeTransition.{MadeTransition}
-use Rattle.lattice.specs.declared.node.MadeTransition.TheVariants.{Made, Refused}
 use Rattle.lattice.specs.Layers.{node_float}
 use Rattle.lattice.specs.Transitions.{Step, too_far, too_low, clamped, probabilities, middle_of, from_middle}
-
--- A transition, or the refusal that was met.
-abbrev pub made_outcome : MadeTransition → Outcome Transition
-made_outcome (Made t) = given t
-made_outcome (Refused r) = refused r
-
--- A middle, or the refusal that was met.
-abbrev pub middle_outcome : MadeMiddle → Outcome Middle
-middle_outcome (middle.Made m) = given m
-middle_outcome (middle.Refused r) = refused r
-
--- 01's number and place: 0 and 0 where a middle is made.
-abbrev pub middle_refusal : MadeMiddle → Refusal
-middle_refusal (middle.Made m) = record { number = 0; place = 0 }
-middle_refusal (middle.Refused r) = r
+use Rattle.floats.specs.declared.Reason.TheVariants as reason
 
 abbrev pub step_from : Float → Float → Float → Float → Float → ℕ → Step
 step_from spacing decay new denominator scale place =
@@ -45,12 +25,12 @@ step_from spacing decay new denominator scale place =
 -- Three numbers that are not below 0, divided by their total.
 unfoldable pub shares : ℤ → Float → Float → Float → ℕ → Outcome Transition
 shares middle d m u place =
-    finite_then (add binary64 d m) place λ part.
-    finite_then (add binary64 part u) place λ total.
-    finite_then (div binary64 d total) place λ pd.
-    finite_then (div binary64 m total) place λ pm.
-    finite_then (div binary64 u total) place λ pu.
-    given
+    when_finite (add binary64 d m) place λ part.
+    when_finite (add binary64 part u) place λ total.
+    when_finite (div binary64 d total) place λ pd.
+    when_finite (div binary64 m total) place λ pm.
+    when_finite (div binary64 u total) place λ pu.
+    Ok
     (record {
       down = pred_ℤ middle;
       middle = middle;
@@ -78,15 +58,15 @@ three_is = refl
 -- Probabilities from the error and the two divisors, 24.
 unfoldable pub chances : ℤ → Float → Float → Float → ℕ → Outcome Transition
 chances middle error denominator scale place =
-    finite_then (mul binary64 error error) place λ square.
-    finite_then (div binary64 square denominator) place λ term.
-    finite_then (add binary64 (div binary64 one six) term) place λ a.
-    finite_then (div binary64 error scale) place λ skew.
-    finite_then (sub binary64 a skew) place λ down.
-    finite_then (mul binary64 term two) place λ twice.
-    finite_then (sub binary64 (div binary64 two three) twice) place λ mid.
-    finite_then (add binary64 a skew) place λ up.
-    cond (too_low down || (too_low mid || too_low up)) (refuse 24 place) (clamped middle down mid up place)
+    when_finite (mul binary64 error error) place λ square.
+    when_finite (div binary64 square denominator) place λ term.
+    when_finite (add binary64 (div binary64 one six) term) place λ a.
+    when_finite (div binary64 error scale) place λ skew.
+    when_finite (sub binary64 a skew) place λ down.
+    when_finite (mul binary64 term two) place λ twice.
+    when_finite (sub binary64 (div binary64 two three) twice) place λ mid.
+    when_finite (add binary64 a skew) place λ up.
+    cond (too_low down || (too_low mid || too_low up)) (refusal reason.Probability place) (clamped middle down mid up place)
 
 pub chances-probabilities : (s : Step) (middle : ℤ) (error : Float) → chances middle error s.denominator s.scale s.place ≡ probabilities s middle error
 unfolding chances probabilities
@@ -95,8 +75,8 @@ chances-probabilities s middle error = rw (← six_is, ← three_is)
 -- From the middle on: error and probabilities.
 unfoldable pub centred : Middle → Float → Float → Float → ℕ → Outcome Transition
 centred m new denominator scale place =
-    finite_then (mul binary64 new m.middle) place λ centre.
-    finite_then (sub binary64 m.expectation centre) place λ error. chances m.node error denominator scale place
+    when_finite (mul binary64 new m.middle) place λ centre.
+    when_finite (sub binary64 m.expectation centre) place λ error. chances m.node error denominator scale place
 
 pub centred_from : (s : Step) (m : Middle) → centred m s.new_spacing s.denominator s.scale s.place ≡ from_middle s m
 unfolding centred from_middle
@@ -105,8 +85,8 @@ centred_from s m = simp (chances-probabilities s)
 -- 23, else the middle, as a node number too.
 unfoldable pub held : Float → Float → ℕ → Outcome Middle
 held expectation middle place =
-    cond (too_far middle) (refuse 23 place)
-    (given (record { expectation = expectation; middle = middle; node = to_signed 31 middle }))
+    cond (too_far middle) (refusal reason.NodeTooFar place)
+    (Ok (record { expectation = expectation; middle = middle; node = to_signed 31 middle }))
 
 -- Where state, expectation and quotient are finite.
 module _ (s : Step) (node : ℤ) where
@@ -121,7 +101,7 @@ module _ (s : Step) (node : ℤ) where
 
   pub from_rounded : T (fits binary64 quotient_of) → not_finite state_of ≡ false → not_finite expectation_of ≡ false → not_finite quotient_of ≡ false
       → middle_of s.spacing s.decay s.new_spacing s.place node ≡ held expectation_of (rounded quotient_of) s.place
-  unfolding middle_of held on_answer
+  unfolding middle_of held on_outcome
   from_rounded f a b c = rw (a, b, round-answers quotient_of s.place f (finite_of (finite quotient_of) c), c)
     where
       finite_of : (b : Bool) → not b ≡ false → T b

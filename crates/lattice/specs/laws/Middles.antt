@@ -1,23 +1,22 @@
 -- The middles of a layer: each is the rounded quotient, within ±1,000,000, with its two neighbours as destinations; and they never fall from node to node. Assumes nothing.
-use Rattle.std.specs.Prelude.{ℕ, ◌≡◌, refl, Bool, true, false, cond, ◌||◌, List, [], ◌∷◌, T, ℤ, Float}
-use Rattle.std.proofs.Common.{sym, ap, subst, ◌∙◌}
+use Rattle.std.specs.Prelude.{ℕ, ◌≡◌, refl, Bool, true, false, cond, ◌||◌, List, [], ◌∷◌, T, ℤ, Float, Ok, Err}
+use Rattle.std.proofs.Common.{sym, subst, ◌∙◌}
 use Rattle.std.proofs.Math.IntN.{suc_ℤ, pred_ℤ}
 use Rattle.std.specs.Int.Signed.{le_z}
 use Rattle.std.specs.Float.Ieee.{binary64, add, sub, mul, div, neg, le, lt, fits, to_signed}
 use Rattle.std.specs.Float.Ieee.Fits.{div-fits}
 use Rattle.std.specs.Float.Ieee.Scale.{finite}
+use Rattle.floats.specs.declared.Reason.{Reason}
 use Rattle.floats.specs.declared.Refusal.{Refusal}
-use Rattle.floats.specs.Answers.{plus_zero, one, two, on_answer}
+use Rattle.floats.specs.Answers.{plus_zero, one, two, on_outcome, Outcome, refusal}
 use Rattle.floats.specs.Whole.{rounded}
 use Rattle.floats.specs.laws.Arithmetic.{mul_mono_left, mul_mono_right, div_mono_left}
 use Rattle.floats.specs.laws.Cuts.{whole-finite}
 use Rattle.floats.specs.laws.Whole.{rounded-mono, rounded-whole, round-answers}
 use Rattle.terms.specs.Numbers.{million}
-use Rattle.terms.specs.Outcomes.{Outcome, given, refused, on_outcome, refuse}
+use Rattle.floats.specs.declared.Reason.TheVariants as reason
 use Rattle.lattice.specs.declared.Middle.{Middle}
 use Rattle.lattice.specs.declared.Transition.{Transition}
-use Rattle.lattice.specs.declared.node.MadeMiddle.{MadeMiddle}
-use Rattle.lattice.specs.declared.node.MadeMiddle.TheVariants as made
 use Rattle.lattice.specs.Layers.{below, node_float}
 use Rattle.lattice.specs.Transitions.{Step, too_low, too_far, clamped, middle_of, from_middle, transition_of}
 use Rattle.lattice.specs.Lattice.{transitions_of, destinations}
@@ -26,7 +25,7 @@ use Rattle.terms.specs.laws.Outcomes.{Gives, gives, nothing, given_of, gives-fol
 use Rattle.lattice.specs.laws.Bounds.{Within}
 use Rattle.lattice.specs.laws.CastOrder.{cast_mono, middle-within}
 use Rattle.lattice.specs.laws.Gaps.{Gap, gap_of, node-mono}
-use Rattle.lattice.specs.laws.Making.{middle_outcome, six, three, shares, chances, centred, centred_from, held, state_of, expectation_of, quotient_of}
+use Rattle.lattice.specs.laws.Making.{six, three, shares, chances, centred, centred_from, held, state_of, expectation_of, quotient_of}
 use Rattle.lattice.specs.laws.RisingMiddles.{Rising, ends, next, Climbs, none, above, around}
 
 -- ---- one transition
@@ -47,10 +46,10 @@ shares-spread m d p u place =
     gives-finite (div binary64 p w) _ _ λ _.
     gives-finite (div binary64 u w) _ _ λ _. gives (record { down = refl; middle = refl; up = refl })
 
-spread-given : (m : ℤ) (pd pm pu : Float) → Gives (Spread m) (given (record { down = pred_ℤ m; middle = m; up = suc_ℤ m; probability_down = pd; probability_middle = pm; probability_up = pu }))
+spread-given : (m : ℤ) (pd pm pu : Float) → Gives (Spread m) (Ok (record { down = pred_ℤ m; middle = m; up = suc_ℤ m; probability_down = pd; probability_middle = pm; probability_up = pu }))
 spread-given m pd pm pu = gives (record { down = refl; middle = refl; up = refl })
 
-spread-nothing : (m : ℤ) (r : Refusal) → Gives (Spread m) (refused r)
+spread-nothing : (m : ℤ) (r : Refusal) → Gives (Spread m) (Err r)
 spread-nothing m r = nothing
 
 spread-cond : (m : ℤ) (b : Bool) (o q : Outcome Transition) → Gives (Spread m) o → Gives (Spread m) q → Gives (Spread m) (cond b o q)
@@ -82,10 +81,10 @@ chances-spread m error denominator scale place =
 
 module _ {B : Type 0} {Q : B → Type 0} where
   -- tests that were false
-  gives-neither : (a b : Bool) (q : Outcome B) (n k : ℕ) → (a ≡ false → b ≡ false → Gives Q q) → Gives Q (cond (a || b) (refuse n k) q)
-  gives-neither true b q n k h = nothing
-  gives-neither false true q n k h = nothing
-  gives-neither false false q n k h = h refl refl
+  gives-neither : (a b : Bool) (q : Outcome B) (why : Reason) (k : ℕ) → (a ≡ false → b ≡ false → Gives Q q) → Gives Q (cond (a || b) (refusal why k) q)
+  gives-neither true b q why k h = nothing
+  gives-neither false true q why k h = nothing
+  gives-neither false false q why k h = h refl refl
 
 module _ {A : Type 0} {P Q : A → Type 0} where
   gives-map : {o : Outcome A} → ((x : A) → P x → Q x) → Gives P o → Gives Q o
@@ -118,7 +117,7 @@ module _ (s : Step) (n : ℤ) where
   held_from a b c =
       let y = rounded (quotient_of s n) in
       let w = rounded-whole (quotient_of s n) q_fits c in
-      gives-neither (lt y (neg million)) (lt million y) _ 23 s.place λ low high.
+      gives-neither (lt y (neg million)) (lt million y) _ reason.NodeTooFar s.place λ low high.
       gives
       (record {
         state-finite = a;
@@ -130,7 +129,7 @@ module _ (s : Step) (n : ℤ) where
       })
 
   pub middle_from : Gives (MiddleFrom s n) (middle_of s.spacing s.decay s.new_spacing s.place n)
-  unfolding middle_of held on_answer
+  unfolding middle_of held on_outcome
   middle_from =
       gives-finite (state_of s n) _ _ λ a.
       gives-finite (expectation_of s n) _ _ λ b.
@@ -160,15 +159,15 @@ module _ (s : Step) (n : ℤ) where
   transition_from = gives-follow _ _ middle_from λ m f. gives-map (from_node m f) (from_middle-spread m)
 
 -- What the code makes of a node's middle.
-module _ (s : Step) (n : ℤ) (found : MadeMiddle) (ensured : middle_outcome found ≡ middle_of s.spacing s.decay s.new_spacing s.place n) where
-  pub made-within : (m : Middle) → found ≡ made.Made m → Within m.node
-  made-within m e = (given_of (middle_from s n) (sym ensured ∙ ap middle_outcome e)).within
+module _ (s : Step) (n : ℤ) (found : Outcome Middle) (ensured : found ≡ middle_of s.spacing s.decay s.new_spacing s.place n) where
+  pub made-within : (m : Middle) → found ≡ Ok m → Within m.node
+  made-within m e = (given_of (middle_from s n) (sym ensured ∙ e)).within
 
-  pub made-transition : (m : Middle) → found ≡ made.Made m → centred m s.new_spacing s.denominator s.scale s.place ≡ transition_of s n
+  pub made-transition : (m : Middle) → found ≡ Ok m → centred m s.new_spacing s.denominator s.scale s.place ≡ transition_of s n
   unfolding transition_of on_outcome
   made-transition m e = rw (← ensured, e) (centred_from s m)
 
-  pub made-refused : (r : Refusal) → found ≡ made.Refused r → refused r ≡ transition_of s n
+  pub made-refused : (r : Refusal) → found ≡ Err r → Err r ≡ transition_of s n
   unfolding transition_of on_outcome
   made-refused r e = rw (← ensured, e)
 

@@ -1,17 +1,17 @@
 -- The next layer behind one whose middles are there: counted, its room tried, then laid. Assumes nothing.
-use Rattle.std.specs.Prelude.{ℕ, suc, ◌+◌, refl, Bool, true, false, cond, List, get_or, ℤ, pos, Float}
+use Rattle.std.specs.Prelude.{ℕ, suc, ◌+◌, refl, Bool, true, false, cond, List, get_or, ℤ, pos, Float, Ok, Err}
 use Rattle.std.proofs.Math.Numerals.{add-one}
 use Rattle.std.proofs.Common.{arith, ◌∙◌}
 use Rattle.std.proofs.Math.Path.{◌≡◌, ap}
 use Rattle.std.proofs.Math.ListN.{length}
-use Rattle.terms.specs.Outcomes.{given, refuse}
+use Rattle.floats.specs.Answers.{refusal, Outcome}
 use Rattle.lattice.specs.declared.NextLayer.{NextLayer}
-use Rattle.lattice.specs.declared.NextLayer.TheVariants.{Laid, Refused}
 use Rattle.lattice.specs.Layers.{Room, fits}
 use Rattle.lattice.specs.laws.Reaching.{reach_all, nothing_below}
 use Rattle.lattice.specs.laws.Counting.{middles_from}
 use Rattle.lattice.specs.laws.Laying.{pushed_all, all_length}
 use Rattle.lattice.specs.laws.Growing.{next_outcome}
+use Rattle.floats.specs.declared.Reason.TheVariants as reason
 
 abbrev pub room_of : ℕ → ℕ → ℕ → ℕ → Room
 room_of nodes probabilities one two = record { nodes = nodes; probabilities = probabilities; first = one; second = two }
@@ -21,8 +21,8 @@ abbrev pub reached : ℕ → List ℤ → ℕ
 reached count nodes = (reach_all (nothing_below (get_or nodes 1 (pos 0))) (middles_from nodes 0 count)).count
 
 -- The next layer, where it fits, behind one whose middles are there.
-pub record LaidNext (room : Room) (spacing : Float) (k count : ℕ) (r : NextLayer) (before after : List ℤ) : Type 0 where
-  pub outcome : next_outcome r ≡ cond (fits room (count + reached count before) (reached count before)) (given (record { spacing = spacing; count = reached count before })) (refuse 21 (suc k))
+pub record LaidNext (room : Room) (spacing : Float) (k count : ℕ) (r : Outcome NextLayer) (before after : List ℤ) : Type 0 where
+  pub outcome : next_outcome r ≡ cond (fits room (count + reached count before) (reached count before)) (Ok (record { spacing = spacing; count = reached count before })) (refusal reason.NoRoom (suc k))
   pub nodes : fits room (count + reached count before) (reached count before) ≡ true → after ≡ pushed_all count (nothing_below (get_or before 1 (pos 0))) (middles_from before 0 count) before
   pub kept : length after ≡ length before
 
@@ -31,7 +31,7 @@ module _ (room : Room) (spacing : Float) (k count : ℕ) (before : List ℤ) {n 
   flag_is : flag ≡ fits room (count + reached count before) (reached count before)
   flag_is = tried ∙ ap (λ (z : ℕ). fits room (count + z) z) many
 
-  pub laid_next : {after : List ℤ} → flag ≡ true → after ≡ pushed_all count (nothing_below (get_or before 1 (pos 0))) (middles_from before 0 count) before → LaidNext room spacing k count (Laid spacing n) before after
+  pub laid_next : {after : List ℤ} → flag ≡ true → after ≡ pushed_all count (nothing_below (get_or before 1 (pos 0))) (middles_from before 0 count) before → LaidNext room spacing k count (Ok (record { spacing = spacing; count = n })) before after
   unfolding next_outcome
   laid_next {after} h e =
       record {
@@ -40,7 +40,7 @@ module _ (room : Room) (spacing : Float) (k count : ℕ) (before : List ℤ) {n 
         kept = ap length e ∙ all_length count (nothing_below (get_or before 1 (pos 0))) (middles_from before 0 count) before;
       }
 
-  pub no_room : flag ≡ false → LaidNext room spacing k count (Refused (record { number = 21; place = k + 1 })) before before
+  pub no_room : flag ≡ false → LaidNext room spacing k count (Err (record { reason = reason.NoRoom; place = k + 1 })) before before
   unfolding next_outcome
   no_room h =
       record {

@@ -1,17 +1,14 @@
 -- The next layer of a rising layer: its middles rise, so its nodes are laid by appending, they rise, and each node's destinations are found by replaying. Assumes nothing.
-use Rattle.std.specs.Prelude.{ℕ, ◌≡◌, Bool, true, false, cond, List, ◌∷◌, T, ℤ, Float}
+use Rattle.std.specs.Prelude.{ℕ, ◌≡◌, Bool, true, false, cond, List, ◌∷◌, T, ℤ, Float, Ok, Err}
 use Rattle.std.proofs.Math.Path.{refl}
 use Rattle.std.proofs.Common.{arith}
 use Rattle.std.proofs.Math.IntN.{pred_ℤ}
 use Rattle.std.specs.Float.{binary64}
 use Rattle.std.specs.Float.Ieee.{mul, le}
-use Rattle.floats.specs.declared.Answer.{Answer}
-use Rattle.floats.specs.declared.Answer.TheVariants.{Value, Refused}
-use Rattle.floats.specs.Answers.{plus_zero, two, on_answer, not_finite, refusal}
+use Rattle.floats.specs.Answers.{Answer, plus_zero, two, on_outcome, not_finite, refusal, Outcome, follow}
 use Rattle.rounded.specs.Root.{sqrt_at}
 use Rattle.rounded.specs.laws.RootBounds.{NotBelow, sqrt_at_bounds}
 use Rattle.terms.specs.Numbers.{float, epsilon}
-use Rattle.terms.specs.Outcomes.{Outcome, valued}
 use Rattle.lattice.specs.declared.Transition.{Transition}
 use Rattle.lattice.specs.Transitions.{Step}
 use Rattle.lattice.specs.Lattice.{destinations, spacing_of, step_of}
@@ -20,6 +17,7 @@ use Rattle.lattice.specs.laws.Reaching.{nothing_below}
 use Rattle.lattice.specs.laws.RisingMiddles.{Rising, Climbs, around}
 use Rattle.lattice.specs.laws.Replaying.{Replays}
 use Rattle.lattice.specs.laws.Middles.{Upright, middles_of}
+use Rattle.floats.specs.declared.Reason.TheVariants as reason
 
 -- What is known of the next layer.
 pub record NextLayer (ts : List Transition) : Type 0 where
@@ -40,15 +38,15 @@ pub record SoundStep (spacing decay : Float) (s : Step) : Type 0 where
   pub new : NotBelow s.new_spacing
 
 module _ {B : Type 0} {Q : B → Type 0} where
-  gives-answer : (a : Answer) (k : Float → Outcome B) → ((x : Float) → a ≡ Value x → Gives Q (k x)) → Gives Q (valued a k)
-  unfolding on_answer
-  gives-answer (Value x) k h = h x refl
-  gives-answer (Refused r) k h = nothing
+  gives-answer : (a : Answer) (k : Float → Outcome B) → ((x : Float) → a ≡ Ok x → Gives Q (k x)) → Gives Q (follow a k)
+  unfolding on_outcome
+  gives-answer (Ok x) k h = h x refl
+  gives-answer (Err r) k h = nothing
 
-pub spacing_bounds : (v : Float) (k : ℕ) (y : Float) → spacing_of v k ≡ Value y → NotBelow y
+pub spacing_bounds : (v : Float) (k : ℕ) (y : Float) → spacing_of v k ≡ Ok y → NotBelow y
 spacing_bounds v k y e = go (not_finite (mul binary64 v (float 3))) e
   where
-    go : (b : Bool) → cond b (refusal 27 k) (sqrt_at (mul binary64 v (float 3)) k) ≡ Value y → NotBelow y
+    go : (b : Bool) → cond b (refusal reason.NotFinite k) (sqrt_at (mul binary64 v (float 3)) k) ≡ Ok y → NotBelow y
     go true e = absurd (let z : ◌≡◌ {A = ℕ} 0 1 = cc in omega arith)
     go false e = sqrt_at_bounds (mul binary64 v (float 3)) k y e
 

@@ -1,8 +1,6 @@
 -- Which of the two lent rows is current at a step, and how the answer of a function beside the row that it leaves is read as an outcome. Assumes nothing.
-use Rattle.std.specs.Prelude.{ℕ, ◌%◌, Bool, cond, List, take, eqb, Float}
-use Rattle.terms.specs.declared.Check.{Check}
-use Rattle.terms.specs.declared.Check.TheVariants.{Passed, Refused}
-use Rattle.terms.specs.Outcomes.{Outcome, given, refused}
+use Rattle.std.specs.Prelude.{ℕ, ◌%◌, Bool, cond, List, take, eqb, Float, Ok, Err}
+use Rattle.floats.specs.Answers.{Check, Outcome}
 
 -- An even step.
 abbrev pub even : ℕ → Bool
@@ -14,12 +12,8 @@ current_part step count first second = cond (even step) (take count first) (take
 
 -- What is left behind, or the refusal.
 unfoldable pub outcome_of : {A : Type 0} → Check → A → Outcome A
-outcome_of Passed x = given x
-outcome_of (Refused r) x = refused r
-
--- A refusal beside a row.
-abbrev pub refused_check : ℕ → ℕ → Check
-refused_check number place = Refused (record { number = number; place = place })
+outcome_of (Ok tt) x = Ok x
+outcome_of (Err r) x = Err r
 
 -- The two lent rows.
 pub record Both : Type 0 where

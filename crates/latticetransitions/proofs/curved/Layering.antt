@@ -1,4 +1,5 @@
 -- The layers of a tree laid in parts of the lent slices: what a recursive call asks, and what the whole slices have once their parts are back. Assumes nothing.
+use Rattle.std.specs.Prelude.{Ok, Err}
 use Prim.Native.Nat.{ℕ, ◌+◌, ◌*◌, ◌≤◌, ◌<◌}
 use native.Mathlib.Omega.{arith}
 use mathlib.Core.Path.{◌≡◌, refl, sym, ap, ◌∙◌}
@@ -8,10 +9,8 @@ use lib.ListN.{length, get_or, take, drop, set, take-append-drop}
 use lib.IntN.{ℤ}
 use lib.Ieee.{Float, nan}
 use Rattle.floats.specs.declared.Refusal.{Refusal}
-use Rattle.terms.specs.declared.Check.{Check}
-use Rattle.terms.specs.declared.Check.TheVariants as check
+use Rattle.floats.specs.Answers.{Check, Outcome}
 use Rattle.lattice.specs.declared.NextLayer.{NextLayer}
-use Rattle.lattice.specs.declared.NextLayer.TheVariants as next
 use Rattle.lattice.specs.Lattice.{grown}
 use Rattle.lattice.specs.laws.Parts.{part_from, part_from_lem, with_part, with_rest}
 use Rattle.lattice.specs.laws.LaidTree.{LaysTree}
@@ -22,17 +21,17 @@ use Rattle.layers.specs.laws.Known.{Before, before-grown}
 use Rattle.layers.specs.laws.Behind.{GrownBehind, LaysBehind, front-room, part-back, part-front, part-kept}
 
 module _ (one two c step : ℕ) (decay spacing : Float) (before after : List ℤ) (beforeP afterP : List Float) (f : Front c spacing decay before beforeP) where
-  abbrev Grows : NextLayer → List Float → Type 0
+  abbrev Grows : Outcome NextLayer → List Float → Type 0
   Grows r vs = GrownLayer (grown_next (room_left before beforeP one two) decay spacing (numbers_of c before) step (get_or vs 0 nan)) c r before after beforeP afterP
 
   abbrev Lays : List Float → Check → List ℕ → List Float → List ℤ → List Float → Type 0
   Lays vs r counts spacings nodes probabilities = LaysTree false one two c (numbers_of c before) (grown (room_left before beforeP one two) decay spacing 0 (numbers_of c before) step vs) r counts spacings nodes probabilities
 
-  refused_tree_lem : (q : Refusal) (counts : List ℕ) (spacings : List Float) (vs : List Float) → (length vs ≡ 0 → ⊥) → Grows (next.Refused q) vs → Lays vs (check.Refused q) counts spacings after afterP
+  refused_tree_lem : (q : Refusal) (counts : List ℕ) (spacings : List Float) (vs : List Float) → (length vs ≡ 0 → ⊥) → Grows (Err q) vs → Lays vs (Err q) counts spacings after afterP
   refused_tree_lem q counts spacings [] some l = absurd (some refl)
   refused_tree_lem q counts spacings (v ∷ vs) some l = layers-refused one two c step decay spacing v before after beforeP afterP f q l vs counts spacings
 
-  more_tree : (s : Float) (n : ℕ) (r : Check) (counts : List ℕ) (spacings : List Float) (left : List ℤ) (left_p : List Float) → c ≤ one → c ≤ two → (vs : List Float) → (length vs ≡ 0 → ⊥) → Grows (next.Laid s n) vs
+  more_tree : (s : Float) (n : ℕ) (r : Check) (counts : List ℕ) (spacings : List Float) (left : List ℤ) (left_p : List Float) → c ≤ one → c ≤ two → (vs : List Float) → (length vs ≡ 0 → ⊥) → Grows (Ok (record { spacing = s; count = n })) vs
       → LaysTree false one two n (numbers_of n (drop (c * 2) after)) (grown (room_left (drop (c * 2) after) (drop (c * 3) afterP) one two) decay s 0 (numbers_of n (drop (c * 2) after)) (step + 1) (drop 1 vs)) r counts spacings left left_p
       → Lays vs r (c ∷ counts) (spacing ∷ spacings) (take (c * 2) after ++ left) (take (c * 3) afterP ++ left_p)
   more_tree s n r counts spacings left left_p h i [] some l x = absurd (some refl)
@@ -43,14 +42,14 @@ whole_again : {A : Type 0} (a : ℕ) (xs ys : List A) → take a ys ≡ take a x
 whole_again {A} a xs ys e = ap (λ (z : List A). z ++ drop a ys) (sym e) ∙ take-append-drop a ys
 
 -- The layer of c nodes grows behind b nodes.
-module _ (b one two c step : ℕ) (decay spacing : Float) (variances : List Float) (before after : List ℤ) (beforeP afterP : List Float) (result : NextLayer)
+module _ (b one two c step : ℕ) (decay spacing : Float) (variances : List Float) (before after : List ℤ) (beforeP afterP : List Float) (result : Outcome NextLayer)
     (f : Front c spacing decay (drop (b * 2) before) (drop (b * 3) beforeP)) (some : length variances ≡ 0 → ⊥)
     (l : GrownBehind (grown_next (room_left (drop (b * 2) before) (drop (b * 3) beforeP) one two) decay spacing (numbers_of c (drop (b * 2) before)) step (get_or variances 0 nan)) b c result before after beforeP afterP) where
   abbrev LaysHere : Check → List ℕ → List Float → List ℤ → List Float → Type 0
   LaysHere r counts spacings nodes probabilities = LaysBehind b one two c (numbers_of c (drop (b * 2) before)) (grown (room_left (drop (b * 2) before) (drop (b * 3) beforeP) one two) decay spacing 0 (numbers_of c (drop (b * 2) before)) step variances) r counts spacings before nodes beforeP probabilities
 
   -- a refusal is handed up
-  pub refused-here : (q : Refusal) (counts : List ℕ) (spacings : List Float) → result ≡ next.Refused q → LaysHere (check.Refused q) counts spacings after afterP
+  pub refused-here : (q : Refusal) (counts : List ℕ) (spacings : List Float) → result ≡ Err q → LaysHere (Err q) counts spacings after afterP
   refused-here q counts spacings e =
       record {
         lays = refused_tree_lem one two c step decay spacing (drop (b * 2) before) (drop (b * 2) after) (drop (b * 3) beforeP) (drop (b * 3) afterP) f q counts spacings variances some (rw e at l.grown);
@@ -64,8 +63,8 @@ module _ (b one two c step : ℕ) (decay spacing : Float) (variances : List Floa
   pub threes-room : b * 3 ≤ length afterP
   threes-room = omega (arith, (front-room b before beforeP f).1, l.behind.kept_too)
 
-  module _ (s : Float) (n : ℕ) (e : result ≡ next.Laid s n) where
-    laid_so : GrownLayer (grown_next (room_left (drop (b * 2) before) (drop (b * 3) beforeP) one two) decay spacing (numbers_of c (drop (b * 2) before)) step (get_or variances 0 nan)) c (next.Laid s n) (drop (b * 2) before) (drop (b * 2) after) (drop (b * 3) beforeP) (drop (b * 3) afterP)
+  module _ (s : Float) (n : ℕ) (e : result ≡ Ok (record { spacing = s; count = n })) where
+    laid_so : GrownLayer (grown_next (room_left (drop (b * 2) before) (drop (b * 3) beforeP) one two) decay spacing (numbers_of c (drop (b * 2) before)) step (get_or variances 0 nan)) c (Ok (record { spacing = s; count = n })) (drop (b * 2) before) (drop (b * 2) after) (drop (b * 3) beforeP) (drop (b * 3) afterP)
     laid_so = rw e at l.grown
 
     -- what the rest asks of the parts

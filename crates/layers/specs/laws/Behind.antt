@@ -1,20 +1,14 @@
 -- A layer behind another one in the slices: what is done to it leaves the one in front. Assumes nothing.
-use Rattle.std.specs.Prelude.{ℕ, ◌+◌, ◌-◌, ◌*◌, ◌≤◌, ◌<◌, ◌≡◌, refl, false, List, length, get_or, take, drop, set, ℤ, pos, Float}
+use Rattle.std.specs.Prelude.{ℕ, ◌+◌, ◌-◌, ◌*◌, ◌≤◌, ◌<◌, ◌≡◌, refl, false, List, length, get_or, take, drop, set, ℤ, pos, Float, Ok, Err}
 use Rattle.std.proofs.Common.{arith, sym, ap, ◌∙◌, length-append, length-set, length-drop, get_or-drop, take_at, drop_at, length-take-le}
 use Rattle.std.proofs.lemmas.List.{take-set-le, drop-set-add}
 use Rattle.floats.specs.declared.Refusal.{Refusal}
-use Rattle.terms.specs.declared.Check.{Check}
-use Rattle.terms.specs.declared.Check.TheVariants as check
-use Rattle.terms.specs.Outcomes.{Outcome}
-use Rattle.hullwhite.specs.laws.Filled.{check_of}
+use Rattle.floats.specs.Answers.{Check, Outcome}
 use Rattle.lattice.specs.declared.Transition.{Transition}
 use Rattle.lattice.specs.declared.NextLayer.{NextLayer}
-use Rattle.lattice.specs.declared.node.MadeTransition.{MadeTransition}
-use Rattle.lattice.specs.declared.node.MadeTransition.TheVariants as node
 use Rattle.lattice.specs.Transitions.{Step, transition_of}
 use Rattle.lattice.specs.Lattice.{Lattice}
 use Rattle.lattice.specs.laws.Bounds.{Within}
-use Rattle.lattice.specs.laws.Making.{made_outcome}
 use Rattle.lattice.specs.laws.FilledLayer.{FilledLayer}
 use Rattle.lattice.specs.laws.FillingLayer.{FillingLayer, filling-begun, filling_all, filling-stopped, filling-stored, stored-within, number_read}
 use Rattle.lattice.specs.laws.Stored.{numbers_in}
@@ -44,7 +38,7 @@ pub record FilledBehind (s : Step) (b c : ℕ) (r : Check) (before after : List 
   pub behind : FrontKept b before after beforeP afterP
 
 -- What growing a layer behind b nodes promises.
-pub record GrownBehind (o : Outcome Grew) (b c : ℕ) (r : NextLayer) (before after : List ℤ) (beforeP afterP : List Float) : Type 0 where
+pub record GrownBehind (o : Outcome Grew) (b c : ℕ) (r : Outcome NextLayer) (before after : List ℤ) (beforeP afterP : List Float) : Type 0 where
   pub grown : GrownLayer o c r (drop (b * 2) before) (drop (b * 2) after) (drop (b * 3) beforeP) (drop (b * 3) afterP)
   pub behind : FrontKept b before after beforeP afterP
 
@@ -94,24 +88,24 @@ module _ {s : Step} {b c known : ℕ} {before after : List ℤ} {beforeP afterP 
       ap (λ (z : ℕ). get_or after z (pos 0)) e ∙ sym (get_or-drop (b * 2) after (2 * i) (pos 0))
       ∙ number_read s c (drop (b * 2) before) (drop (b * 3) beforeP) (drop (b * 2) after) (drop (b * 3) afterP) i f.filling (pos 0) h
 
-  pub behind_all : c ≤ i → FilledBehind s b c check.Passed before after beforeP afterP
+  pub behind_all : c ≤ i → FilledBehind s b c (Ok tt) before after beforeP afterP
   behind_all h =
       record { filled = filling_all s c (drop (b * 2) before) (drop (b * 3) beforeP) (drop (b * 2) after) (drop (b * 3) afterP) i f.filling h; behind = f.behind }
 
   -- ---- with what the code has in hand
 
-  module _ (made : MadeTransition) {n : ℤ} (h : i < c) (read : n ≡ get_or after (2 * (b + i)) (pos 0)) (ensured : made_outcome made ≡ transition_of s n) where
-    pub behind-stopped : {q : Refusal} {r : Check} → made ≡ node.Refused q → r ≡ check_of (made_outcome made) → FilledBehind s b c r before after beforeP afterP
-    behind-stopped e k =
+  module _ (made : Outcome Transition) {n : ℤ} (h : i < c) (read : n ≡ get_or after (2 * (b + i)) (pos 0)) (ensured : made ≡ transition_of s n) where
+    pub behind-stopped : {q : Refusal} → made ≡ Err q → FilledBehind s b c (Err q) before after beforeP afterP
+    behind-stopped e =
         record {
-          filled = filling-stopped s c (drop (b * 2) before) (drop (b * 3) beforeP) (drop (b * 2) after) (drop (b * 3) afterP) i f.filling made h (read ∙ behind-read h) ensured e k;
+          filled = filling-stopped s c (drop (b * 2) before) (drop (b * 3) beforeP) (drop (b * 2) after) (drop (b * 3) afterP) i f.filling made h (read ∙ behind-read h) ensured e;
           behind = f.behind;
         }
 
-    pub behind-within : {t : Transition} → made ≡ node.Made t → Within t.middle
+    pub behind-within : {t : Transition} → made ≡ Ok t → Within t.middle
     behind-within e = stored-within s c (drop (b * 2) before) (drop (b * 3) beforeP) (drop (b * 2) after) (drop (b * 3) afterP) i f.filling made h (read ∙ behind-read h) ensured e
 
-    pub behind-stored : {t : Transition} {m : ℤ} → made ≡ node.Made t → m ≡ t.middle
+    pub behind-stored : {t : Transition} {m : ℤ} → made ≡ Ok t → m ≡ t.middle
         → FillingBehind s b c known before beforeP (set after (2 * (b + i) + 1) m) (set (set (set afterP (3 * (b + i)) t.probability_down) (3 * (b + i) + 1) t.probability_middle) (3 * (b + i) + 2) t.probability_up) (i + 1)
     behind-stored {t} {m} e k =
         let x : 2 * (b + i) + 1 ≡ b * 2 + (2 * i + 1) = omega arith in
@@ -163,7 +157,7 @@ pub front-room : {c : ℕ} {spacing decay : Float} (b : ℕ) (nodes : List ℤ) 
 front-room {c} b nodes probabilities f = (omega (arith, f.pairs, f.some-node, length-drop (b * 2) nodes), omega (arith, f.threes, f.some-node, length-drop (b * 3) probabilities))
 
 -- A layer filled behind b nodes, and the next one laid in the part behind them.
-pub grown-behind : {s : Step} {b c : ℕ} {before mid left : List ℤ} {beforeP midP : List Float} {r : NextLayer} (one two n : ℕ) → b * 2 ≤ length mid → n ≡ length midP - b * 3
+pub grown-behind : {s : Step} {b c : ℕ} {before mid left : List ℤ} {beforeP midP : List Float} {r : Outcome NextLayer} (one two n : ℕ) → b * 2 ≤ length mid → n ≡ length midP - b * 3
     → FilledFront s c (drop (b * 2) before) (drop (b * 2) mid) (drop (b * 3) beforeP) (drop (b * 3) midP) → FrontKept b before mid beforeP midP
     → LaidNext (room_of (length (part_from (b * 2) mid)) n one two) s.new_spacing s.place c r (part_from (b * 2) mid) left
     → GrownBehind (grown_from (room_left (drop (b * 2) before) (drop (b * 3) beforeP) one two) s (numbers_in (front_nodes c (drop (b * 2) before)))) b c r before (with_part (b * 2) mid left) beforeP midP

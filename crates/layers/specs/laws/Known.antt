@@ -1,16 +1,16 @@
 -- The layer before, in front of the slices: at each of its nodes stands what the step that made it gives, and a step with the same spacing, decay and variance gives the same. Assumes nothing.
-use Rattle.std.specs.Prelude.{ℕ, zero, suc, ◌+◌, ◌*◌, ◌≤◌, ◌<◌, ◌≡◌, refl, Bool, true, false, cond, List, [], ◌∷◌, ◌++◌, length, get_or, take, ℤ, pos, T, Float}
+use Rattle.std.specs.Prelude.{ℕ, zero, suc, ◌+◌, ◌*◌, ◌≤◌, ◌<◌, ◌≡◌, refl, Bool, true, false, cond, List, [], ◌∷◌, ◌++◌, length, get_or, take, ℤ, pos, T, Float, Ok}
 use Rattle.std.proofs.Common.{arith, sym, ap, ◌∙◌, get_or-take}
 use Rattle.std.proofs.Math.IntN.{pred_ℤ, suc_ℤ}
 use Rattle.std.specs.Float.{binary64, nan}
 use Rattle.std.specs.Float.Ieee.{lt, eq}
 use Rattle.std.specs.Float.Ieee as ieee
-use Rattle.floats.specs.Answers.{plus_zero}
+use Rattle.floats.specs.declared.Reason.{Reason}
+use Rattle.floats.specs.declared.Reason.TheVariants as reason
+use Rattle.floats.specs.Answers.{plus_zero, Outcome, follow, refusal}
 use Rattle.floats.specs.laws.SameNumber.{same_of_eq, signed_of-positive}
-use Rattle.terms.specs.Outcomes.{Outcome, given, refuse, follow}
 use Rattle.terms.specs.laws.Outcomes.{given_or_refused, same_given, of_given, given_of}
 use Rattle.lattice.specs.declared.Transition.{Transition}
-use Rattle.lattice.specs.declared.NextLayer.TheVariants as next
 use Rattle.lattice.specs.Layers.{Room, fits}
 use Rattle.lattice.specs.Transitions.{Step, transition_of}
 use Rattle.lattice.specs.Lattice.{step_of, transitions_of, destinations}
@@ -25,7 +25,7 @@ use Rattle.layers.specs.laws.Places.{at_place, step-place, transition-place}
 -- Node j's transition, beside its number.
 pub record KnownAt (s : Step) (nodes : List ℤ) (probabilities : List Float) (j : ℕ) : Type 0 where
   pub transition : Transition
-  pub made : transition_of s (get_or nodes (2 * j) (pos 0)) ≡ given transition
+  pub made : transition_of s (get_or nodes (2 * j) (pos 0)) ≡ Ok transition
   pub middle : get_or nodes (2 * j + 1) (pos 0) ≡ transition.middle
   pub down : get_or probabilities (3 * j) nan ≡ transition.probability_down
   pub mid : get_or probabilities (3 * j + 1) nan ≡ transition.probability_middle
@@ -69,8 +69,8 @@ module _ {s : Step} {nodes : List ℤ} {probabilities : List Float} {j : ℕ} (a
       → get_or probabilities (3 * j + 2) nan ≡ t.probability_up → stored_at j nodes probabilities ≡ t
   stored_is t m p e d o u = rw (e, d, o, u, p.down, p.middle, p.up)
 
-  pub known_is : {n : ℤ} → get_or nodes (2 * j) (pos 0) ≡ n → given (stored_at j nodes probabilities) ≡ transition_of s n
-  known_is e = ap given (stored_is a.transition _ from_node.spread a.middle a.down a.mid a.up) ∙ sym a.made ∙ ap (transition_of s) e
+  pub known_is : {n : ℤ} → get_or nodes (2 * j) (pos 0) ≡ n → Ok (stored_at j nodes probabilities) ≡ transition_of s n
+  known_is e = ap Ok (stored_is a.transition _ from_node.spread a.middle a.down a.mid a.up) ∙ sym a.made ∙ ap (transition_of s) e
 
 -- It stays so while only what is behind changes.
 pub known_kept : {s : Step} {c b : ℕ} {before after : List ℤ} {beforeP afterP : List Float} → c ≤ b → length after ≡ length before → length afterP ≡ length beforeP
@@ -127,12 +127,12 @@ known_more {s} {n} {m} {d} {p} {u} {nodes} {probabilities} {j} a =
       up = ap (λ (z : ℕ). get_or (d ∷ p ∷ u ∷ probabilities) z nan) i ∙ a.up;
     }
 
-known_cons : {s : Step} {n : ℤ} {nodes : List ℤ} {probabilities : List Float} (c : ℕ) (t : Transition) → transition_of s n ≡ given t → ((i : ℕ) → i < c → KnownAt s nodes probabilities i) → (j : ℕ) → j < suc c
+known_cons : {s : Step} {n : ℤ} {nodes : List ℤ} {probabilities : List Float} (c : ℕ) (t : Transition) → transition_of s n ≡ Ok t → ((i : ℕ) → i < c → KnownAt s nodes probabilities i) → (j : ℕ) → j < suc c
     → KnownAt s (n ∷ t.middle ∷ nodes) (t.probability_down ∷ t.probability_middle ∷ t.probability_up ∷ probabilities) j
 known_cons c t m more zero h = record { transition = t; made = m; middle = refl; down = refl; mid = refl; up = refl }
 known_cons c t m more (suc j) h = known_more (more j (omega arith))
 
-transitions_first : (s : Step) (n : ℤ) (ns : List ℤ) → transitions_of s (n ∷ ns) ≡ follow (transition_of s n) λ t. follow (transitions_of s ns) λ ts. given (t ∷ ts)
+transitions_first : (s : Step) (n : ℤ) (ns : List ℤ) → transitions_of s (n ∷ ns) ≡ follow (transition_of s n) λ t. follow (transitions_of s ns) λ ts. Ok (t ∷ ts)
 unfolding transitions_of
 transitions_first s n ns = refl
 
@@ -140,62 +140,62 @@ transitions_first s n ns = refl
 record Parted (s : Step) (n : ℤ) (ns : List ℤ) (ts : List Transition) : Type 0 where
   first : Transition
   others : List Transition
-  is : transition_of s n ≡ given first
-  are : transitions_of s ns ≡ given others
+  is : transition_of s n ≡ Ok first
+  are : transitions_of s ns ≡ Ok others
   all : first ∷ others ≡ ts
 
-parted : (s : Step) (n : ℤ) (ns : List ℤ) (ts : List Transition) → transitions_of s (n ∷ ns) ≡ given ts → Parted s n ns ts
+parted : (s : Step) (n : ℤ) (ns : List ℤ) (ts : List Transition) → transitions_of s (n ∷ ns) ≡ Ok ts → Parted s n ns ts
 parted s n ns ts e =
-    let k : Transition → Outcome (List Transition) = λ t. follow (transitions_of s ns) λ us. given (t ∷ us) in
+    let k : Transition → Outcome (List Transition) = λ t. follow (transitions_of s ns) λ us. Ok (t ∷ us) in
     let p = of_given (transition_of s n) k (sym (transitions_first s n ns) ∙ e) in
-    let q = of_given (transitions_of s ns) (λ us. given (p.0 ∷ us)) p.2 in
+    let q = of_given (transitions_of s ns) (λ us. Ok (p.0 ∷ us)) p.2 in
     record { first = p.0; others = q.0; is = p.1; are = q.1; all = same_given q.2 }
 
-known_list : (s : Step) (ns : List ℤ) (ts : List Transition) (rest : List ℤ) (restP : List Float) → transitions_of s ns ≡ given ts → (j : ℕ) → j < length ns → KnownAt s (pairs_of ns ts ++ rest) (threes_of ts ++ restP) j
+known_list : (s : Step) (ns : List ℤ) (ts : List Transition) (rest : List ℤ) (restP : List Float) → transitions_of s ns ≡ Ok ts → (j : ℕ) → j < length ns → KnownAt s (pairs_of ns ts ++ rest) (threes_of ts ++ restP) j
 unfolding pairs_of threes_of
 known_list s [] ts rest restP e j h = absurd (omega arith)
 known_list s (n ∷ ns) ts rest restP e j h =
     let p = parted s n ns ts e in
     rw (← p.all) (known_cons (length ns) p.first p.is (λ i l. known_list s ns p.others rest restP p.are i l) j h)
 
-known_in : {after : List ℤ} {afterP : List Float} (s : Step) (ns : List ℤ) (ts : List Transition) (rest : List ℤ) (restP : List Float) → after ≡ pairs_of ns ts ++ rest → afterP ≡ threes_of ts ++ restP → transitions_of s ns ≡ given ts
+known_in : {after : List ℤ} {afterP : List Float} (s : Step) (ns : List ℤ) (ts : List Transition) (rest : List ℤ) (restP : List Float) → after ≡ pairs_of ns ts ++ rest → afterP ≡ threes_of ts ++ restP → transitions_of s ns ≡ Ok ts
     → (j : ℕ) → j < length ns → KnownAt s after afterP j
 known_in s ns ts rest restP a b e j h = rw (a, b) (known_list s ns ts rest restP e j h)
 
-cond-given : {A : Type 0} (b : Bool) (x y : A) (n p : ℕ) → cond b (given x) (refuse n p) ≡ given y → x ≡ y
-cond-given true x y n p e = same_given e
-cond-given false x y n p e = absurd (given_or_refused e refl)
+cond-given : {A : Type 0} (b : Bool) (x y : A) (why : Reason) (p : ℕ) → cond b (Ok x) (refusal why p) ≡ Ok y → x ≡ y
+cond-given true x y why p e = same_given e
+cond-given false x y why p e = absurd (given_or_refused e refl)
 
 -- A step's transitions, where a layer grew.
 record Grown (decay spacing v : Float) (numbers : List ℤ) (k : ℕ) (ts : List Transition) : Type 0 where
   step : Step
-  is : step_of spacing decay v k ≡ given step
-  made : transitions_of step numbers ≡ given ts
+  is : step_of spacing decay v k ≡ Ok step
+  made : transitions_of step numbers ≡ Ok ts
 
-grown_by : (room : Room) (decay spacing v : Float) (numbers : List ℤ) (k : ℕ) (g : Grew) → grown_next room decay spacing numbers k v ≡ given g → Grown decay spacing v numbers k g.transitions
+grown_by : (room : Room) (decay spacing v : Float) (numbers : List ℤ) (k : ℕ) (g : Grew) → grown_next room decay spacing numbers k v ≡ Ok g → Grown decay spacing v numbers k g.transitions
 unfolding grown_next
 grown_by room decay spacing v numbers k g e =
     let p = of_given (step_of spacing decay v k) _ e in
     let q = of_given (transitions_of p.0 numbers) _ p.2 in
     let ts = q.0 in
-    let w = cond-given (fits room (length numbers + length (destinations ts)) (length (destinations ts))) _ g 21 (suc k) q.2 in
-    record { step = p.0; is = p.1; made = q.1 ∙ ap (λ (z : Grew). given z.transitions) w }
+    let w = cond-given (fits room (length numbers + length (destinations ts)) (length (destinations ts))) _ g reason.NoRoom (suc k) q.2 in
+    record { step = p.0; is = p.1; made = q.1 ∙ ap (λ (z : Grew). Ok z.transitions) w }
 
 -- ---- the layer before
 
 -- The layer of c nodes in front was made with this spacing and variance.
 pub record Before (decay spacing variance : Float) (c : ℕ) (nodes : List ℤ) (probabilities : List Float) : Type 0 where
-  pub known : (k : ℕ) (s : Step) → step_of spacing decay variance k ≡ given s → Known s c nodes probabilities
+  pub known : (k : ℕ) (s : Step) → step_of spacing decay variance k ≡ Ok s → Known s c nodes probabilities
 
 pub before-none : (decay spacing variance : Float) (nodes : List ℤ) (probabilities : List Float) → Before decay spacing variance 0 nodes probabilities
 before-none decay spacing variance nodes probabilities = record { known = λ k s e. known-none s nodes probabilities }
 
 module _ (one two c step : ℕ) (decay spacing v : Float) (before after : List ℤ) (beforeP afterP : List Float) (f : Front c spacing decay before beforeP) (new : Float) (n : ℕ)
-    (l : GrownLayer (grown_next (room_left before beforeP one two) decay spacing (numbers_of c before) step v) c (next.Laid new n) before after beforeP afterP) where
+    (l : GrownLayer (grown_next (room_left before beforeP one two) decay spacing (numbers_of c before) step v) c (Ok (record { spacing = new; count = n })) before after beforeP afterP) where
   pub before-grown : Before decay spacing v c after afterP
   before-grown = record { known = known }
     where
-      known : (k : ℕ) (s : Step) → step_of spacing decay v k ≡ given s → Known s c after afterP
+      known : (k : ℕ) (s : Step) → step_of spacing decay v k ≡ Ok s → Known s c after afterP
       known k s e =
           let g = grows one two c step decay spacing v before after beforeP afterP f new n l in
           let w = by one two c step decay spacing v before after beforeP afterP f new n l in
@@ -227,7 +227,7 @@ pub data KnownCount (c : ℕ) (was spacing was-variance variance : Float) : ℕ 
   all_known : spacing ≡ was → variance ≡ was-variance → KnownCount c was spacing was-variance variance c
 
 pub known_of : {c n : ℕ} {decay was spacing was-variance variance : Float} {s : Step} {nodes : List ℤ} {probabilities : List Float} → KnownCount c was spacing was-variance variance n
-    → Before decay was was-variance c nodes probabilities → (k : ℕ) → step_of spacing decay variance k ≡ given s → Known s n nodes probabilities
+    → Before decay was was-variance c nodes probabilities → (k : ℕ) → step_of spacing decay variance k ≡ Ok s → Known s n nodes probabilities
 known_of {s = s} {nodes = nodes} {probabilities = probabilities} none-known b k e = known-none s nodes probabilities
 known_of {s = s} (all_known p q) b k e = b.known k s (rw (p, q) at e)
 

@@ -1,16 +1,13 @@
 -- A step's place counts only where something is refused: what is given at one place is given at every other. Assumes nothing.
-use Rattle.std.specs.Prelude.{ℕ, ◌≡◌, refl, Bool, true, false, cond, ◌||◌, ℤ, Float}
+use Rattle.std.specs.Prelude.{ℕ, ◌≡◌, refl, Bool, true, false, cond, ◌||◌, ℤ, Float, Ok, Err}
 use Rattle.std.proofs.Common.{ap, ◌∙◌}
 use Rattle.std.specs.Float.Ieee.{binary64, add, sub, mul, div, le}
 use Rattle.floats.specs.declared.Refusal.{Refusal}
-use Rattle.floats.specs.declared.Answer.{Answer}
-use Rattle.floats.specs.declared.Answer.TheVariants.{Value, Refused}
-use Rattle.floats.specs.Answers.{plus_zero, two, on_answer, not_finite}
+use Rattle.floats.specs.Answers.{Answer, plus_zero, two, on_outcome, not_finite, Outcome, follow}
 use Rattle.floats.specs.Extremes.{max_of}
 use Rattle.floats.specs.Whole.{round_at, rounded}
 use Rattle.rounded.specs.laws.RootBounds.{sqrt_at-place}
 use Rattle.terms.specs.Numbers.{float, epsilon}
-use Rattle.terms.specs.Outcomes.{Outcome, given, refused, on_outcome, follow, valued}
 use Rattle.terms.specs.laws.Outcomes.{given_or_refused, value_or_refused, same_given, follow-given, valued-value}
 use Rattle.lattice.specs.declared.Middle.{Middle}
 use Rattle.lattice.specs.declared.Transition.{Transition}
@@ -24,29 +21,29 @@ at_place s k = record { spacing = s.spacing; decay = s.decay; new_spacing = s.ne
 
 -- Where o is given, so is p, by f.
 abbrev pub GivenBy : {A : Type 0} → (A → A) → Outcome A → Outcome A → Type 0
-GivenBy {A} f o p = (x : A) → o ≡ given x → p ≡ given (f x)
+GivenBy {A} f o p = (x : A) → o ≡ Ok x → p ≡ Ok (f x)
 
 abbrev ValueToo : Answer → Answer → Type 0
-ValueToo a b = (x : Float) → a ≡ Value x → b ≡ Value x
+ValueToo a b = (x : Float) → a ≡ Ok x → b ≡ Ok x
 
-value-cond : (b : Bool) (q r : Refusal) (a c : Answer) → ValueToo a c → ValueToo (cond b (Refused q) a) (cond b (Refused r) c)
+value-cond : (b : Bool) (q r : Refusal) (a c : Answer) → ValueToo a c → ValueToo (cond b (Err q) a) (cond b (Err r) c)
 value-cond true q r a c h x e = absurd (value_or_refused e refl)
 value-cond false q r a c h x e = h x e
 
 module _ {A : Type 0} (f : A → A) where
-  given-cond : (b : Bool) (q r : Refusal) (o p : Outcome A) → GivenBy f o p → GivenBy f (cond b (refused q) o) (cond b (refused r) p)
+  given-cond : (b : Bool) (q r : Refusal) (o p : Outcome A) → GivenBy f o p → GivenBy f (cond b (Err q) o) (cond b (Err r) p)
   given-cond true q r o p h x e = absurd (given_or_refused e refl)
   given-cond false q r o p h x e = h x e
 
-  given-valued : (a b : Answer) (k l : Float → Outcome A) → ValueToo a b → ((x : Float) → GivenBy f (k x) (l x)) → GivenBy f (valued a k) (valued b l)
-  unfolding on_answer
-  given-valued (Value y) b k l h g x e = valued-value b l (h y refl) ∙ g y x e
-  given-valued (Refused r) b k l h g x e = absurd (given_or_refused e refl)
+  given-valued : (a b : Answer) (k l : Float → Outcome A) → ValueToo a b → ((x : Float) → GivenBy f (k x) (l x)) → GivenBy f (follow a k) (follow b l)
+  unfolding on_outcome
+  given-valued (Ok y) b k l h g x e = valued-value b l (h y refl) ∙ g y x e
+  given-valued (Err r) b k l h g x e = absurd (given_or_refused e refl)
 
   given-follow : {B : Type 0} (o p : Outcome B) (k l : B → Outcome A) → GivenBy (λ (y : B). y) o p → ((y : B) → GivenBy f (k y) (l y)) → GivenBy f (follow o k) (follow p l)
   unfolding on_outcome
-  given-follow (given y) p k l h g x e = follow-given p l (h y refl) ∙ g y x e
-  given-follow (refused r) p k l h g x e = absurd (given_or_refused e refl)
+  given-follow (Ok y) p k l h g x e = follow-given p l (h y refl) ∙ g y x e
+  given-follow (Err r) p k l h g x e = absurd (given_or_refused e refl)
 
 -- ---- a step
 
@@ -62,7 +59,7 @@ step-place spacing decay v j k =
     given-cond f (le v epsilon) _ _ _ _
     (given-valued f (spacing_of v j) (spacing_of v k) _ _ (spacing-place v j k) λ new.
     given-cond f (not_finite (mul binary64 v (float 6))) _ _ _ _
-    (given-cond f (not_finite (mul binary64 new two)) _ _ _ _ λ s e. ap (λ (z : Step). given (at_place z k)) (same_given e)))
+    (given-cond f (not_finite (mul binary64 new two)) _ _ _ _ λ s e. ap (λ (z : Step). Ok (at_place z k)) (same_given e)))
 
 -- ---- a transition
 
@@ -121,7 +118,7 @@ module _ (s : Step) (k : ℕ) where
       (given-cond f (not_finite expectation) _ _ _ _
       (given-cond f (not_finite quotient) _ _ _ _
       (given-valued f (round_at quotient s.place) (round_at quotient k) _ _
-      (value-cond (not_finite quotient) _ _ _ _ (value-cond (not_finite (rounded quotient)) _ _ (Value (rounded quotient)) (Value (rounded quotient)) λ y e. e)) λ m.
+      (value-cond (not_finite quotient) _ _ _ _ (value-cond (not_finite (rounded quotient)) _ _ (Ok (rounded quotient)) (Ok (rounded quotient)) λ y e. e)) λ m.
       given-cond f (too_far m) _ _ _ _ λ x e. e)))
 
   pub transition-place : (n : ℤ) → GivenBy (λ (t : Transition). t) (transition_of s n) (transition_of (at_place s k) n)

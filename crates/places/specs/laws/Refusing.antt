@@ -1,10 +1,11 @@
 -- Which of the tree's checks refused, of a bond without puts, by the number of the refusal: the settings, then the counts, the days, the numbers and the orders. Assumes nothing.
-use Rattle.std.specs.Prelude.{ℕ, ◌≤◌, ◌<◌, ◌≡◌, ◌⊎◌, Bool, true, false, List, [], ◌∷◌, ◌++◌, Float}
+use Rattle.floats.specs.Reasons.{reason_number}
+use Rattle.floats.specs.declared.Reason.{Reason}
+use Rattle.std.specs.Prelude.{ℕ, ◌≤◌, ◌<◌, ◌≡◌, ◌⊎◌, Bool, true, false, List, [], ◌∷◌, ◌++◌, Float, Ok, Err}
 use Rattle.std.proofs.Math.Path.{refl}
 use Rattle.std.proofs.Common.{sym, ◌∙◌, inl, inr, arith, rules}
 use Rattle.floats.specs.declared.Refusal.{Refusal}
-use Rattle.terms.specs.declared.Check.{Check}
-use Rattle.terms.specs.declared.Check.TheVariants.{Passed, Refused}
+use Rattle.floats.specs.Answers.{Check}
 use Rattle.terms.specs.Terms.{CallSchedule, Market, no_entries, with_puts}
 use Rattle.terms.specs.Checks.{on_check, first_of, single, lowest, settings, day_count, leg_count, call_count, settlement_day, leg_days, call_days, pillar_days, amount_range, strike_range, call_order, sigma_order, any_paid}
 use Rattle.terms.specs.Entries.{model_counts, tree_fields, model_numbers, late_checks, market_checks}
@@ -15,29 +16,29 @@ use Rattle.terms.specs.laws.Stages.{in_stages}
 
 -- ---- the first of a list that refuses
 
-pub first_refused_lem : (c : Check) (cs : List Check) (r : Refusal) → first_of (c ∷ cs) ≡ Refused r → (c ≡ Refused r) ⊎ ((c ≡ Passed) × (first_of cs ≡ Refused r))
+pub first_refused_lem : (c : Check) (cs : List Check) (r : Refusal) → first_of (c ∷ cs) ≡ Err r → (c ≡ Err r) ⊎ ((c ≡ Ok tt) × (first_of cs ≡ Err r))
 unfolding first_of on_check
-first_refused_lem Passed cs r h = inr (refl, h)
-first_refused_lem (Refused q) cs r h = inl h
+first_refused_lem (Ok tt) cs r h = inr (refl, h)
+first_refused_lem (Err q) cs r h = inl h
 
-pub none-refused : (r : Refusal) → first_of [] ≡ Refused r → ⊥
+pub none-refused : (r : Refusal) → first_of [] ≡ Err r → ⊥
 unfolding first_of
-none-refused r h = passed_not_refused Passed r refl h
+none-refused r h = passed_not_refused (Ok tt) r refl h
 
 -- ---- the numbers of a check's refusals
 
 pub record Numbers (low high : ℕ) (c : Check) : Type 0 where
-  pub between : (r : Refusal) → c ≡ Refused r → (low ≤ r.number) × (r.number ≤ high)
+  pub between : (r : Refusal) → c ≡ Err r → (low ≤ reason_number r.reason) × (reason_number r.reason ≤ high)
 
 module _ {low high : ℕ} where
-  pub single-numbers : (n place : ℕ) (b : Bool) → low ≤ n → n ≤ high → Numbers low high (single n place b)
+  pub single-numbers : (n : Reason) (place : ℕ) (b : Bool) → low ≤ reason_number n → reason_number n ≤ high → Numbers low high (single n place b)
   single-numbers n place true l h =
-      record { between = λ r e. let q : record { number = n; place = place } ≡ r = cc in rw (← q) (l, h) }
-  single-numbers n place false l h = record { between = λ r e. absurd (passed_not_refused Passed r refl e) }
+      record { between = λ r e. let q : record { reason = n; place = place } ≡ r = cc in rw (← q) (l, h) }
+  single-numbers n place false l h = record { between = λ r e. absurd (passed_not_refused (Ok tt) r refl e) }
 
-  pub lowest-numbers : (n : ℕ) (bad : ℕ → Bool) (count i : ℕ) → low ≤ n → n ≤ high → Numbers low high (lowest n bad count i)
+  pub lowest-numbers : (n : Reason) (bad : ℕ → Bool) (count i : ℕ) → low ≤ reason_number n → reason_number n ≤ high → Numbers low high (lowest n bad count i)
   lowest-numbers n bad count i l h =
-      record { between = λ r e. let q = (lowest-refused n bad count i r e).same_number in (omega arith, omega arith) }
+      record { between = λ r e. let q = (lowest-refused n bad count i r e).same_reason in rw q (l, h) }
 
   pub none-numbers : Numbers low high (first_of [])
   none-numbers = record { between = λ r e. absurd (none-refused r e) }
@@ -96,7 +97,7 @@ module _ (m : Market) (calls : CallSchedule) where
     pub call : CallCounted calls
     pub sigma : SigmaCounted m.model.sigma
 
-  counted : first_of count_checks ≡ Passed → Counted
+  counted : first_of count_checks ≡ Ok tt → Counted
   counted h =
       let g = groups_of_first ((leg_count m.bond.leg ∷ call_count calls ∷ []) ∷ model_counts m.model.sigma m.pillars ∷ []) h in
       record {
@@ -107,12 +108,12 @@ module _ (m : Market) (calls : CallSchedule) where
 
   -- Which group a refusal came from; those before it passed.
   pub data Refusing (limit : Float) (r : Refusal) : Type 0 where
-    by_steps : r.number ≡ 1 → first_of steps_check ≡ Refused r → Refusing limit r
-    by_code : r.number ≡ 33 → first_of code_check ≡ Refused r → Refusing limit r
-    by_counts : r.number ≡ 2 → Refusing limit r
-    by_days : r.number ≡ 3 → Counted → first_of day_checks ≡ Refused r → Refusing limit r
-    by_numbers : r.number ≡ 4 → Counted → first_of (number_checks limit) ≡ Refused r → Refusing limit r
-    by_orders : 4 < r.number → first_of code_check ≡ Passed → first_of order_checks ≡ Refused r → Refusing limit r
+    by_steps : reason_number r.reason ≡ 1 → first_of steps_check ≡ Err r → Refusing limit r
+    by_code : reason_number r.reason ≡ 33 → first_of code_check ≡ Err r → Refusing limit r
+    by_counts : reason_number r.reason ≡ 2 → Refusing limit r
+    by_days : reason_number r.reason ≡ 3 → Counted → first_of day_checks ≡ Err r → Refusing limit r
+    by_numbers : reason_number r.reason ≡ 4 → Counted → first_of (number_checks limit) ≡ Err r → Refusing limit r
+    by_orders : 4 < reason_number r.reason → first_of code_check ≡ Ok tt → first_of order_checks ≡ Err r → Refusing limit r
 
   -- A bond without puts: their checks are passed, so that those of the others are left.
   without_puts : (limit : Float) → market_checks limit (with_puts m no_entries) calls ≡ first_of (all (steps_check ∷ code_check ∷ count_checks ∷ day_checks ∷ number_checks limit ∷ order_checks ∷ []))
@@ -122,7 +123,7 @@ module _ (m : Market) (calls : CallSchedule) where
   in_groups : (limit : Float) → market_checks limit (with_puts m no_entries) calls ≡ first_of (first_of steps_check ∷ first_of code_check ∷ first_of count_checks ∷ first_of day_checks ∷ first_of (number_checks limit) ∷ first_of order_checks ∷ [])
   in_groups limit = without_puts limit ∙ in_stages (steps_check ∷ code_check ∷ count_checks ∷ day_checks ∷ number_checks limit ∷ order_checks ∷ [])
 
-  pub refusing : (limit : Float) (r : Refusal) → market_checks limit (with_puts m no_entries) calls ≡ Refused r → Refusing limit r
+  pub refusing : (limit : Float) (r : Refusal) → market_checks limit (with_puts m no_entries) calls ≡ Err r → Refusing limit r
   refusing limit r h =
       elim (first_refused_lem _ _ r (sym (in_groups limit) ∙ h)) [
         | inl e ↦ let b = steps-numbers.between r e in by_steps (omega arith) e
@@ -133,7 +134,7 @@ module _ (m : Market) (calls : CallSchedule) where
             ]
       ]
     where
-      later : first_of code_check ≡ Passed → first_of (first_of count_checks ∷ first_of day_checks ∷ first_of (number_checks limit) ∷ first_of order_checks ∷ []) ≡ Refused r → Refusing limit r
+      later : first_of code_check ≡ Ok tt → first_of (first_of count_checks ∷ first_of day_checks ∷ first_of (number_checks limit) ∷ first_of order_checks ∷ []) ≡ Err r → Refusing limit r
       later k l =
           elim (first_refused_lem _ _ r l) [
             | inl e ↦ let b = count-numbers.between r e in by_counts (omega arith)

@@ -1,5 +1,5 @@
 -- Under codes 0 and 1 two days have two times: a day is far more than rounding moves. Assumes nothing.
-use Rattle.std.specs.Prelude.{ℕ, zero, suc, ◌+◌, ◌-◌, ◌*◌, ◌^◌, ◌≤◌, ◌<◌, ◌≡◌, refl, Bool, true, false, not, cond, ◌&&◌, List, [], ◌∷◌, map, T, eqb, ltb, length, get_or, ℤ, Float}
+use Rattle.std.specs.Prelude.{ℕ, zero, suc, ◌+◌, ◌-◌, ◌*◌, ◌^◌, ◌≤◌, ◌<◌, ◌≡◌, refl, Bool, true, false, not, cond, ◌&&◌, List, [], ◌∷◌, map, T, eqb, ltb, length, get_or, ℤ, Float, Ok}
 use Rattle.std.proofs.Common.{mul_comm, mul_assoc, mul_right_comm, mul-one, mul-pos, mul-le-mul_right, le_of_mul-le-mul_right, le_antisymm, le_of_eq, add-mul, arith, sym, ap, subst, ◌∙◌, inl, inr, eqb→eq, ltb→lt, lit≤, pow_pos}
 use Rattle.std.specs.Float.{nan, inf, fin, binary64}
 use Rattle.std.specs.Float.Ieee.{sub, div, eq, le, lt, of_int, of_bits, up, down}
@@ -14,7 +14,6 @@ use Rattle.floats.specs.laws.Arithmetic.{sub-mono, div_mono_left}
 use Rattle.floats.specs.laws.Order.{between, number_of_le, eq_of_le, lt_of_not_le}
 use Rattle.floats.specs.laws.Fractions.{on_finite, decide}
 use Rattle.terms.specs.declared.Settlement.{Settlement}
-use Rattle.terms.specs.declared.Check.TheVariants.{Passed}
 use Rattle.terms.specs.Numbers.{float}
 use Rattle.terms.specs.Terms.{Leg, Pillars}
 use Rattle.terms.specs.Times.{count_of, time_from, year_fraction}
@@ -25,6 +24,7 @@ use Rattle.terms.specs.laws.Sequence.{single_of_not, indexed_of_none}
 use Rattle.terms.specs.laws.TermChecks.{leg-counted, leg_days-passed, paid-passed, pillar_days-passed, PillarsOrdered, pillar_order-passed}
 use Rattle.chances.specs.laws.Near.{Counts, Makes, makes_same, apart, fine-over, fine-under}
 use Rattle.chances.specs.laws.Operations.{above_both, sub_makes, div_makes}
+use Rattle.floats.specs.declared.Reason.TheVariants as reason
 
 -- ---- a whole number as a float
 
@@ -284,7 +284,7 @@ as_many : (f : ℕ → Float) (xs : List ℕ) → length (map f xs) ≡ length x
 as_many f [] = refl
 as_many f (x ∷ xs) = ap suc (as_many f xs)
 
-module _ (s : Settlement) (c : s.code ≤ 1) (p : Pillars) (maturity : ℕ) (d : pillar_days p ≡ Passed) (o : pillar_order s.day maturity p ≡ Passed) where
+module _ (s : Settlement) (c : s.code ≤ 1) (p : Pillars) (maturity : ℕ) (d : pillar_days p ≡ Ok tt) (o : pillar_order s.day maturity p ≡ Ok tt) where
   ordered : PillarsOrdered p s.day maturity
   ordered = pillar_order-passed p s.day maturity o
 
@@ -297,9 +297,9 @@ module _ (s : Settlement) (c : s.code ≤ 1) (p : Pillars) (maturity : ℕ) (d :
       omega arith
 
   -- Pillars that pass 3 and 8 pass 34.
-  pub pillars_apart_lem : pillars_apart s p ≡ Passed
+  pub pillars_apart_lem : pillars_apart s p ≡ Ok tt
   pillars_apart_lem =
-      indexed_of_none 34 (λ i. ltb 0 i && eq (get_or (pillar_times s p.days) (i - 1) plus_zero) (get_or (pillar_times s p.days) i plus_zero)) (pillar_times s p.days)
+      indexed_of_none reason.SameTime (λ i. ltb 0 i && eq (get_or (pillar_times s p.days) (i - 1) plus_zero) (get_or (pillar_times s p.days) i plus_zero)) (pillar_times s p.days)
       (λ i u. not_of (ltb 0 i && eq (get_or (pillar_times s p.days) (i - 1) plus_zero) (get_or (pillar_times s p.days) i plus_zero)) (λ t. together i (rw (as_many (year_fraction s) p.days) at u) t))
     where
       together : (i : ℕ) → i < length p.days → T (ltb 0 i && eq (get_or (pillar_times s p.days) (i - 1) plus_zero) (get_or (pillar_times s p.days) i plus_zero)) → ⊥
@@ -310,8 +310,8 @@ module _ (s : Settlement) (c : s.code ≤ 1) (p : Pillars) (maturity : ℕ) (d :
           (rw (at_map (year_fraction s) p.days (i - 1) (omega arith), at_map (year_fraction s) p.days i u) at e)
 
 -- Cashflows that pass 2, 3 and 7 pass 35.
-pub matures_apart : (s : Settlement) → s.code ≤ 1 → (l : Leg) → leg_count l ≡ Passed → leg_days l ≡ Passed → any_paid s.day l ≡ Passed → maturity_apart s l ≡ Passed
+pub matures_apart : (s : Settlement) → s.code ≤ 1 → (l : Leg) → leg_count l ≡ Ok tt → leg_days l ≡ Ok tt → any_paid s.day l ≡ Ok tt → maturity_apart s l ≡ Ok tt
 matures_apart s c l n d a =
     let k = leg-counted l n in
-    single_of_not 35 0 (eq (year_fraction s (last_day l.days)) plus_zero)
+    single_of_not reason.NoTime 0 (eq (year_fraction s (last_day l.days)) plus_zero)
     (not_of (eq (year_fraction s (last_day l.days)) plus_zero) (after-settlement s (last_day l.days) c (paid-passed l s.day a) (leg_days-passed l d (length l.days - 1) (omega arith)).day))

@@ -1,14 +1,12 @@
 -- Under codes 0 and 1 no entry is refused with 34 or 35. Assumes nothing.
-use Rattle.std.specs.Prelude.{ℕ, ◌≤◌, ◌≡◌, refl, Float}
+use Rattle.floats.specs.Reasons.{reason_number, refusal_number}
+use Rattle.std.specs.Prelude.{ℕ, ◌≤◌, ◌≡◌, refl, Float, Ok, Err}
 use Rattle.std.proofs.Common.{sym, ◌∙◌}
 use Rattle.std.proofs.Math.Path.{subst}
 use mathlib.Core.List.{List, [], ◌∷◌, ◌++◌}
-use Rattle.floats.specs.declared.Answer.{Answer}
-use Rattle.floats.specs.declared.Answer.TheVariants as answer
+use Rattle.floats.specs.Answers.{Answer, Check}
 use Rattle.floats.specs.Answers as answers
 use Rattle.terms.specs.declared.Settlement.{Settlement}
-use Rattle.terms.specs.declared.Check.{Check}
-use Rattle.terms.specs.declared.Check.TheVariants as check
 use Rattle.terms.specs.Terms.{Leg, CallSchedule, Pillars, Bond, TimeGrid, Market}
 use Rattle.terms.specs.Checks.{first_of, on_check, pillar_days, sigma_order, last_day, any_paid, pillar_order, pillars_apart, maturity_apart, positive_factors}
 use Rattle.terms.specs.Entries.{setting_checks, grid_counts, most_checks, grid_days, grid_numbers, call_orders, grid_checks, model_counts, tree_fields, list_numbers, model_numbers, market_checks, straight_counts, straight_days, straight_numbers, straight_checks, tree_checks, spread_checks}
@@ -41,11 +39,11 @@ actual_refusals = 1 ∷ 2 ∷ 3 ∷ 4 ∷ 5 ∷ 6 ∷ 7 ∷ 8 ∷ 20 ∷ 21 ∷ 
 -- ---- checks without those that pass
 
 -- A check that passes where all before it pass may be left out.
-first_without : (before : List Check) (c : Check) (after : List Check) → (Passes before → c ≡ check.Passed) → first_of (before ++ (c ∷ after)) ≡ first_of (before ++ after)
+first_without : (before : List Check) (c : Check) (after : List Check) → (Passes before → c ≡ Ok tt) → first_of (before ++ (c ∷ after)) ≡ first_of (before ++ after)
 unfolding first_of on_check
 first_without [] c after h = rw (h tt, on_check) refl
-first_without (check.Passed ∷ before) c after h = first_without before c after (λ p. h (refl, p))
-first_without (check.Refused r ∷ before) c after h = refl
+first_without ((Ok tt) ∷ before) c after h = first_without before c after (λ p. h (refl, p))
+first_without (Err r ∷ before) c after h = refl
 
 by_groups : (xss : List (List Check)) → Passes (all xss) → GroupsPass xss
 by_groups xss p = groups_of_first xss (first_of-passes (all xss) p)
@@ -72,12 +70,12 @@ module _ (limit : Float) (m : Market) (calls : CallSchedule) (c : m.settlement.c
       ∷ (pillar_order m.settlement.day (last_day leg.days) m.pillars ∷ [])
       ∷ []
 
-  no_34 : Passes (all before) → pillars_apart m.settlement m.pillars ≡ check.Passed
+  no_34 : Passes (all before) → pillars_apart m.settlement m.pillars ≡ Ok tt
   no_34 p =
       let g = (by_groups before p).1.1.1.1.1 in
       pillars_apart_lem m.settlement c m.pillars (last_day leg.days) g.0.0 g.1.1.1.1.1.1.0.0
 
-  no_35 : Passes (all before) → maturity_apart m.settlement leg ≡ check.Passed
+  no_35 : Passes (all before) → maturity_apart m.settlement leg ≡ Ok tt
   no_35 p =
       let g = by_groups before p in
       let days = g.1.1.1.1.0 in
@@ -111,7 +109,7 @@ module _ (s : Settlement) (bond : Bond) (calls : CallSchedule) (controls : TimeG
       ∷ (any_paid s.day bond.leg ∷ [])
       ∷ []
 
-  grid_no_35 : Passes (all grid-before) → maturity_apart s bond.leg ≡ check.Passed
+  grid_no_35 : Passes (all grid-before) → maturity_apart s bond.leg ≡ Ok tt
   grid_no_35 p =
       let g = by_groups grid-before p in
       matures_apart s c bond.leg g.1.0.0 g.1.1.1.0.1.0 g.1.1.1.1.1.1.0.0
@@ -136,7 +134,7 @@ module _ (s : Settlement) (l : Leg) (spread : Float) (p : Pillars) (c : s.code �
       ∷ (pillar_order s.day (last_day l.days) p ∷ [])
       ∷ []
 
-  straight_no_34 : Passes (all straight-before) → pillars_apart s p ≡ check.Passed
+  straight_no_34 : Passes (all straight-before) → pillars_apart s p ≡ Ok tt
   straight_no_34 q =
       let g = by_groups straight-before q in
       pillars_apart_lem s c p (last_day l.days) g.1.0.1.1.0 g.1.1.1.1.0.0
@@ -171,20 +169,20 @@ neither : (n : ℕ) → Among (0 ∷ actual_refusals) n → Neither34Nor35 n
 neither n h = (λ e. (subst (Among (0 ∷ actual_refusals)) e h).is_one, λ e. (subst (Among (0 ∷ actual_refusals)) e h).is_one)
 
 abbrev GridAmong : GridAnswer → Type 0
-GridAmong g = Among (0 ∷ actual_refusals) g.refusal.number
+GridAmong g = Among (0 ∷ actual_refusals) (refusal_number g.refusal)
 
 grid-answered : (s : Settlement) (bond : Bond) (calls : CallSchedule) (controls : TimeGrid) → s.code ≤ 1 → Holds GridAmong (grid_answer s bond calls controls)
 unfolding grid_answer
 grid-answered s bond calls controls c =
-    on_check_lem (grid_checks s bond calls controls) refused_grid _ (grid_actual s bond calls controls c) (λ r h. record { it = one_more 0 r.number h })
+    on_check_lem (grid_checks s bond calls controls) refused_grid _ (grid_actual s bond calls controls c) (λ r h. record { it = one_more 0 (reason_number r.reason) h })
     (on_outcome_lem (event_grid s bond calls controls) refused_grid accepted_grid (grid_number_lem s bond calls controls)
-    (λ r h. record { it = one_more 0 r.number (wider grid_refusals actual_refusals r.number refl h) }) (λ g. record { it = one_of 0 refl }))
+    (λ r h. record { it = one_more 0 (reason_number r.reason) (wider grid_refusals actual_refusals (reason_number r.reason) refl h) }) (λ g. record { it = one_of 0 refl }))
 
 straight-answered : (s : Settlement) (l : Leg) (spread : Float) (p : Pillars) → s.code ≤ 1 → Holds (AnswerAmong actual_refusals) (straight_value s l spread p)
 unfolding straight_value
 straight-answered s l spread p c =
     let value = discounted_value (curve_at s p) (epoch_of s) l spread in
-    on_check_lem (straight_checks s l spread p) answer.Refused value (straight_actual s l spread p c) (λ r h. record { it = h })
+    on_check_lem (straight_checks s l spread p) Err value (straight_actual s l spread p c) (λ r h. record { it = h })
     (wider-answer walk_refusals actual_refusals refl value (discounted-number (pillar_times s p.days) p.factors (epoch_of s) l spread))
 
 tree-answered : (m : Market) (calls : CallSchedule) (room : Room) → m.settlement.code ≤ 1 → Holds (tree_numbers_lem.TreeAmong actual_refusals) (tree_value m calls room)
@@ -199,8 +197,8 @@ spread-answered asked calls room c =
     on_check_lem (quoted_checks asked calls) _ _ (market_actual target_limit (at_spread asked asked.target) calls c) (λ r h. record { it = h }) (record { it = solved })
 
 or_0 : (a : Answer) → AnswerAmong actual_refusals a → Among (0 ∷ actual_refusals) (answers.number_of a)
-or_0 (answer.Value x) h = one_of 0 refl
-or_0 (answer.Refused r) h = one_more 0 r.number h
+or_0 (Ok x) h = one_of 0 refl
+or_0 (Err r) h = one_more 0 (reason_number r.reason) h
 
 pub never-answered : NeverAnswered
 never-answered =

@@ -1,15 +1,13 @@
 -- The call-list rule, the put-list rule and reordering, of a book over any curves. Assumes nothing.
-use Rattle.std.specs.Prelude.{ℕ, zero, suc, ◌<◌, ◌≤◌, ◌≡◌, refl, Bool, true, false, ◌⊎◌, List, T, ltb, Float}
+use Rattle.floats.specs.Reasons.{reason_number, refusal_number}
+use Rattle.std.specs.Prelude.{ℕ, zero, suc, ◌<◌, ◌≤◌, ◌≡◌, refl, Bool, true, false, ◌⊎◌, List, T, ltb, Float, Ok, Err}
 use Rattle.std.proofs.Common.{arith, eq-or-lt_of_le, le_of_suc-le-suc, sym, subst, ◌∙◌, inl, inr}
 use Rattle.std.proofs.Math.Path.{ap}
 use Rattle.std.proofs.Math.ListN.{get_or}
 use Rattle.std.specs.Float.Ieee.{le}
 use Rattle.floats.specs.declared.Refusal.{Refusal}
-use Rattle.floats.specs.declared.Answer.{Answer}
-use Rattle.floats.specs.Answers.{plus_zero, not_finite}
+use Rattle.floats.specs.Answers.{Answer, plus_zero, not_finite, Check, Outcome}
 use Rattle.floats.specs.laws.Order.{not_le_of_lt}
-use Rattle.terms.specs.declared.Check.{Check}
-use Rattle.terms.specs.declared.Check.TheVariants as check
 use Rattle.terms.specs.Numbers.{million}
 use Rattle.terms.specs.Terms.{CallSchedule, Market, bond_with_puts, with_puts}
 use Rattle.terms.specs.CallLists.{StrikeAbove, strike_of}
@@ -28,8 +26,8 @@ use Rattle.treebasedbondpricer.proofs.laws.CallLists.{any_curve_rule}
 use Rattle.treebasedbondpricer.specs.laws.PutLists.{any_curve_put_rule}
 use Rattle.bookchecks.specs.declared.Holding.{Holding}
 use Rattle.bookchecks.specs.declared.Lengths.{Lengths}
-use Rattle.bookchecks.specs.declared.BookCheck.{BookCheck}
-use Rattle.bookchecks.specs.declared.BookCheck.TheVariants as book
+use Rattle.bookchecks.specs.Checks.{BookCheck}
+use Rattle.bookchecks.specs.Checks as book
 use Rattle.bookchecks.specs.Book.{Fields, Book, size_of, holding_at, holding, market_at, calls_at}
 use Rattle.bookchecks.specs.Checks.{leg_lengths, entry_lengths, cut_checks, bond_check, first_refused, on_book, desk_check, book_checks}
 use Rattle.bookchecks.proofs.laws.Naming.{all_pass, pass_all, first_is, same_first, first_refused_lem}
@@ -44,6 +42,7 @@ use Rattle.bookvalue.proofs.laws.Entered.{tree-passed, by_size, by_desks, by_bon
 use Rattle.promises.specs.Books as page
 use Rattle.promises.specs.Books.{size, AddsUp, over_curves, book_over, Accepted, CallsMade, LowestAbove, NoLowerBook, ThinnedBook, puts_at, PutsMade, Moved, kept, calls_moved, puts_moved, BondsMoved}
 use Rattle.promises.proofs.laws.BookAnswers.{Cause, by_checks, by_value, by_sum, all_passed, cause, answer_of-checks, checked-alone}
+use Rattle.floats.specs.declared.Reason.TheVariants as reason
 
 -- ---- what passes
 
@@ -59,36 +58,36 @@ desks_in b e = go (first_refused (desk_check b.fields) (size b) 0) refl
   where
     go : (d : BookCheck) → first_refused (desk_check b.fields) (size b) 0 ≡ d → d ≡ book.Passed
     go book.Passed d = refl
-    go (book.Refused bond q) d = absurd (let p = sym (by_desks b (size_in b e) d) ∙ e in let z : ◌≡◌ {A = ℕ} 0 1 = cc in omega arith)
+    go (Err w) d = absurd (let p = sym (by_desks b (size_in b e) d) ∙ e in let z : ◌≡◌ {A = ℕ} 0 1 = cc in omega arith)
 
-pub bonds_pass : (b : Book) → book_checks b ≡ book.Passed → (i : ℕ) → i < size b → bond_check b.shared b.lists (holding b i) ≡ check.Passed
+pub bonds_pass : (b : Book) → book_checks b ≡ book.Passed → (i : ℕ) → i < size b → bond_check b.shared b.lists (holding b i) ≡ Ok tt
 bonds_pass b e = all_pass _ (size b) (sym (by_bonds b (size_in b e) (desks_in b e)) ∙ e)
 
-pub trees_pass : (b : Book) → book_checks b ≡ book.Passed → (i : ℕ) → i < size b → tree_checks (market_at b i) (calls_at b i) ≡ check.Passed
+pub trees_pass : (b : Book) → book_checks b ≡ book.Passed → (i : ℕ) → i < size b → tree_checks (market_at b i) (calls_at b i) ≡ Ok tt
 trees_pass b e i h = tree-passed b.shared b.lists (holding b i) (bonds_pass b e i h)
 
-pub sum_27 : (values : List Float) (i : ℕ) {q : Refusal} → sum_check values i ≡ check.Refused q → q.number ≡ 27
+pub sum_27 : (values : List Float) (i : ℕ) {q : Refusal} → sum_check values i ≡ Err q → reason_number q.reason ≡ 27
 sum_27 values i {q} e = go (not_finite (sum_to values (suc i))) e
   where
-    go : (f : Bool) → single 27 0 f ≡ check.Refused q → q.number ≡ 27
-    go true e = let p : record { number = 27; place = 0 } ≡ q = cc in sym (ap (λ (r : Refusal). r.number) p)
+    go : (f : Bool) → single reason.NotFinite 0 f ≡ Err q → reason_number q.reason ≡ 27
+    go true e = let p : record { reason = reason.NotFinite; place = 0 } ≡ q = cc in sym (ap (λ (r : Refusal). reason_number r.reason) p)
     go false e = absurd (let z : ◌≡◌ {A = ℕ} 0 1 = cc in omega arith)
 
-lower-value : {x : Float} {v : TreeValue} → NoLowerOr27 x v → refused_tree v ≡ check.Passed → T (le x (value_of v))
+lower-value : {x : Float} {v : Outcome TreeValue} → NoLowerOr27 x v → refused_tree v ≡ Ok tt → T (le x (value_of v))
 lower-value (rule.accepted l) e = l
 lower-value rule.refused_27 e = absurd (let z : ◌≡◌ {A = ℕ} 0 1 = cc in omega arith)
 
-lower_27 : {x : Float} {v : TreeValue} {q : Refusal} → NoLowerOr27 x v → refused_tree v ≡ check.Refused q → q.number ≡ 27
+lower_27 : {x : Float} {v : Outcome TreeValue} {q : Refusal} → NoLowerOr27 x v → refused_tree v ≡ Err q → reason_number q.reason ≡ 27
 lower_27 (rule.accepted l) e = absurd (let z : ◌≡◌ {A = ℕ} 0 1 = cc in omega arith)
-lower_27 {q = q} (rule.refused_27 {place = k}) e = let p : record { number = 27; place = k } ≡ q = cc in sym (ap (λ (r : Refusal). r.number) p)
+lower_27 {q = q} (rule.refused_27 {place = k}) e = let p : record { reason = reason.NotFinite; place = k } ≡ q = cc in sym (ap (λ (r : Refusal). reason_number r.reason) p)
 
 -- Bonds that are valued alike.
-pub book-alike : (f g : ℕ → TreeValue) (b : Book) → ((i : ℕ) → i < size b → f i ≡ g i) → book_by f b ≡ book_by g b
+pub book-alike : (f g : ℕ → Outcome TreeValue) (b : Book) → ((i : ℕ) → i < size b → f i ≡ g i) → book_by f b ≡ book_by g b
 unfolding book_by
 book-alike f g b h =
     let n = size b in
     let d = desk_of b in
-    ap (on_book (book_checks b) refused_book) (sym (answer_is f d n) ∙ ap (λ (v : Valued). answer_of v d n) (valued-alike f g n h) ∙ answer_is g d n)
+    ap (on_book (book_checks b) refused_book) (sym (answer_is f d n) ∙ ap (λ (v : book.BookOutcome Valued). answer_of v d n) (valued-alike f g n h) ∙ answer_is g d n)
 
 -- ---- call lists
 
@@ -128,10 +127,10 @@ module _ (first second : Book) (made : CallsMade first second) where
     second_check : (i : ℕ) → i < size first → bond_check second.shared second.lists (holding second i) ≡ tree_checks (market_at first i) (calls_at second i)
     second_check i h = checked-alone second i (made.adds_up i h) ∙ ap (λ (m : Market). tree_checks m (calls_at second i)) (made.same_terms i h)
 
-    passes : (i : ℕ) → i < size first → tree_checks (market_at first i) (calls_at first i) ≡ check.Passed
+    passes : (i : ℕ) → i < size first → tree_checks (market_at first i) (calls_at first i) ≡ Ok tt
     passes i h = trees_pass first a.checked i h
 
-    within-passes : (i : ℕ) → i < size first → AllWithin (calls_at second i) → bond_check second.shared second.lists (holding second i) ≡ check.Passed
+    within-passes : (i : ℕ) → i < size first → AllWithin (calls_at second i) → bond_check second.shared second.lists (holding second i) ≡ Ok tt
     within-passes i h w = second_check i h ∙ tree-made-passed (calls_at first i) (calls_at second i) (made.made i h) (market_at first i) (passes i h) w
 
     in_size : outside 1 32 (size second) ≡ false
@@ -142,7 +141,7 @@ module _ (first second : Book) (made : CallsMade first second) where
         pass_all _ (size second) 0
         (λ k l m.
         let e = made.same_size in
-        ap (λ (d : ℕ). single 40 0 (ltb 7 d)) (made.same_desks k (omega arith)) ∙ all_pass _ (size first) (desks_in first a.checked) k (omega arith))
+        ap (λ (d : ℕ). single reason.Desk 0 (ltb 7 d)) (made.same_desks k (omega arith)) ∙ all_pass _ (size first) (desks_in first a.checked) k (omega arith))
 
     within_of : (i : ℕ) → i < size first → (StrikeAbove (calls_at second i) → ⊥) → AllWithin (calls_at second i)
     within_of i h none =
@@ -151,7 +150,7 @@ module _ (first second : Book) (made : CallsMade first second) where
           | inr w ↦ w
         ]
 
-    four : (bond : ℕ) → LowestAbove second bond → ((book_over curves second room).refusal.number ≡ 4) × ((book_over curves second room).bond ≡ bond)
+    four : (bond : ℕ) → LowestAbove second bond → ((refusal_number (book_over curves second room).refusal) ≡ 4) × ((book_over curves second room).bond ≡ bond)
     four bond low =
         let e = made.same_size in
         let h : bond < size first = let l = low.of_book in omega arith in
@@ -160,7 +159,7 @@ module _ (first second : Book) (made : CallsMade first second) where
         let checks : book_checks second ≡ book.Refused bond r
         = by_bonds second in_size desks_pass ∙ first_is _ (size second) 0 bond r (omega arith) (let l = low.of_book in omega arith) (second_check bond h ∙ f) (λ k m l. within-passes k (omega arith) (within_of k (omega arith) (low.lowest k l))) in
         let answer = answer_of-checks (over_curves curves second room) second checks in
-        (ap (λ (z : BookAnswer). z.refusal.number) answer ∙ n, ap (λ (z : BookAnswer). z.bond) answer)
+        (ap (λ (z : BookAnswer). refusal_number z.refusal) answer ∙ ap reason_number n, ap (λ (z : BookAnswer). z.bond) answer)
 
     module _ (within : (i : ℕ) → i < size first → AllWithin (calls_at second i)) where
       all_checked : book_checks second ≡ book.Passed
@@ -240,9 +239,9 @@ module _ (first second : Book) (moved : BondsMoved first second) where
   same_bond : (i : ℕ) → i < size first → bond_check second.shared second.lists (holding second i) ≡ bond_check first.shared first.lists (holding first i)
   unfolding bond_check
   same_bond i h =
-      ap (λ (c : Check). on_check c check.Refused (tree_checks (market_at second i) (calls_at second i)))
+      ap (λ (c : Check). on_check c Err (tree_checks (market_at second i) (calls_at second i)))
       (cuts_alike (ap (λ (f : Fields). holding_at f i) moved.same_fields) moved.same_leg moved.same_calls moved.same_puts)
-      ∙ ap (on_check (first_of (cut_checks (holding first i) (leg_lengths first.lists.leg) (entry_lengths first.lists.calls) (entry_lengths first.lists.puts))) check.Refused) (moved-checks (moved.moved i h))
+      ∙ ap (on_check (first_of (cut_checks (holding first i) (leg_lengths first.lists.leg) (entry_lengths first.lists.calls) (entry_lengths first.lists.puts))) Err) (moved-checks (moved.moved i h))
 
   same_desk_checks : first_refused (desk_check second.fields) (size second) 0 ≡ first_refused (desk_check first.fields) (size first) 0
   same_desk_checks = ap (λ (f : Fields). first_refused (desk_check f) (size_of f) 0) moved.same_fields
@@ -251,7 +250,7 @@ module _ (first second : Book) (moved : BondsMoved first second) where
   same_checks = go (outside 1 32 (size first)) refl
     where
       go_desks : outside 1 32 (size first) ≡ false → (d : BookCheck) → first_refused (desk_check first.fields) (size first) 0 ≡ d → book_checks second ≡ book_checks first
-      go_desks e (book.Refused bond q) d = by_desks second (ap (outside 1 32) same_size ∙ e) (same_desk_checks ∙ d) ∙ sym (by_desks first e d)
+      go_desks e (Err w) d = by_desks second (ap (outside 1 32) same_size ∙ e) (same_desk_checks ∙ d) ∙ sym (by_desks first e d)
       go_desks e book.Passed d =
           by_bonds second (ap (outside 1 32) same_size ∙ e) (same_desk_checks ∙ d)
           ∙ ap (λ (n : ℕ). first_refused (λ i. bond_check second.shared second.lists (holding second i)) n 0) same_size

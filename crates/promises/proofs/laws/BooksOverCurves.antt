@@ -1,21 +1,17 @@
 -- Books over any curves: all values or none, and each bond as alone in any slices. Assumes nothing.
-use Rattle.std.specs.Prelude.{ℕ, ◌-◌, ◌≡◌, refl, ◌⊎◌, List, ◌++◌, replicate, Float}
+use Rattle.std.specs.Prelude.{ℕ, ◌-◌, ◌≡◌, refl, ◌⊎◌, List, ◌++◌, replicate, Float, Ok, Err}
 use Rattle.std.proofs.Common.{arith, sym, ap, ◌∙◌, inl, inr}
-use Rattle.floats.specs.declared.Answer.{Answer}
-use Rattle.terms.specs.declared.Check.{Check}
-use Rattle.terms.specs.declared.Check.TheVariants as check
+use Rattle.floats.specs.Answers.{Answer, Check, Outcome, follow, on_outcome}
 use Rattle.terms.specs.Terms.{CallSchedule, Market}
 use Rattle.terms.specs.Checks.{on_check}
 use Rattle.terms.specs.Entries.{tree_checks}
-use Rattle.terms.specs.Outcomes.{Outcome, given, refused, on_outcome, follow}
 use Rattle.bondevents.specs.declared.BondEventGrid.{BondEventGrid}
 use Rattle.bondevents.specs.Grid.{event_grid}
 use Rattle.lattice.specs.Layers.{Room}
 use Rattle.lattice.specs.Lattice.{Lattice}
 use Rattle.treebasedbondpricer.specs.declared.TreeValue.{TreeValue}
-use Rattle.treebasedbondpricer.specs.declared.TreeValue.TheVariants.{Value, Refused}
 use Rattle.treebasedbondpricer.specs.Tree.{lattice_value_over, tree_value_over, number_of, value_of, counted_by}
-use Rattle.bookchecks.specs.declared.BookCheck.TheVariants as book
+use Rattle.bookchecks.specs.Checks as book
 use Rattle.bookchecks.specs.Book.{Book, market_at, calls_at}
 use Rattle.bookchecks.specs.Checks.{first_refused}
 use Rattle.bookchecks.proofs.laws.Naming.{all_pass, pass_all}
@@ -35,7 +31,7 @@ use Rattle.promises.proofs.laws.Books.{value_of_lem}
 
 -- ---- the tree value over any curve, in two rooms
 
-ends-alike : {o p : Outcome Lattice} (k : Lattice → Outcome TreeValue) → Alike o p → SameValueOr21 (on_outcome (follow o k) Refused λ v. v) (on_outcome (follow p k) Refused λ v. v)
+ends-alike : {o p : Outcome Lattice} (k : Lattice → Outcome (Outcome TreeValue)) → Alike o p → SameValueOr21 (on_outcome (follow o k) Err λ v. v) (on_outcome (follow p k) Err λ v. v)
 unfolding on_outcome
 ends-alike k same = same
 ends-alike k first_21 = first_21
@@ -47,15 +43,15 @@ unfolding tree_value_over on_check on_outcome
 any_curve_room curve m calls a b = go (tree_checks m calls) (event_grid m.settlement m.bond calls m.controls)
   where
     go : (c : Check) (o : Outcome BondEventGrid)
-        → SameValueOr21 (on_check c Refused (on_outcome (follow o λ g. lattice_value_over curve m a g) Refused λ v. v)) (on_check c Refused (on_outcome (follow o λ g. lattice_value_over curve m b g) Refused λ v. v))
-    go (check.Refused q) o = same
-    go check.Passed (refused q) = same
-    go check.Passed (given g) =
+        → SameValueOr21 (on_check c Err (on_outcome (follow o λ g. lattice_value_over curve m a g) Err λ v. v)) (on_check c Err (on_outcome (follow o λ g. lattice_value_over curve m b g) Err λ v. v))
+    go (Err q) o = same
+    go (Ok tt) (Err q) = same
+    go (Ok tt) (Ok g) =
         rw (value_from_layers curve m g a, value_from_layers curve m g b)
         (ends-alike (fit_and_walk curve m g) (layers-alike m a b g.maturity_time g.steps))
 
 -- Beside a value: the same one, or 21.
-beside-value : {v w : TreeValue} {x : Float} {n : ℕ} → SameValueOr21 v w → w ≡ Value x n → (v ≡ Value x n) ⊎ (number_of v ≡ 21)
+beside-value : {v w : Outcome TreeValue} {x : Float} {n : ℕ} → SameValueOr21 v w → w ≡ Ok (record { value = x; nodes = n }) → (v ≡ Ok (record { value = x; nodes = n })) ⊎ (number_of v ≡ 21)
 beside-value same e = inl e
 beside-value first_21 e = inr refl
 beside-value second_21 e = absurd (let z : ◌≡◌ {A = ℕ} 0 1 = cc in omega arith)
@@ -63,7 +59,7 @@ beside-value second_21 e = absurd (let z : ◌≡◌ {A = ℕ} 0 1 = cc in omega
 -- ---- all or none
 
 module _ (curves : ℕ → Float → ℕ → Answer) (b : Book) (room : Room) where
-  abbrev value : ℕ → TreeValue
+  abbrev value : ℕ → Outcome TreeValue
   value = over_curves curves b room
 
   valued_pass : Accepted curves b room → first_refused (λ i. refused_tree (value i)) (size b) 0 ≡ book.Passed

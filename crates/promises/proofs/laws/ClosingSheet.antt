@@ -1,11 +1,13 @@
 -- The promises of the closing sheet's lines. Assumes nothing.
-use Rattle.std.specs.Prelude.{ℕ, ◌≤◌, ◌<◌, ◌≡◌, refl, ◌↔◌, ◌⊎◌, Bool, true, false, cond, ◌&&◌, List, [], ◌∷◌, T, eqb, ltb, length, drop, Float}
+use Rattle.floats.specs.declared.Reason.TheVariants as reason
+use Rattle.floats.specs.Reasons.{reason_number, refusal_number}
+use Rattle.std.specs.Prelude.{ℕ, ◌≤◌, ◌<◌, ◌≡◌, refl, ◌↔◌, ◌⊎◌, Bool, true, false, cond, ◌&&◌, List, [], ◌∷◌, T, eqb, ltb, length, drop, Float, Ok, Err}
 use Rattle.std.proofs.Common.{sym, ap, subst, ◌∙◌, inl, inr, arith, lt-ltb, le-ltb, eqb→eq, ltb→lt, length-drop, get_or-take, get_or-drop, length-take-le, ext_get_or}
 use Rattle.std.specs.Float.Ieee.{le}
 use Rattle.std.specs.Float.Ieee.Fits.{and_l, and_r}
 use Rattle.std.specs.Float.Ieee as ieee
 use Rattle.floats.specs.declared.Refusal.{Refusal}
-use Rattle.floats.specs.Answers.{on_answer}
+use Rattle.floats.specs.Answers.{on_outcome, Outcome}
 use Rattle.floats.specs.Whole.{rounded}
 use Rattle.floats.specs.laws.Fractions.{or_r, or_split}
 use Rattle.rounded.specs.laws.RoundToOdd.{ordered}
@@ -13,16 +15,14 @@ use Rattle.elementary.specs.Exponential.{exp_at}
 use Rattle.elementary.specs.Logarithm.{ln_at}
 use Rattle.bondreport.specs.Columns.{put_at}
 use Rattle.bondreport.specs.Numbers.{byte_left, digits_left, width_of, whole_left}
-use Rattle.bondreport.specs.Figures.{on_decimals, point_left, minus_left}
+use Rattle.bondreport.specs.Figures.{point_left, minus_left}
 use Rattle.terms.specs.Terms.{Bond, Market, no_entries}
 use Rattle.terms.specs.Numbers.{float}
 use Rattle.terms.specs.Checks.{lowest, on_check}
-use Rattle.terms.specs.Outcomes.{on_outcome}
 use Rattle.bondevents.specs.Steps.{raw_step, paid_into}
 use Rattle.lattice.specs.Layers.{Room}
 use Rattle.lattice.specs.laws.Proper.{Each, none, more}
 use Rattle.treebasedbondpricer.specs.declared.TreeValue.{TreeValue}
-use Rattle.treebasedbondpricer.specs.declared.TreeValue.TheVariants.{Value, Refused}
 use Rattle.treebasedbondpricer.specs.Tree.{tree_value, room_of, lent_after, number_of}
 use Rattle.treebasedbondpricer.specs.CallLists.{NoLowerOr27, accepted, refused_27}
 use Rattle.treebasedbondpricer.proofs.laws.CallLists.{call_list_rule}
@@ -41,10 +41,10 @@ use Rattle.promises.proofs.laws.NumbersMet.{each_met}
 
 -- ---- a line in range shows a refusal, or 32, or a value
 
-pub data Shows (bond : ℕ) : TreeValue → ClosingLine → Type 0 where
-  a_refusal : {q : Refusal} → Shows bond (Refused q) (refused_sheet bond q)
-  too_wide : {x : Float} {n : ℕ} → ((value_cell x).wide ≡ true) ⊎ (99999999 < n) → Shows bond (Value x n) (refused_sheet bond (at 32 0))
-  a_value : {x : Float} {n : ℕ} → (value_cell x).wide ≡ false → n ≤ 99999999 → Shows bond (Value x n) (shown_sheet bond n (value_cell x).cell)
+pub data Shows (bond : ℕ) : Outcome TreeValue → ClosingLine → Type 0 where
+  a_refusal : {q : Refusal} → Shows bond (Err q) (refused_sheet bond q)
+  too_wide : {x : Float} {n : ℕ} → ((value_cell x).wide ≡ true) ⊎ (99999999 < n) → Shows bond (Ok (record { value = x; nodes = n })) (refused_sheet bond (at reason.TooWide 0))
+  a_value : {x : Float} {n : ℕ} → (value_cell x).wide ≡ false → n ≤ 99999999 → Shows bond (Ok (record { value = x; nodes = n })) (shown_sheet bond n (value_cell x).cell)
 
 decided : (b : Bool) → (b ≡ true) ⊎ (b ≡ false)
 decided true = inl refl
@@ -53,35 +53,35 @@ decided false = inr refl
 both : (n : ℕ) → n ≤ 99999999 → 99999999 < n → ⊥
 both n h l = omega arith
 
-value-shows : (bond : ℕ) (x : Float) (n : ℕ) → Shows bond (Value x n) (value_sheet bond (value_cell x) n)
+value-shows : (bond : ℕ) (x : Float) (n : ℕ) → Shows bond (Ok (record { value = x; nodes = n })) (value_sheet bond (value_cell x) n)
 value-shows bond x n = go (decided (value_cell x).wide) (ordered n 99999999)
   where
     r32 : ClosingLine
-    r32 = refused_sheet bond (at 32 0)
+    r32 = refused_sheet bond (at reason.TooWide 0)
 
     shown : ClosingLine
     shown = shown_sheet bond n (value_cell x).cell
 
-    go : ((value_cell x).wide ≡ true) ⊎ ((value_cell x).wide ≡ false) → (n ≤ 99999999) ⊎ (99999999 < n) → Shows bond (Value x n) (value_sheet bond (value_cell x) n)
-    go (inl w) o = subst (λ (b : Bool). Shows bond (Value x n) (cond b r32 (cond (ltb 99999999 n) r32 shown))) (sym w) (too_wide (inl w))
+    go : ((value_cell x).wide ≡ true) ⊎ ((value_cell x).wide ≡ false) → (n ≤ 99999999) ⊎ (99999999 < n) → Shows bond (Ok (record { value = x; nodes = n })) (value_sheet bond (value_cell x) n)
+    go (inl w) o = subst (λ (b : Bool). Shows bond (Ok (record { value = x; nodes = n })) (cond b r32 (cond (ltb 99999999 n) r32 shown))) (sym w) (too_wide (inl w))
     go (inr w) (inl h) =
-        subst (λ (b : Bool). Shows bond (Value x n) (cond b r32 (cond (ltb 99999999 n) r32 shown))) (sym w)
-        (subst (λ (b : Bool). Shows bond (Value x n) (cond b r32 shown)) (sym (le-ltb 99999999 n h)) (a_value w h))
+        subst (λ (b : Bool). Shows bond (Ok (record { value = x; nodes = n })) (cond b r32 (cond (ltb 99999999 n) r32 shown))) (sym w)
+        (subst (λ (b : Bool). Shows bond (Ok (record { value = x; nodes = n })) (cond b r32 shown)) (sym (le-ltb 99999999 n h)) (a_value w h))
     go (inr w) (inr h) =
-        subst (λ (b : Bool). Shows bond (Value x n) (cond b r32 (cond (ltb 99999999 n) r32 shown))) (sym w)
-        (subst (λ (b : Bool). Shows bond (Value x n) (cond b r32 shown)) (sym (lt-ltb 99999999 n h)) (too_wide (inr h)))
+        subst (λ (b : Bool). Shows bond (Ok (record { value = x; nodes = n })) (cond b r32 (cond (ltb 99999999 n) r32 shown))) (sym w)
+        (subst (λ (b : Bool). Shows bond (Ok (record { value = x; nodes = n })) (cond b r32 shown)) (sym (lt-ltb 99999999 n h)) (too_wide (inr h)))
 
-pub shows : (bond : ℕ) (v : TreeValue) → 1 ≤ bond → bond ≤ 999999 → Shows bond v (sheet_of bond v)
+pub shows : (bond : ℕ) (v : Outcome TreeValue) → 1 ≤ bond → bond ≤ 999999 → Shows bond v (sheet_of bond v)
 unfolding sheet_by answer_sheet
 shows bond v f l =
     subst (λ (b : Bool). Shows bond v (cond b no_sheet (cond (ltb 999999 bond) no_sheet (answer_sheet value_cell bond v)))) (sym (le-ltb bond 1 f))
     (subst (λ (b : Bool). Shows bond v (cond b no_sheet (answer_sheet value_cell bond v))) (sym (le-ltb 999999 bond l)) (go v))
   where
-    go : (v : TreeValue) → Shows bond v (answer_sheet value_cell bond v)
-    go (Value x n) = value-shows bond x n
-    go (Refused q) = a_refusal
+    go : (v : Outcome TreeValue) → Shows bond v (answer_sheet value_cell bond v)
+    go (Ok v) = value-shows bond v.value v.nodes
+    go (Err q) = a_refusal
 
-no_line : (bond : ℕ) (v : TreeValue) → (bond < 1) ⊎ (999999 < bond) → sheet_of bond v ≡ no_sheet
+no_line : (bond : ℕ) (v : Outcome TreeValue) → (bond < 1) ⊎ (999999 < bond) → sheet_of bond v ≡ no_sheet
 unfolding sheet_by
 no_line bond v (inl h) = ap (λ (b : Bool). cond b no_sheet (cond (ltb 999999 bond) no_sheet (answer_sheet value_cell bond v))) (lt-ltb bond 1 h)
 no_line bond v (inr h) = either (ltb bond 1) (ap (λ (b : Bool). cond b no_sheet (answer_sheet value_cell bond v)) (lt-ltb 999999 bond h))
@@ -129,28 +129,28 @@ module _ (bond : ℕ) where
   value_shown_lem x n w h =
       record { refusal = refl; line = shown-columns x n h; near = subst (HalfCent x) (sym (shown-back x n h)) (within_half_a_cent x w) }
 
-  refusal-shown : (q : Refusal) → q.number ≤ 9999 → RefusalShown bond q (refused_sheet bond q)
+  refusal-shown : (q : Refusal) → (reason_number q.reason) ≤ 9999 → RefusalShown bond q (refused_sheet bond q)
   refusal-shown q h = record { refusal = refl; line = refused-columns bond q h }
 
   -- What a line in range shows of an answer whose refusals have at most four digits.
-  line_of : (v : TreeValue) → ((q : Refusal) → v ≡ Refused q → q.number ≤ 9999) → Line bond v (sheet_of bond v)
+  line_of : (v : Outcome TreeValue) → ((q : Refusal) → v ≡ Err q → (reason_number q.reason) ≤ 9999) → Line bond v (sheet_of bond v)
   line_of v refusals =
       record {
         out_of_range = λ o. subst NoLine (sym (no_line bond v o)) (record { refusal = refl; line = refl });
-        refused = λ f l q e. subst (λ (z : TreeValue). RefusalShown bond q (sheet_of bond z)) (sym e) (by_refusal q (sheet_of bond (Refused q)) (shows bond (Refused q) f l) (refusals q e));
-        too_wide = λ f l x n e o. subst (λ (z : TreeValue). RefusalShown bond (at 32 0) (sheet_of bond z)) (sym e) (by_32 x n (sheet_of bond (Value x n)) (shows bond (Value x n) f l) o);
-        shown = λ f l x n e w h. subst (λ (z : TreeValue). ValueShown bond x n (sheet_of bond z)) (sym e) (by_value x n (sheet_of bond (Value x n)) (shows bond (Value x n) f l) w h);
+        refused = λ f l q e. subst (λ (z : Outcome TreeValue). RefusalShown bond q (sheet_of bond z)) (sym e) (by_refusal q (sheet_of bond (Err q)) (shows bond (Err q) f l) (refusals q e));
+        too_wide = λ f l x n e o. subst (λ (z : Outcome TreeValue). RefusalShown bond (at reason.TooWide 0) (sheet_of bond z)) (sym e) (by_32 x n (sheet_of bond (Ok (record { value = x; nodes = n }))) (shows bond (Ok (record { value = x; nodes = n })) f l) o);
+        shown = λ f l x n e w h. subst (λ (z : Outcome TreeValue). ValueShown bond x n (sheet_of bond z)) (sym e) (by_value x n (sheet_of bond (Ok (record { value = x; nodes = n }))) (shows bond (Ok (record { value = x; nodes = n })) f l) w h);
       }
     where
-      by_refusal : (q : Refusal) (r : ClosingLine) → Shows bond (Refused q) r → q.number ≤ 9999 → RefusalShown bond q r
+      by_refusal : (q : Refusal) (r : ClosingLine) → Shows bond (Err q) r → (reason_number q.reason) ≤ 9999 → RefusalShown bond q r
       by_refusal q r a_refusal h = refusal-shown q h
 
-      by_32 : (x : Float) (n : ℕ) (r : ClosingLine) → Shows bond (Value x n) r → ((value_cell x).wide ≡ true) ⊎ (99999999 < n) → RefusalShown bond (at 32 0) r
-      by_32 x n r (too_wide p) o = refusal-shown (at 32 0) (omega arith)
+      by_32 : (x : Float) (n : ℕ) (r : ClosingLine) → Shows bond (Ok (record { value = x; nodes = n })) r → ((value_cell x).wide ≡ true) ⊎ (99999999 < n) → RefusalShown bond (at reason.TooWide 0) r
+      by_32 x n r (too_wide p) o = refusal-shown (at reason.TooWide 0) (omega arith)
       by_32 x n r (a_value w h) (inl v) = absurd (subst T (sym v ∙ w) tt)
       by_32 x n r (a_value w h) (inr l) = absurd (both n h l)
 
-      by_value : (x : Float) (n : ℕ) (r : ClosingLine) → Shows bond (Value x n) r → (value_cell x).wide ≡ false → n ≤ 99999999 → ValueShown bond x n r
+      by_value : (x : Float) (n : ℕ) (r : ClosingLine) → Shows bond (Ok (record { value = x; nodes = n })) r → (value_cell x).wide ≡ false → n ≤ 99999999 → ValueShown bond x n r
       by_value x n r (too_wide (inl v)) w h = absurd (subst T (sym v ∙ w) tt)
       by_value x n r (too_wide (inr l)) w h = absurd (both n h l)
       by_value x n r (a_value v k) w h = value_shown_lem x n w h
@@ -158,14 +158,14 @@ module _ (bond : ℕ) where
 pub every-line : EveryLine
 every-line bond m calls r before after f = (
   subst (Line bond (tree_value m calls (room_of before))) (sym f.sheet)
-      (line_of bond (tree_value m calls (room_of before)) λ q e. few q.number (tree_numbers_lem m calls (room_of before) q e)),
+      (line_of bond (tree_value m calls (room_of before)) λ q e. few (reason_number q.reason) (tree_numbers_lem m calls (room_of before) q e)),
   f.slices,
 )
 
 -- ---- 01's last example with a value, as bond 1
 
 pub last_example : LastExample
-unfolding put_at byte_left digits_left width_of whole_left on_decimals point_left minus_left printed_of answer_sheet sheet_by tree_value lent_after rounded exp_at ln_at on_answer on_outcome on_check lowest raw_step paid_into ieee.of_bits ieee.add ieee.sub ieee.mul ieee.div ieee.neg ieee.lt ieee.le ieee.of_int ieee.to_unsigned
+unfolding put_at byte_left digits_left width_of whole_left point_left minus_left printed_of answer_sheet sheet_by tree_value lent_after rounded exp_at ln_at on_outcome on_check lowest raw_step paid_into ieee.of_bits ieee.add ieee.sub ieee.mul ieee.div ieee.neg ieee.lt ieee.le ieee.of_int ieee.to_unsigned
 last_example = record { sheet = refl; slices = refl }
 
 -- ---- which numbers a line ends in
@@ -180,18 +180,18 @@ of_tree n h = among_more 0 n sheet_refusals (among_more 31 n (32 ∷ tree_refusa
 pub line-numbers : LineNumbers
 line-numbers bond m calls room = go (ordered 1 bond) (ordered bond 999999)
   where
-    v : TreeValue
+    v : Outcome TreeValue
     v = tree_value m calls room
 
-    none : (bond < 1) ⊎ (999999 < bond) → Among (0 ∷ sheet_refusals) (sheet_of bond v).refusal.number
-    none o = subst (λ (s : ClosingLine). Among (0 ∷ sheet_refusals) s.refusal.number) (sym (no_line bond v o)) (record { is_one = tt })
+    none : (bond < 1) ⊎ (999999 < bond) → Among (0 ∷ sheet_refusals) (refusal_number (sheet_of bond v).refusal)
+    none o = subst (λ (s : ClosingLine). Among (0 ∷ sheet_refusals) (refusal_number s.refusal)) (sym (no_line bond v o)) (record { is_one = tt })
 
-    by : (w : TreeValue) (r : ClosingLine) → Shows bond w r → ((q : Refusal) → w ≡ Refused q → Among tree_refusals q.number) → Among (0 ∷ sheet_refusals) r.refusal.number
-    by (Refused q) r a_refusal p = of_tree q.number (p q refl)
-    by (Value x n) r (too_wide o) p = record { is_one = tt }
-    by (Value x n) r (a_value w h) p = record { is_one = tt }
+    by : (w : Outcome TreeValue) (r : ClosingLine) → Shows bond w r → ((q : Refusal) → w ≡ Err q → Among tree_refusals (reason_number q.reason)) → Among (0 ∷ sheet_refusals) (refusal_number r.refusal)
+    by (Err q) r a_refusal p = of_tree (reason_number q.reason) (p q refl)
+    by (Ok x) r (too_wide o) p = record { is_one = tt }
+    by (Ok x) r (a_value w h) p = record { is_one = tt }
 
-    go : (1 ≤ bond) ⊎ (bond < 1) → (bond ≤ 999999) ⊎ (999999 < bond) → Among (0 ∷ sheet_refusals) (sheet_of bond v).refusal.number
+    go : (1 ≤ bond) ⊎ (bond < 1) → (bond ≤ 999999) ⊎ (999999 < bond) → Among (0 ∷ sheet_refusals) (refusal_number (sheet_of bond v).refusal)
     go (inl f) (inl l) = by v (sheet_of bond v) (shows bond v f l) (tree_numbers_lem m calls room)
     go (inr f) o = none (inl f)
     go (inl f) (inr l) = none (inr l)
@@ -208,7 +208,7 @@ unfolding sheet_by
 met_31 = record { bond = 0; market = market99; calls = no_calls; room = room_of lent; ends_in = refl }
 
 met_32 : MetOnSheet 32
-unfolding on_decimals printed_of answer_sheet sheet_by tree_value rounded exp_at ln_at on_answer on_outcome on_check lowest raw_step paid_into ieee.of_bits ieee.add ieee.sub ieee.mul ieee.div ieee.neg ieee.lt ieee.le ieee.of_int ieee.to_unsigned
+unfolding printed_of answer_sheet sheet_by tree_value rounded exp_at ln_at on_outcome on_check lowest raw_step paid_into ieee.of_bits ieee.add ieee.sub ieee.mul ieee.div ieee.neg ieee.lt ieee.le ieee.of_int ieee.to_unsigned
 met_32 = record { bond = 1; market = wide_market; calls = no_calls; room = room_of lent; ends_in = refl }
 
 -- A number that the tree value is refused with is bond 1's.
@@ -217,7 +217,7 @@ unfolding sheet_by answer_sheet
 met_by_tree none = none
 met_by_tree (more p ps) =
     more
-    (record { bond = 1; market = p.market; calls = p.calls; room = p.room; ends_in = ap (λ (w : TreeValue). (sheet_of 1 w).refusal.number) p.refused })
+    (record { bond = 1; market = p.market; calls = p.calls; room = p.room; ends_in = ap (λ (w : Outcome TreeValue). refusal_number (sheet_of 1 w).refusal) p.refused ∙ p.numbered })
     (met_by_tree ps)
 
 pub each_met_on_sheet : EachMetOnSheet
@@ -232,15 +232,15 @@ record ShownAs (bond : ℕ) (x : Float) (n : ℕ) (line : List ℕ) : Type 0 whe
   pub is : line ≡ (shown_sheet bond n (value_cell x).cell).line
 
 -- A line with number 0 or 32 is that of a value, and with 0 shows it.
-record Valued (bond : ℕ) (v : TreeValue) (r : ClosingLine) : Type 0 where
+record Valued (bond : ℕ) (v : Outcome TreeValue) (r : ClosingLine) : Type 0 where
   pub first_bond : 1 ≤ bond
   pub last_bond : bond ≤ 999999
   pub value : Float
   pub count : ℕ
-  pub is : v ≡ Value value count
-  pub shown : r.refusal.number ≡ 0 → ShownAs bond value count r.line
+  pub is : v ≡ Ok (record { value = value; nodes = count })
+  pub shown : (refusal_number r.refusal) ≡ 0 → ShownAs bond value count r.line
 
-valued : (bond : ℕ) (v : TreeValue) → ((q : Refusal) → v ≡ Refused q → Among tree_refusals q.number) → ((sheet_of bond v).refusal.number ≡ 0) ⊎ ((sheet_of bond v).refusal.number ≡ 32) → Valued bond v (sheet_of bond v)
+valued : (bond : ℕ) (v : Outcome TreeValue) → ((q : Refusal) → v ≡ Err q → Among tree_refusals (reason_number q.reason)) → ((refusal_number (sheet_of bond v).refusal) ≡ 0) ⊎ ((refusal_number (sheet_of bond v).refusal) ≡ 32) → Valued bond v (sheet_of bond v)
 valued bond v refusals z = go (ordered 1 bond) (ordered bond 999999)
   where
     -- 31 is neither, and no refusal of the tree value is.
@@ -256,12 +256,12 @@ valued bond v refusals z = go (ordered 1 bond) (ordered bond 999999)
     not_0 e = omega arith
 
     out : (bond < 1) ⊎ (999999 < bond) → ⊥
-    out o = not_31 (ap (λ (s : ClosingLine). s.refusal.number) (no_line bond v o)) z
+    out o = not_31 (ap (λ (s : ClosingLine). refusal_number s.refusal) (no_line bond v o)) z
 
-    by : (w : TreeValue) (r : ClosingLine) → 1 ≤ bond → bond ≤ 999999 → Shows bond w r → ((q : Refusal) → w ≡ Refused q → Among tree_refusals q.number) → (r.refusal.number ≡ 0) ⊎ (r.refusal.number ≡ 32) → Valued bond w r
-    by (Refused q) r f l a_refusal p e = absurd (not_refused (p q refl) e)
-    by (Value x n) r f l (too_wide o) p e = record { first_bond = f; last_bond = l; value = x; count = n; is = refl; shown = λ z. absurd (not_0 z) }
-    by (Value x n) r f l (a_value w h) p e = record { first_bond = f; last_bond = l; value = x; count = n; is = refl; shown = λ _. record { narrow = w; few-nodes = h; is = refl } }
+    by : (w : Outcome TreeValue) (r : ClosingLine) → 1 ≤ bond → bond ≤ 999999 → Shows bond w r → ((q : Refusal) → w ≡ Err q → Among tree_refusals (reason_number q.reason)) → ((refusal_number r.refusal) ≡ 0) ⊎ ((refusal_number r.refusal) ≡ 32) → Valued bond w r
+    by (Err q) r f l a_refusal p e = absurd (not_refused (p q refl) e)
+    by (Ok v) r f l (too_wide o) p e = record { first_bond = f; last_bond = l; value = v.value; count = v.nodes; is = refl; shown = λ z. absurd (not_0 z) }
+    by (Ok v) r f l (a_value w h) p e = record { first_bond = f; last_bond = l; value = v.value; count = v.nodes; is = refl; shown = λ _. record { narrow = w; few-nodes = h; is = refl } }
 
     go : (1 ≤ bond) ⊎ (bond < 1) → (bond ≤ 999999) ⊎ (999999 < bond) → Valued bond v (sheet_of bond v)
     go (inl f) (inl l) = by v (sheet_of bond v) f l (shows bond v f l) refusals z
@@ -270,22 +270,22 @@ valued bond v refusals z = go (ordered 1 bond) (ordered bond 999999)
 
 module _ (bond : ℕ) where
   -- A second value no lower than a first, whether or not that is shown, or 27.
-  thinned : (x : Float) (n : ℕ) (first : ClosingLine) → (first.refusal.number ≡ 0 → ShownAs bond x n first.line) → (w : TreeValue) (r : ClosingLine) → Shows bond w r → NoLowerOr27 x w
-      → ((r.refusal.number ≡ 0) × (first.refusal.number ≡ 0 → NoLower (value_shown first.line) (value_shown r.line))) ⊎ ((r.refusal.number ≡ 27) ⊎ (r.refusal.number ≡ 32))
-  thinned x n first shown (Refused q) r a_refusal refused_27 = inr (inl refl)
-  thinned x n first shown (Value y k) r (too_wide o) p = inr (inr refl)
-  thinned x n first shown (Value y k) r (a_value w g) (accepted l) = inl (refl, λ z. let s = shown z in rw (s.is, shown-back bond x n s.few-nodes, shown-back bond y k g) (printed-no_lower x y s.narrow w l))
+  thinned : (x : Float) (n : ℕ) (first : ClosingLine) → ((refusal_number first.refusal) ≡ 0 → ShownAs bond x n first.line) → (w : Outcome TreeValue) (r : ClosingLine) → Shows bond w r → NoLowerOr27 x w
+      → (((refusal_number r.refusal) ≡ 0) × ((refusal_number first.refusal) ≡ 0 → NoLower (value_shown first.line) (value_shown r.line))) ⊎ (((refusal_number r.refusal) ≡ 27) ⊎ ((refusal_number r.refusal) ≡ 32))
+  thinned x n first shown (Err q) r a_refusal refused_27 = inr (inl refl)
+  thinned x n first shown (Ok y) r (too_wide o) p = inr (inr refl)
+  thinned x n first shown (Ok v) r (a_value w g) (accepted l) = inl (refl, λ z. let s = shown z in rw (s.is, shown-back bond x n s.few-nodes, shown-back bond v.value v.nodes g) (printed-no_lower x v.value s.narrow w l))
 
   -- A line shows 4 where the tree value is refused with 4, and only there.
-  same_4 : (w : TreeValue) (r : ClosingLine) → Shows bond w r → (r.refusal.number ≡ 4) ↔ (number_of w ≡ 4)
-  same_4 (Refused q) r a_refusal = ((λ e. e), (λ e. e))
-  same_4 (Value y k) r (too_wide o) = ((λ (e : ◌≡◌ {A = ℕ} 32 4). omega arith), (λ (e : ◌≡◌ {A = ℕ} 0 4). omega arith))
-  same_4 (Value y k) r (a_value w g) = ((λ (e : ◌≡◌ {A = ℕ} 0 4). omega arith), (λ (e : ◌≡◌ {A = ℕ} 0 4). omega arith))
+  same_4 : (w : Outcome TreeValue) (r : ClosingLine) → Shows bond w r → ((refusal_number r.refusal) ≡ 4) ↔ (number_of w ≡ 4)
+  same_4 (Err q) r a_refusal = ((λ e. e), (λ e. e))
+  same_4 (Ok y) r (too_wide o) = ((λ (e : ◌≡◌ {A = ℕ} 32 4). omega arith), (λ (e : ◌≡◌ {A = ℕ} 0 4). omega arith))
+  same_4 (Ok y) r (a_value w g) = ((λ (e : ◌≡◌ {A = ℕ} 0 4). omega arith), (λ (e : ◌≡◌ {A = ℕ} 0 4). omega arith))
 
-  in_columns : (w : TreeValue) (r : ClosingLine) → Shows bond w r → ((q : Refusal) → w ≡ Refused q → q.number ≤ 9999) → (r.refusal.number ≡ 0 → ⊥) → RefusedColumns bond r.refusal.number r.line
-  in_columns (Refused q) r a_refusal p z = refused-columns bond q (p q refl)
-  in_columns (Value y k) r (too_wide o) p z = refused-columns bond (at 32 0) (omega arith)
-  in_columns (Value y k) r (a_value w g) p z = absurd (z refl)
+  in_columns : (w : Outcome TreeValue) (r : ClosingLine) → Shows bond w r → ((q : Refusal) → w ≡ Err q → (reason_number q.reason) ≤ 9999) → ((refusal_number r.refusal) ≡ 0 → ⊥) → RefusedColumns bond (refusal_number r.refusal) r.line
+  in_columns (Err q) r a_refusal p z = refused-columns bond q (p q refl)
+  in_columns (Ok y) r (too_wide o) p z = refused-columns bond (at reason.TooWide 0) (omega arith)
+  in_columns (Ok y) r (a_value w g) p z = absurd (z refl)
 
 pub line_call_list_rule : LineCallListRule
 line_call_list_rule bond m first second made a b as_long z =
@@ -294,9 +294,9 @@ line_call_list_rule bond m first second made a b as_long z =
     let room = room_of a.lent in
     let v = tree_value m first room in
     let w = tree_value m second room in
-    let number : b.number ≡ (sheet_of bond w).refusal.number = q.number_is ∙ ap (λ (r : Room). (sheet_of bond (tree_value m second r)).refusal.number) as_long in
+    let number : b.number ≡ (refusal_number (sheet_of bond w).refusal) = q.number_is ∙ ap (λ (r : Room). (refusal_number (sheet_of bond (tree_value m second r)).refusal)) as_long in
     let line : b.line ≡ (sheet_of bond w).line = q.line_is ∙ ap (λ (r : Room). (sheet_of bond (tree_value m second r)).line) as_long in
-    let first-number : a.number ≡ (sheet_of bond v).refusal.number = p.number_is in
+    let first-number : a.number ≡ (refusal_number (sheet_of bond v).refusal) = p.number_is in
     let first-line : a.line ≡ (sheet_of bond v).line = p.line_is in
     let has = valued bond v (tree_numbers_lem m first room) (subst (λ (k : ℕ). (k ≡ 0) ⊎ (k ≡ 32)) first-number z) in
     let show = shows bond w has.first_bond has.last_bond in
@@ -305,7 +305,7 @@ line_call_list_rule bond m first second made a b as_long z =
     record {
       with_4 = ((λ e. t.with_4.0 (four.0 (sym number ∙ e))), (λ above. number ∙ four.1 (t.with_4.1 above)));
       otherwise = λ none. rw (number, line, first-number, first-line) (thinned bond has.value has.count (sheet_of bond v) has.shown w (sheet_of bond w) show (t.otherwise none));
-      in_columns = λ some. rw (number, line) (in_columns bond w (sheet_of bond w) show (λ s e. few s.number (tree_numbers_lem m second room s e)) (λ e. some (number ∙ e)));
+      in_columns = λ some. rw (number, line) (in_columns bond w (sheet_of bond w) show (λ s e. few (reason_number s.reason) (tree_numbers_lem m second room s e)) (λ e. some (number ∙ e)));
     }
 
 -- ---- halves to even

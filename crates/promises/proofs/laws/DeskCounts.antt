@@ -1,9 +1,8 @@
 -- The counts of eight desks together are the one count. Assumes nothing.
-use Rattle.std.specs.Prelude.{ℕ, zero, suc, ◌+◌, ◌≤◌, ◌<◌, ◌≡◌, refl, Bool, true, false, cond, List, eqb, ltb, get_or}
+use Rattle.std.specs.Prelude.{ℕ, zero, suc, ◌+◌, ◌≤◌, ◌<◌, ◌≡◌, refl, Bool, true, false, cond, List, eqb, ltb, get_or, Ok}
 use Rattle.std.proofs.Common.{arith, ap, ◌∙◌, ltb-false}
-use Rattle.terms.specs.declared.Check.TheVariants as check
 use Rattle.terms.specs.Checks.{single}
-use Rattle.bookchecks.specs.declared.BookCheck.TheVariants as book
+use Rattle.bookchecks.specs.Checks as book
 use Rattle.bookchecks.specs.Book.{Book}
 use Rattle.bookchecks.specs.Checks.{book_checks}
 use Rattle.bookchecks.proofs.laws.Naming.{all_pass}
@@ -11,12 +10,13 @@ use Rattle.bookvalue.specs.Values.{each, desk_to, desk_counts, desk_of}
 use Rattle.promises.specs.OneCount.{total_to}
 use Rattle.promises.specs.Books.{size}
 use Rattle.promises.proofs.laws.BookRules.{desks_in}
+use Rattle.floats.specs.declared.Reason.TheVariants as reason
 
 -- Where no desk is refused, each is 0 to 7.
 pub desk_in : (b : Book) → book_checks b ≡ book.Passed → (i : ℕ) → i < size b → desk_of b i ≤ 7
 desk_in b e i h = ltb-false 7 (desk_of b i) (go (ltb 7 (desk_of b i)) (all_pass _ (size b) (desks_in b e) i h))
   where
-    go : (w : Bool) → single 40 0 w ≡ check.Passed → w ≡ false
+    go : (w : Bool) → single reason.Desk 0 w ≡ Ok tt → w ≡ false
     go true p = absurd (let z : ◌≡◌ {A = ℕ} 0 1 = cc in omega arith)
     go false p = refl
 

@@ -1,7 +1,7 @@
 -- A desk's count and values by its bonds alone. Assumes nothing.
 use Prim.Native.Nat.{ℕ, zero, suc, ◌+◌, ◌<◌}
 use Rattle.std.proofs.Common.{arith, subst, ◌∙◌}
-use Rattle.std.specs.Prelude.{◌≡◌, Bool, eqb}
+use Rattle.std.specs.Prelude.{◌≡◌, Bool, eqb, Ok}
 use Rattle.std.proofs.Math.Path.{refl, sym, ap}
 use Rattle.std.proofs.Math.Bool.{true, false, cond}
 use mathlib.Core.List.{List, [], ◌∷◌, ◌++◌, map}
@@ -9,7 +9,7 @@ use Rattle.std.proofs.Math.ListN.{get_or}
 use Rattle.terms.specs.Terms.{Market}
 use Rattle.lattice.specs.Layers.{Room}
 use Rattle.treebasedbondpricer.specs.declared.TreeValue.{TreeValue}
-use Rattle.treebasedbondpricer.specs.declared.TreeValue.TheVariants.{Value}
+use Rattle.floats.specs.Answers.{Outcome}
 use Rattle.treebasedbondpricer.specs.Tree.{tree_value, value_of, counted_by, room_of}
 use Rattle.bookchecks.specs.Book.{Shared, Book}
 use Rattle.bookvalue.specs.declared.BookAnswer.{BookAnswer}
@@ -34,7 +34,7 @@ market_with s o =
       pillars = s.pillars;
     }
 
-abbrev worth : Shared → Room → BookBond → TreeValue
+abbrev worth : Shared → Room → BookBond → Outcome TreeValue
 worth s room o = tree_value (market_with s o) o.calls room
 
 total : List ℕ → ℕ
@@ -96,7 +96,7 @@ module _ {A : Type 0} (desk : ℕ → ℕ) (d : ℕ) (bond : ℕ → A) where
 -- ---- what a run hands back of a desk
 
 abbrev Has : Shared → Room → BookBond → Type 0
-Has s room o = worth s room o ≡ Value (value_of (worth s room o)) (counted_by (worth s room o))
+Has s room o = worth s room o ≡ Ok (record { value = (value_of (worth s room o)); nodes = (counted_by (worth s room o)) })
 
 module _ {b : Book} (c : BookCall b) (z : c.number ≡ 0) (d : ℕ) where
   values_by : desk_values d c ≡ map (λ (o : BookBond). value_of (worth b.shared (room_of c.lent) o)) (desk_bonds d b)

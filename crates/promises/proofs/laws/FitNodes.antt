@@ -1,14 +1,14 @@
 -- At every step of the fit the row has the layer's nodes. Assumes nothing.
 use Prim.Native.Nat.{ℕ, zero, suc, ◌+◌}
 use Rattle.std.proofs.Common.{arith, sym, ap, subst, ◌∙◌}
-use Rattle.std.specs.Prelude.{◌≡◌, Bool, true, false, cond, ℤ, Float}
+use Rattle.std.specs.Prelude.{◌≡◌, Bool, true, false, cond, ℤ, Float, Ok}
 use Rattle.std.proofs.Math.Path.{refl}
 use mathlib.Core.List.{List, [], ◌∷◌}
 use Rattle.std.proofs.Math.ListN.{length}
 use Rattle.std.specs.Float.{binary64}
 use Rattle.std.specs.Float.Ieee.{add, mul, neg}
 use Rattle.elementary.specs.Exponential.{exp_at}
-use Rattle.terms.specs.Outcomes.{given, follow, finite_then}
+use Rattle.floats.specs.Answers.{when_finite, follow}
 use Rattle.terms.specs.laws.Outcomes.{Gives, gives, nothing, given_of, gives-follow, gives-known, gives-valued, gives-finite, gives-cond}
 use Rattle.lattice.specs.declared.Transition.{Transition}
 use Rattle.lattice.specs.Layers.{below, insert, At, node_float, Room, fits}
@@ -31,10 +31,10 @@ contributed place n x (a ∷ row) = go (below n a.node) (below a.node n) refl re
   where
     go : (b c : Bool) → below n a.node ≡ b → below a.node n ≡ c → Gives (With (insert n (nodes_in row))) (contribute place n x row)
         → Gives (With (cond b (n ∷ a.node ∷ nodes_in row) (cond c (a.node ∷ insert n (nodes_in row)) (a.node ∷ nodes_in row))))
-        (cond b (given (record { node = n; value = x } ∷ a ∷ row))
+        (cond b (Ok (record { node = n; value = x } ∷ a ∷ row))
         (cond c
-        (follow (contribute place n x row) λ row. given (a ∷ row))
-        (finite_then (add binary64 a.value x) place λ v. given (record { node = n; value = v } ∷ row))))
+        (follow (contribute place n x row) λ row. Ok (a ∷ row))
+        (when_finite (add binary64 a.value x) place λ v. Ok (record { node = n; value = v } ∷ row))))
     go true c p q behind = gives refl
     go false true p q behind = gives-follow _ _ behind λ r h. gives (ap (λ (ns : List ℤ). a.node ∷ ns) h)
     go false false p q behind = gives-finite (add binary64 a.value x) _ _ λ _. gives (ap (λ (z : ℤ). z ∷ nodes_in row) (neither n a.node p q))

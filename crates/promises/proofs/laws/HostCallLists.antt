@@ -1,5 +1,6 @@
 -- Demand 3 of what the C functions hand back. Assumes nothing.
-use Rattle.std.specs.Prelude.{ℕ, ◌≡◌, ◌⊎◌, List, map, T, length, replicate, ℤ, pos, Float}
+use Rattle.floats.specs.Reasons.{reason_number, refusal_number, refusal_place}
+use Rattle.std.specs.Prelude.{ℕ, ◌≡◌, ◌⊎◌, List, map, T, length, replicate, ℤ, pos, Float, Ok, Err}
 use Rattle.std.proofs.Math.Path.{refl}
 use Rattle.std.proofs.Common.{sym, ap, subst, ◌∙◌, inl, inr}
 use Rattle.std.specs.Float.Ieee.{le}
@@ -10,9 +11,7 @@ use Rattle.terms.specs.CallLists.{StrikeAbove, strike_of}
 use Rattle.terms.specs.Checks.{on_check}
 use Rattle.terms.specs.Entries.{tree_checks}
 use Rattle.terms.specs.Numbers.{float, million}
-use Rattle.terms.specs.Outcomes.{Outcome, on_outcome}
-use Rattle.terms.specs.declared.Check.{Check}
-use Rattle.terms.specs.declared.Check.TheVariants as check
+use Rattle.floats.specs.Answers.{Outcome, Check, on_outcome}
 use Rattle.terms.specs.laws.MadeLists.{AllWithin, strikes-decided}
 use Rattle.terms.proofs.MadeLists.{tree-made-refused, tree-made-passed}
 use Rattle.bondevents.specs.declared.GridAnswer.{GridAnswer}
@@ -21,12 +20,10 @@ use Rattle.bondevents.specs.declared.Side.TheVariants.{Call, Put}
 use Rattle.bondevents.specs.Parts.{side_mark, side_price}
 use Rattle.lattice.specs.Layers.{Room}
 use Rattle.treebasedbondpricer.specs.declared.TreeValue.{TreeValue}
-use Rattle.treebasedbondpricer.specs.declared.TreeValue.TheVariants.{Value, Refused}
 use Rattle.treebasedbondpricer.specs.Tree.{tree_value_over, tree_value, Lent, lent_after, number_of, place_of, value_of, counted_by, room_of}
 use Rattle.treebasedbondpricer.specs.CallLists.{NoLowerOr27, accepted, refused_27}
 use Rattle.treebasedbondpricer.proofs.laws.CallLists.{call_list_rule}
-use Rattle.sizing.specs.declared.Sizes.{Sizes}
-use Rattle.sizing.specs.declared.Sizes.TheVariants as sizes
+use Rattle.sizing.specs.declared.Lengths.{Lengths}
 use Rattle.sizing.specs.Sizing.{tree_widths, sizes_from, sizes_of, nodes_after, sizes_number, sizes_place, needed}
 use Rattle.brackets.specs.Brackets.{root_number, root_place, root_value, evaluations_of}
 use Rattle.spreads.specs.Spreads.{quoting, spread_from_price}
@@ -47,11 +44,11 @@ use Rattle.promises.proofs.laws.SizingNumbers.{never_4}
 -- ---- the call-list rule
 
 -- A call with number 0 has a value: 0 is no refusal's number.
-pub valued : (m : Market) (calls : CallSchedule) (room : Room) (v : TreeValue) → tree_value m calls room ≡ v → number_of v ≡ 0 → v ≡ Value (value_of v) (counted_by v)
-valued m calls room (Value x n) e z = refl
-valued m calls room (Refused q) e z = absurd (subst (Among tree_refusals) z (tree_numbers_lem m calls room q e)).is_one
+pub valued : (m : Market) (calls : CallSchedule) (room : Room) (v : Outcome TreeValue) → tree_value m calls room ≡ v → number_of v ≡ 0 → v ≡ Ok (record { value = (value_of v); nodes = (counted_by v) })
+valued m calls room (Ok x) e z = refl
+valued m calls room (Err q) e z = absurd (subst (Among tree_refusals) z (tree_numbers_lem m calls room q e)).is_one
 
-no_lower : {x : Float} {v : TreeValue} → NoLowerOr27 x v → ((number_of v ≡ 0) × T (le x (value_of v))) ⊎ (number_of v ≡ 27)
+no_lower : {x : Float} {v : Outcome TreeValue} → NoLowerOr27 x v → ((number_of v ≡ 0) × T (le x (value_of v))) ⊎ (number_of v ≡ 27)
 no_lower (accepted l) = inl (refl, l)
 no_lower refused_27 = inr refl
 
@@ -64,7 +61,7 @@ host_call_list_rule m first second made a b as_long z =
     let w = tree_value m second room in
     let number : b.number ≡ number_of w = q.number_is ∙ ap (λ (r : Room). number_of (tree_value m second r)) as_long in
     let value : b.value ≡ value_of w = q.value_is ∙ ap (λ (r : Room). value_of (tree_value m second r)) as_long in
-    let has : v ≡ Value (value_of v) (counted_by v) = valued m first room v refl (sym p.number_is ∙ z) in
+    let has : v ≡ Ok (record { value = (value_of v); nodes = (counted_by v) }) = valued m first room v refl (sym p.number_is ∙ z) in
     let t = call_list_rule m room first second (value_of v) (counted_by v) made has in
     record {
       with_4 = ((λ four. t.with_4.0 (sym number ∙ four)), (λ above. number ∙ t.with_4.1 above));
@@ -79,8 +76,8 @@ grids-alike a b e =
     let p = a.handed in
     let q = b.handed in
     record {
-      number = q.number_is ∙ ap (λ (g : GridAnswer). g.refusal.number) e ∙ sym p.number_is;
-      place = q.place_is ∙ ap (λ (g : GridAnswer). g.refusal.place) e ∙ sym p.place_is;
+      number = q.number_is ∙ ap (λ (g : GridAnswer). refusal_number g.refusal) e ∙ sym p.number_is;
+      place = q.place_is ∙ ap (λ (g : GridAnswer). refusal_place g.refusal) e ∙ sym p.place_is;
       maturity = q.maturity_is ∙ ap (λ (g : GridAnswer). g.grid.maturity_time) e ∙ sym p.maturity_is;
       steps = q.steps_is ∙ ap (λ (g : GridAnswer). g.grid.steps) e ∙ sym p.steps_is;
       cashflows = q.cashflows_are ∙ ap (λ (g : GridAnswer). g.grid.cashflows) e ∙ sym p.cashflows_are;
@@ -125,8 +122,8 @@ lines-alike {bond} {m} {n} {first} {second} a b as_long same left =
     let q = b.handed.handed in
     let e : sheet_of bond (tree_value n second (room_of b.lent)) ≡ sheet_of bond (tree_value m first (room_of a.lent)) = ap (sheet_of bond) (ap (tree_value n second) as_long ∙ same (room_of a.lent)) in
     record {
-      number = q.number_is ∙ ap (λ (s : ClosingLine). s.refusal.number) e ∙ sym p.number_is;
-      place = q.place_is ∙ ap (λ (s : ClosingLine). s.refusal.place) e ∙ sym p.place_is;
+      number = q.number_is ∙ ap (λ (s : ClosingLine). refusal_number s.refusal) e ∙ sym p.number_is;
+      place = q.place_is ∙ ap (λ (s : ClosingLine). refusal_place s.refusal) e ∙ sym p.place_is;
       line = q.line_is ∙ ap (λ (s : ClosingLine). s.line) e ∙ sym p.line_is;
       slices = λ alike. b.handed.slices ∙ left b.lent ∙ ap (lent_after m first) alike ∙ sym a.handed.slices;
     }
@@ -140,10 +137,10 @@ sizes-alike {m} {n} {first} {second} a b as_long same left =
     record {
       number = q.number_is ∙ ap sizes_number e ∙ sym p.number_is;
       place = q.place_is ∙ ap sizes_place e ∙ sym p.place_is;
-      nodes = q.nodes_is ∙ ap (λ (s : Sizes). (needed s).nodes) e ∙ sym p.nodes_is;
-      probabilities = q.probabilities_is ∙ ap (λ (s : Sizes). (needed s).probabilities) e ∙ sym p.probabilities_is;
-      row = q.row_is ∙ ap (λ (s : Sizes). (needed s).row) e ∙ sym p.row_is;
-      count = q.count_is ∙ ap (λ (s : Sizes). (needed s).count) e ∙ sym p.count_is;
+      nodes = q.nodes_is ∙ ap (λ (s : Outcome Lengths). (needed s).nodes) e ∙ sym p.nodes_is;
+      probabilities = q.probabilities_is ∙ ap (λ (s : Outcome Lengths). (needed s).probabilities) e ∙ sym p.probabilities_is;
+      row = q.row_is ∙ ap (λ (s : Outcome Lengths). (needed s).row) e ∙ sym p.row_is;
+      count = q.count_is ∙ ap (λ (s : Outcome Lengths). (needed s).count) e ∙ sym p.count_is;
       slice = λ alike. b.handed.slice ∙ left b.lent ∙ ap (nodes_after m first) alike ∙ sym a.handed.slice;
     }
 
@@ -153,8 +150,8 @@ pub same_sizes : {m n : Market} {first second : CallSchedule} → tree_checks n 
 unfolding sizes_of nodes_after
 same_sizes {m} {n} {first} checks as_wide a b as_long =
     sizes-alike a b as_long
-    (λ room. ap (λ (c : Check). on_check c sizes.Refused (on_outcome (tree_widths n room) sizes.Refused sizes_from)) checks
-    ∙ ap (λ (o : Outcome (List ℕ)). on_check (tree_checks m first) sizes.Refused (on_outcome o sizes.Refused sizes_from)) (as_wide room))
+    (λ room. ap (λ (c : Check). on_check c Err (on_outcome (tree_widths n room) Err sizes_from)) checks
+    ∙ ap (λ (o : Outcome (List ℕ)). on_check (tree_checks m first) Err (on_outcome o Err sizes_from)) (as_wide room))
     (λ nodes. ap (λ (c : Check). on_check c (λ r. nodes) (replicate (length nodes) (pos 0))) checks)
 
 pub tables-alike : {m n : Market} {spreads shifts : List Float} {first second : CallSchedule} (a : TableCall m spreads shifts first) (b : TableCall n spreads shifts second) → room_of b.lent ≡ room_of a.lent
@@ -164,8 +161,8 @@ tables-alike {m} {n} {spreads} {shifts} {first} {second} a b as_long same =
     let q = b.handed.handed in
     let e : table_of n second (room_of b.lent) spreads shifts ≡ table_of m first (room_of a.lent) spreads shifts = ap (λ (room : Room). table_of n second room spreads shifts) as_long ∙ same (room_of a.lent) in
     record {
-      number = q.number_is ∙ ap (λ (t : SpreadTable). t.refusal.number) e ∙ sym p.number_is;
-      place = q.place_is ∙ ap (λ (t : SpreadTable). t.refusal.place) e ∙ sym p.place_is;
+      number = q.number_is ∙ ap (λ (t : SpreadTable). refusal_number t.refusal) e ∙ sym p.number_is;
+      place = q.place_is ∙ ap (λ (t : SpreadTable). refusal_place t.refusal) e ∙ sym p.place_is;
       size = q.length_is ∙ ap (λ (t : SpreadTable). t.length) e ∙ sym p.length_is;
       page = q.page_is ∙ ap (λ (t : SpreadTable). t.page) e ∙ sym p.page_is;
       slices = λ alike. b.handed.slices ∙ ap (table.lent_after spreads shifts) alike ∙ sym a.handed.slices;
@@ -174,7 +171,7 @@ tables-alike {m} {n} {spreads} {shifts} {first} {second} a b as_long same =
 -- ---- sizing
 
 -- What has a value has passed its checks.
-value-passed : (m : Market) (calls : CallSchedule) (room : Room) (x : Float) (n : ℕ) → tree_value m calls room ≡ Value x n → tree_checks m calls ≡ check.Passed
+value-passed : (m : Market) (calls : CallSchedule) (room : Room) (x : Float) (n : ℕ) → tree_value m calls room ≡ Ok (record { value = x; nodes = n }) → tree_checks m calls ≡ Ok tt
 unfolding tree_value tree_value_over
 value-passed m calls room x n e = passed (tree_checks m calls) _ x n e
 
@@ -185,7 +182,7 @@ host_sizes_rule m first second made v z a b as_long =
       | inl s ↦
           let above : StrikeAbove second = record { entry = s.index; of_list = s.below; above = s.holds } in
           let (r, e, four) = tree-made-refused first second made m has-passed s in
-          record { with_4 = ((λ _. above), (λ _. b.handed.handed.number_is ∙ refused_number_lem r e ∙ four)); otherwise = λ none. absurd (none above) }
+          record { with_4 = ((λ _. above), (λ _. b.handed.handed.number_is ∙ refused_number_lem r e ∙ ap reason_number four)); otherwise = λ none. absurd (none above) }
       | inr w ↦
           let same = same_sizes (tree-made-passed first second made m has-passed w ∙ sym has-passed) (λ room. refl) a b as_long in
           record {
@@ -194,14 +191,14 @@ host_sizes_rule m first second made v z a b as_long =
           }
     ]
   where
-    has-passed : tree_checks m first ≡ check.Passed
+    has-passed : tree_checks m first ≡ Ok tt
     has-passed =
         let room = room_of v.lent in
         let w = tree_value m first room in
         value-passed m first room (value_of w) (counted_by w) (valued m first room w refl (sym v.handed.handed.number_is ∙ z))
 
-    refused_number_lem : (r : Refusal) → tree_checks m second ≡ check.Refused r → sizes_number (sizes_of m second (length b.lent)) ≡ r.number
-    refused_number_lem r e = ap (λ (c : Check). sizes_number (on_check c sizes.Refused (on_outcome (tree_widths m (length b.lent)) sizes.Refused sizes_from))) e
+    refused_number_lem : (r : Refusal) → tree_checks m second ≡ Err r → sizes_number (sizes_of m second (length b.lent)) ≡ (reason_number r.reason)
+    refused_number_lem r e = ap (λ (c : Check). sizes_number (on_check c Err (on_outcome (tree_widths m (length b.lent)) Err sizes_from))) e
 
     not_both : StrikeAbove second → AllWithin second → ⊥
     not_both s w = not_le_of_lt million (strike_of second s.entry) s.above (w s.entry s.of_list)

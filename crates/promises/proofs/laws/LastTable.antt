@@ -1,18 +1,16 @@
 -- 01's last example with a value, as a table of two spreads and two shifts. Assumes nothing.
-use Rattle.std.specs.Prelude.{ℕ, ◌≡◌, refl, Bool, true, false, cond, List, [], ◌∷◌, ◌++◌, Float}
+use Rattle.std.specs.Prelude.{ℕ, ◌≡◌, refl, Bool, true, false, cond, List, [], ◌∷◌, ◌++◌, Float, Ok, Err}
 use Rattle.std.proofs.Common.{ap, ◌∙◌}
 use Rattle.std.specs.Float.Ieee as ieee
-use Rattle.floats.specs.Answers.{plus_zero}
+use Rattle.floats.specs.Answers.{plus_zero, Outcome, on_outcome}
 use Rattle.floats.specs.Whole.{rounded}
 use Rattle.decimal.specs.Examples.{bytes}
 use Rattle.bondreport.specs.Numbers.{byte_left, digits_left, width_of, whole_left}
-use Rattle.bondreport.specs.Figures.{on_decimals, point_left, minus_left}
+use Rattle.bondreport.specs.Figures.{point_left, minus_left}
 use Rattle.terms.specs.Numbers.{float}
 use Rattle.terms.specs.Terms.{Market, with_spread}
 use Rattle.terms.specs.Checks.{lowest, on_check}
-use Rattle.terms.specs.Outcomes.{on_outcome}
 use Rattle.treebasedbondpricer.specs.declared.TreeValue.{TreeValue}
-use Rattle.treebasedbondpricer.specs.declared.TreeValue.TheVariants.{Value, Refused}
 use Rattle.treebasedbondpricer.specs.Tree.{tree_value, room_of}
 use Rattle.closingsheet.specs.Cells.{printed_of}
 use Rattle.spreadtable.specs.Cells.{hash_cell, cell_text}
@@ -20,11 +18,12 @@ use Rattle.spreadtable.specs.Page.{row_text, page_text, printed}
 use Rattle.spreadtable.specs.Table.{shifted, with_shift, any_outside, cell_at, table_of}
 use Rattle.promises.specs.Examples.{market99, call_from, lent, starred}
 use Rattle.promises.specs.SpreadTable.{LastTable}
+use Rattle.floats.specs.declared.Reason.TheVariants as reason
 
 abbrev spot : Float → Float → List ℕ
 spot = cell_at market99 (call_from 0 365) (room_of lent)
 
-abbrev worth : Float → TreeValue
+abbrev worth : Float → Outcome TreeValue
 worth s = tree_value (with_spread (with_shift market99 plus_zero) s) (call_from 0 365) (room_of lent)
 
 abbrev columns : List Float
@@ -45,17 +44,17 @@ out_of_range : any_outside (shifted (float 20) (plus_zero ∷ [])) ≡ true
 unfolding any_outside ieee.of_bits ieee.of_int ieee.add ieee.neg ieee.lt ieee.le
 out_of_range = refl
 
-too_high : worth (float 2) ≡ Refused (record { number = 4; place = 0 })
+too_high : worth (float 2) ≡ Err (record { reason = reason.Number; place = 0 })
 unfolding tree_value rounded on_outcome on_check lowest ieee.of_bits ieee.add ieee.sub ieee.mul ieee.div ieee.neg ieee.lt ieee.le ieee.of_int
 too_high = refl
 
 -- ---- how they are printed
 
-print_99 : cell_text (Value (float 99) 2) ≡ bytes "           99.00"
-unfolding cell_text printed_of byte_left digits_left width_of whole_left on_decimals point_left minus_left ieee.of_bits ieee.of_int
+print_99 : cell_text (Ok (record { value = (float 99); nodes = 2 })) ≡ bytes "           99.00"
+unfolding cell_text printed_of byte_left digits_left width_of whole_left point_left minus_left ieee.of_bits ieee.of_int
 print_99 = refl
 
-print_4 : cell_text (Refused (record { number = 4; place = 0 })) ≡ bytes "              #4"
+print_4 : cell_text (Err (record { reason = reason.Number; place = 0 })) ≡ bytes "              #4"
 unfolding cell_text hash_cell byte_left digits_left width_of whole_left
 print_4 = refl
 

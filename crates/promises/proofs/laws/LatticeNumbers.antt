@@ -7,7 +7,7 @@ use Rattle.hullwhite.specs.Variance.{weight, with_piece, pieces, variance_over, 
 use Rattle.lattice.specs.Layers.{Room}
 use Rattle.lattice.specs.Transitions.{Step, transition_of}
 use Rattle.lattice.specs.Lattice.{transitions_of, step_of, grown, flat, curved, lattice}
-use Rattle.terms.specs.Outcomes.{Outcome}
+use Rattle.floats.specs.Answers.{Outcome}
 use Rattle.chances.specs.laws.NeverTooLow.{Only23Or27, was_given, too_far_lem, not_finite_lem, SpacedStep, made-spaced}
 use Rattle.chances.proofs.laws.NeverTooLow.{transition-only}
 use Rattle.floats.specs.laws.Cases.{Holds}

@@ -1,5 +1,5 @@
 -- What a midpoint does to the span of a bracket within ±1, in cells of 2^−50, and that a span of six cells is a width below 1e-14. Assumes nothing.
-use Rattle.std.specs.Prelude.{◌≡◌, refl, true, false, T, Float, negsuc}
+use Rattle.std.specs.Prelude.{◌≡◌, refl, true, false, T, Float, negsuc, Ok, Err}
 use Rattle.std.proofs.Common.{sym, subst, le_of_lt, mul_comm, mul_assoc, mul_left_comm, add-mul, mul-le-mul_right, le_of_mul-le-mul_right, lt_of_mul-lt-mul_right, arith, lit<}
 use Prim.Native.Nat.{ℕ, suc, ◌+◌, ◌*◌, ◌≤◌, ◌<◌}
 use Rattle.std.proofs.Math.Nat.{mul-pos}
@@ -8,9 +8,7 @@ use Rattle.std.specs.Float.Ieee.{binary64, round, add, sub, div, neg, lt, le, of
 use Rattle.std.specs.Float.Ieee.Fits.{and_i}
 use Rattle.std.specs.Float.Ieee.Scale.{finite}
 use Rattle.std.specs.Float.Ieee.Positive.{den, den_pos}
-use Rattle.floats.specs.declared.Answer.{Answer}
-use Rattle.floats.specs.declared.Answer.TheVariants.{Value, Refused}
-use Rattle.floats.specs.Answers.{two, when_finite, tested}
+use Rattle.floats.specs.Answers.{Answer, two, when_finite, tested}
 use Rattle.floats.specs.Middle.{midpoint_at}
 use Rattle.floats.specs.laws.Fractions.{pl, mi}
 use Rattle.floats.specs.laws.Order.{T-to, lt_of_le_of_lt, lt_of_lt_of_le}
@@ -19,6 +17,7 @@ use Rattle.floats.specs.laws.Exactly.{add_rounds, sub-rounds, div-rounds}
 use Rattle.terms.specs.Numbers.{width_tolerance}
 use Rattle.brackets.specs.Brackets.{small}
 use Rattle.promises.proofs.laws.Cells.{Above, Below, rounded-above, rounded-below, fine, fine-pos, held-fine, held_finer, Cell}
+use Rattle.floats.specs.declared.Reason.TheVariants as reason
 
 -- ---- the sum of x = (xp - xm) / a and y = (yp - ym) / b
 sum-above : (A B xp xm a yp ym b k : ℕ) → A * a + xm * k ≤ xp * k + k * a → B * b + ym * k ≤ yp * k + k * b
@@ -60,15 +59,15 @@ not_under q M p n d k D h l =
     le_of_mul-le-mul_right (simp (mul_assoc, mul_comm) (omega arith)) D
 
 -- ---- what a midpoint that has a value is
-no_value : (x : Float) → Refused (record { number = 27; place = 0 }) ≡ Value x → ⊥
+no_value : (x : Float) → ◌≡◌ {A = Answer} (Err (record { reason = reason.NotFinite; place = 0 })) (Ok x) → ⊥
 no_value x e = let z : ◌≡◌ {A = ℕ} 0 1 = cc in omega arith
 
-of_tested : (z m : Float) → tested z 0 ≡ Value m → z ≡ m
+of_tested : (z m : Float) → tested z 0 ≡ Ok m → z ≡ m
 of_tested nan m e = absurd (no_value m e)
 of_tested (inf s) m e = absurd (no_value m e)
 of_tested (fin s n d) m e = cc
 
-of_finite : (z m : Float) (k : Float → Answer) → when_finite z 0 k ≡ Value m → T (finite z) × (k z ≡ Value m)
+of_finite : (z m : Float) (k : Float → Answer) → when_finite z 0 k ≡ Ok m → T (finite z) × (k z ≡ Ok m)
 of_finite nan m k e = absurd (no_value m e)
 of_finite (inf s) m k e = absurd (no_value m e)
 of_finite (fin s n d) m k e = (tt, e)
@@ -97,7 +96,7 @@ module _ (x y : Float) (A B : ℕ) (c : Cell x A) (d : Cell y B) where
       )
 
   -- A midpoint's cell is within one of the middle of its ends' cells.
-  pub midpoint-cell : (m : Float) (M : ℕ) → midpoint_at x y 0 ≡ Value m → Cell m M → (A + B < suc M * 2) × (M * 2 ≤ suc A + suc B)
+  pub midpoint-cell : (m : Float) (M : ℕ) → midpoint_at x y 0 ≡ Ok m → Cell m M → (A + B < suc M * 2) × (M * 2 ≤ suc A + suc B)
   midpoint-cell m M e k =
       let f = of_finite (add binary64 x y) m (λ (s : Float). tested (div binary64 s two) 0) e in
       half-cells M f.0 (subst (λ (z : Float). Cell z M) (sym (of_tested (div binary64 (add binary64 x y) two) m f.1)) k)

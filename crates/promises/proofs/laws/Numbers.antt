@@ -1,15 +1,12 @@
 -- That a refusal's number is one of a list: what it says of an answer, an outcome and a check, and how it passes from the parts of a definition to the whole. Assumes nothing.
-use Rattle.std.specs.Prelude.{ℕ, zero, suc, ◌≡◌, refl, Bool, true, false, ◌&&◌, ◌||◌, List, [], ◌∷◌, T, eqb, Float}
+use Rattle.floats.specs.declared.Reason.{Reason}
+use Rattle.floats.specs.Reasons.{reason_number}
+use Rattle.std.specs.Prelude.{ℕ, zero, suc, ◌≡◌, refl, Bool, true, false, ◌&&◌, ◌||◌, List, [], ◌∷◌, T, eqb, Float, Ok, Err}
 use Rattle.std.proofs.Common.{sym, ap, subst, ◌∙◌, eqb-true}
 use Rattle.std.proofs.lemmas.Bool.{false≢true}
 use Rattle.floats.specs.declared.Refusal.{Refusal}
-use Rattle.floats.specs.declared.Answer.{Answer}
-use Rattle.floats.specs.declared.Answer.TheVariants as answer
-use Rattle.floats.specs.Answers.{on_answer}
-use Rattle.terms.specs.declared.Check.{Check}
-use Rattle.terms.specs.declared.Check.TheVariants as check
+use Rattle.floats.specs.Answers.{Answer, on_outcome, Check, Outcome}
 use Rattle.terms.specs.Checks.{on_check, lowest}
-use Rattle.terms.specs.Outcomes.{Outcome, given, refused, on_outcome}
 use Rattle.floats.specs.laws.Cases.{Holds, of_cond, of_answer, RefusedOnly, value-only, refused-only, then_only}
 use Rattle.promises.specs.RefusalNumbers.{member, Among}
 
@@ -68,86 +65,86 @@ abbrev pub AnswerAmong : List ℕ → Answer → Type 0
 AnswerAmong ns = RefusedOnly (Among ns)
 
 abbrev pub OutcomeAmong : {A : Type 0} → List ℕ → Outcome A → Type 0
-OutcomeAmong ns (given x) = Unit
-OutcomeAmong ns (refused r) = Among ns r.number
+OutcomeAmong ns (Ok x) = Unit
+OutcomeAmong ns (Err r) = Among ns (reason_number r.reason)
 
 abbrev pub CheckAmong : List ℕ → Check → Type 0
-CheckAmong ns check.Passed = Unit
-CheckAmong ns (check.Refused r) = Among ns r.number
+CheckAmong ns (Ok tt) = Unit
+CheckAmong ns (Err r) = Among ns (reason_number r.reason)
 
 -- ---- values and refusals
 
-pub give_outcome : {A : Type 0} {ns : List ℕ} (x : A) → Holds (OutcomeAmong ns) (given x)
+pub give_outcome : {A : Type 0} {ns : List ℕ} (x : A) → Holds (OutcomeAmong ns) (Ok x)
 give_outcome x = record { it = tt }
 
-pub refuse-outcome : {A : Type 0} {ns : List ℕ} (r : Refusal) → Among ns r.number → Holds (OutcomeAmong {A = A} ns) (refused r)
+pub refuse-outcome : {A : Type 0} {ns : List ℕ} (r : Refusal) → Among ns (reason_number r.reason) → Holds (OutcomeAmong {A = A} ns) (Err r)
 refuse-outcome r h = record { it = h }
 
-pub pass_check : {ns : List ℕ} → Holds (CheckAmong ns) check.Passed
+pub pass_check : {ns : List ℕ} → Holds (CheckAmong ns) (Ok tt)
 pass_check = record { it = tt }
 
-pub refuse_check : {ns : List ℕ} (r : Refusal) → Among ns r.number → Holds (CheckAmong ns) (check.Refused r)
+pub refuse_check : {ns : List ℕ} (r : Refusal) → Among ns (reason_number r.reason) → Holds (CheckAmong ns) (Err r)
 refuse_check r h = record { it = h }
 
 -- ---- on a wider list
 
 pub wider-answer : (ns ms : List ℕ) → every ns ms ≡ true → (a : Answer) → Holds (AnswerAmong ns) a → Holds (AnswerAmong ms) a
-wider-answer ns ms e (answer.Value x) h = value-only (Among ms) x
-wider-answer ns ms e (answer.Refused r) h = refused-only (Among ms) r (wider ns ms r.number e h.it)
+wider-answer ns ms e (Ok x) h = value-only (Among ms) x
+wider-answer ns ms e (Err r) h = refused-only (Among ms) r (wider ns ms (reason_number r.reason) e h.it)
 
 pub wider-outcome : {A : Type 0} (ns ms : List ℕ) → every ns ms ≡ true → (o : Outcome A) → Holds (OutcomeAmong ns) o → Holds (OutcomeAmong ms) o
-wider-outcome ns ms e (given x) h = give_outcome x
-wider-outcome ns ms e (refused r) h = refuse-outcome r (wider ns ms r.number e h.it)
+wider-outcome ns ms e (Ok x) h = give_outcome x
+wider-outcome ns ms e (Err r) h = refuse-outcome r (wider ns ms (reason_number r.reason) e h.it)
 
 pub wider_check : (ns ms : List ℕ) → every ns ms ≡ true → (c : Check) → Holds (CheckAmong ns) c → Holds (CheckAmong ms) c
-wider_check ns ms e check.Passed h = pass_check
-wider_check ns ms e (check.Refused r) h = refuse_check r (wider ns ms r.number e h.it)
+wider_check ns ms e (Ok tt) h = pass_check
+wider_check ns ms e (Err r) h = refuse_check r (wider ns ms (reason_number r.reason) e h.it)
 
 -- ---- what holds of a part's refusals of the list, and of what follows its value, holds of both
 
-pub on_answer_lem : {A : Type 0} {P : A → Type 0} {ns : List ℕ} (a : Answer) (f : Refusal → A) (k : Float → A) → Holds (AnswerAmong ns) a → ((r : Refusal) → Among ns r.number → Holds P (f r)) → ((x : Float) → Holds P (k x)) → Holds P (on_answer a f k)
+pub on_answer_lem : {A : Type 0} {P : A → Type 0} {ns : List ℕ} (a : Answer) (f : Refusal → A) (k : Float → A) → Holds (AnswerAmong ns) a → ((r : Refusal) → Among ns (reason_number r.reason) → Holds P (f r)) → ((x : Float) → Holds P (k x)) → Holds P (on_outcome a f k)
 on_answer_lem {ns = ns} a f k h p q = of_answer a f k (λ r e. p r (subst (AnswerAmong ns) e h.it)) (λ x e. q x)
 
-pub on_outcome_lem : {A B : Type 0} {P : B → Type 0} {ns : List ℕ} (a : Outcome A) (f : Refusal → B) (k : A → B) → Holds (OutcomeAmong ns) a → ((r : Refusal) → Among ns r.number → Holds P (f r)) → ((x : A) → Holds P (k x)) → Holds P (on_outcome a f k)
+pub on_outcome_lem : {A B : Type 0} {P : B → Type 0} {ns : List ℕ} (a : Outcome A) (f : Refusal → B) (k : A → B) → Holds (OutcomeAmong ns) a → ((r : Refusal) → Among ns (reason_number r.reason) → Holds P (f r)) → ((x : A) → Holds P (k x)) → Holds P (on_outcome a f k)
 unfolding on_outcome
-on_outcome_lem (given x) f k h p q = q x
-on_outcome_lem (refused r) f k h p q = p r h.it
+on_outcome_lem (Ok x) f k h p q = q x
+on_outcome_lem (Err r) f k h p q = p r h.it
 
-pub on_check_lem : {A : Type 0} {P : A → Type 0} {ns : List ℕ} (c : Check) (f : Refusal → A) (x : A) → Holds (CheckAmong ns) c → ((r : Refusal) → Among ns r.number → Holds P (f r)) → Holds P x → Holds P (on_check c f x)
+pub on_check_lem : {A : Type 0} {P : A → Type 0} {ns : List ℕ} (c : Check) (f : Refusal → A) (x : A) → Holds (CheckAmong ns) c → ((r : Refusal) → Among ns (reason_number r.reason) → Holds P (f r)) → Holds P x → Holds P (on_check c f x)
 unfolding on_check
-on_check_lem check.Passed f x h p q = q
-on_check_lem (check.Refused r) f x h p q = p r h.it
+on_check_lem (Ok tt) f x h p q = q
+on_check_lem (Err r) f x h p q = p r h.it
 
 -- ---- the same where the refusal is handed up, as `search` wants it; whenFinite, finiteThen, tested and single open to cond
 
 -- valued
-pub then_valued : {A : Type 0} {ns : List ℕ} (a : Answer) (k : Float → Outcome A) → Holds (AnswerAmong ns) a → ((x : Float) → Holds (OutcomeAmong ns) (k x)) → Holds (OutcomeAmong ns) (on_answer a refused k)
-then_valued a k h = on_answer_lem a refused k h refuse-outcome
+pub then_valued : {A : Type 0} {ns : List ℕ} (a : Answer) (k : Float → Outcome A) → Holds (AnswerAmong ns) a → ((x : Float) → Holds (OutcomeAmong ns) (k x)) → Holds (OutcomeAmong ns) (on_outcome a Err k)
+then_valued a k h = on_answer_lem a Err k h refuse-outcome
 
 -- follow
-pub then_outcome : {A B : Type 0} {ns : List ℕ} (a : Outcome A) (k : A → Outcome B) → Holds (OutcomeAmong ns) a → ((x : A) → Holds (OutcomeAmong ns) (k x)) → Holds (OutcomeAmong ns) (on_outcome a refused k)
-then_outcome a k h = on_outcome_lem a refused k h refuse-outcome
+pub then_outcome : {A B : Type 0} {ns : List ℕ} (a : Outcome A) (k : A → Outcome B) → Holds (OutcomeAmong ns) a → ((x : A) → Holds (OutcomeAmong ns) (k x)) → Holds (OutcomeAmong ns) (on_outcome a Err k)
+then_outcome a k h = on_outcome_lem a Err k h refuse-outcome
 
 -- follow, where what is given is known
-pub then_known : {A B : Type 0} {ns : List ℕ} (a : Outcome A) (k : A → Outcome B) → Holds (OutcomeAmong ns) a → ((x : A) → a ≡ given x → Holds (OutcomeAmong ns) (k x)) → Holds (OutcomeAmong ns) (on_outcome a refused k)
+pub then_known : {A B : Type 0} {ns : List ℕ} (a : Outcome A) (k : A → Outcome B) → Holds (OutcomeAmong ns) a → ((x : A) → a ≡ Ok x → Holds (OutcomeAmong ns) (k x)) → Holds (OutcomeAmong ns) (on_outcome a Err k)
 unfolding on_outcome
-then_known (given x) k h q = q x refl
-then_known (refused r) k h q = refuse-outcome r h.it
+then_known (Ok x) k h q = q x refl
+then_known (Err r) k h q = refuse-outcome r h.it
 
 -- firstOf, which opens to these
-pub then_check : {ns : List ℕ} (c d : Check) → Holds (CheckAmong ns) c → Holds (CheckAmong ns) d → Holds (CheckAmong ns) (on_check c check.Refused d)
-then_check c d h = on_check_lem c check.Refused d h refuse_check
+pub then_check : {ns : List ℕ} (c d : Check) → Holds (CheckAmong ns) c → Holds (CheckAmong ns) d → Holds (CheckAmong ns) (on_check c Err d)
+then_check c d h = on_check_lem c Err d h refuse_check
 
 -- an outcome behind a check
-pub then_checked : {A : Type 0} {ns : List ℕ} (c : Check) (o : Outcome A) → Holds (CheckAmong ns) c → Holds (OutcomeAmong ns) o → Holds (OutcomeAmong ns) (on_check c refused o)
-then_checked c o h = on_check_lem c refused o h refuse-outcome
+pub then_checked : {A : Type 0} {ns : List ℕ} (c : Check) (o : Outcome A) → Holds (CheckAmong ns) c → Holds (OutcomeAmong ns) o → Holds (OutcomeAmong ns) (on_check c Err o)
+then_checked c o h = on_check_lem c Err o h refuse-outcome
 
 -- indexed
-pub lowest_check : {ns : List ℕ} (number : ℕ) (bad : ℕ → Bool) (count i : ℕ) → Among ns number → Holds (CheckAmong ns) (lowest number bad count i)
+pub lowest_check : {ns : List ℕ} (why : Reason) (bad : ℕ → Bool) (count i : ℕ) → Among ns (reason_number why) → Holds (CheckAmong ns) (lowest why bad count i)
 unfolding lowest
-lowest_check number bad zero i h = pass_check
-lowest_check number bad (suc count) i h =
-    let later = lowest_check number bad count (suc i) h in
+lowest_check why bad zero i h = pass_check
+lowest_check why bad (suc count) i h =
+    let later = lowest_check why bad count (suc i) h in
     search (of_cond, refuse_check)
 
 pub ruleset numbers = (one_of, of_cond, value-only, refused-only, give_outcome, refuse-outcome, pass_check, refuse_check, then_only, then_valued, then_outcome, then_check, then_checked, lowest_check)

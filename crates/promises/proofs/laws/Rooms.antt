@@ -1,20 +1,15 @@
 -- The tree value and spread from price in two rooms: the same, or one of them has no room. Assumes nothing.
 use Prim.Native.Nat.{ℕ, zero, suc, ◌+◌}
-use Rattle.std.proofs.Common.{arith, sym, subst}
-use Rattle.std.specs.Prelude.{◌≡◌, refl, Bool, true, false, cond, ℤ, Float}
+use Rattle.std.proofs.Common.{arith, sym, subst, ap}
+use Rattle.std.specs.Prelude.{◌≡◌, refl, Bool, true, false, cond, ℤ, Float, Ok, Err}
 use mathlib.Core.List.{List, [], ◌∷◌}
 use Rattle.std.proofs.Math.ListN.{length}
 use Rattle.std.specs.Float.Ieee.{binary64, div}
-use Rattle.floats.specs.declared.Answer.{Answer}
-use Rattle.floats.specs.declared.Answer.TheVariants as answer
-use Rattle.floats.specs.Answers.{on_answer, not_finite}
-use Rattle.terms.specs.declared.Check.{Check}
-use Rattle.terms.specs.declared.Check.TheVariants as check
+use Rattle.floats.specs.Answers.{Answer, on_outcome, not_finite, Check, Outcome, follow, refusal}
 use Rattle.terms.specs.Numbers.{float}
 use Rattle.terms.specs.Terms.{CallSchedule, Market}
 use Rattle.terms.specs.Checks.{on_check}
 use Rattle.terms.specs.Entries.{tree_checks}
-use Rattle.terms.specs.Outcomes.{Outcome, given, refused, on_outcome, follow, valued, refuse}
 use Rattle.bondevents.specs.declared.BondEventGrid.{BondEventGrid}
 use Rattle.bondevents.specs.declared.CallStep.{CallStep}
 use Rattle.bondevents.specs.Grid.{event_grid}
@@ -22,24 +17,24 @@ use Rattle.hullwhite.specs.Variance.{transition_variances}
 use Rattle.lattice.specs.Layers.{Room, fits}
 use Rattle.lattice.specs.Lattice.{Lattice, root_layer, flat_layer, destinations, transitions_of, step_of, spacing_of, decay_of, grown, flat, curved, all_flat, lattice}
 use Rattle.treebasedbondpricer.specs.declared.TreeValue.{TreeValue}
-use Rattle.treebasedbondpricer.specs.declared.TreeValue.TheVariants.{Value, Refused}
 use Rattle.treebasedbondpricer.specs.Tree.{Fitted, fitted_tree_over, lattice_value_over, tree_value_over, tree_value, curve_of}
 use Rattle.brackets.specs.declared.Root.{Root}
-use Rattle.brackets.specs.declared.Root.TheVariants as root
+use Rattle.brackets.specs.Brackets.{Searched, no_root}
 use Rattle.spreads.specs.Spreads.{Quoted, at_spread, quoted_checks, solve_spread, spread_from_price}
 use Rattle.spreads.specs.laws.SpreadTree.{found_over, found_on, fitted-once}
 use Rattle.promises.specs.Rooms.{SameOr21, same, first_21, second_21, SameValueOr21, RoomRule, OneValue, EntryRoomRule, SameSpreadOr21, SpreadRoomRule, EntrySpreadRoomRule}
+use Rattle.floats.specs.declared.Reason.TheVariants as reason
 
 -- The same of a part of the working state.
 abbrev pub Alike : {A : Type 0} → Outcome A → Outcome A → Type 0
-Alike = SameOr21 (refuse 21)
+Alike = SameOr21 (refusal reason.NoRoom)
 
 -- ---- what follows
 
 pub after : {A B : Type 0} (o : Outcome A) (f g : A → Outcome B) → ((x : A) → Alike (f x) (g x)) → Alike (follow o f) (follow o g)
 unfolding on_outcome
-after (given x) f g h = h x
-after (refused r) f g h = same
+after (Ok x) f g h = h x
+after (Err r) f g h = same
 
 after_both : {A B : Type 0} {o p : Outcome A} (f : A → Outcome B) → Alike o p → Alike (follow o f) (follow p f)
 unfolding on_outcome
@@ -47,17 +42,17 @@ after_both f same = same
 after_both f first_21 = first_21
 after_both f second_21 = second_21
 
-after-value : {A : Type 0} (a : Answer) (f g : Float → Outcome A) → ((x : Float) → Alike (f x) (g x)) → Alike (valued a f) (valued a g)
-unfolding on_answer
-after-value (answer.Value x) f g h = h x
-after-value (answer.Refused r) f g h = same
+after-value : {A : Type 0} (a : Answer) (f g : Float → Outcome A) → ((x : Float) → Alike (f x) (g x)) → Alike (follow a f) (follow a g)
+unfolding on_outcome
+after-value (Ok x) f g h = h x
+after-value (Err r) f g h = same
 
 pub either : {A : Type 0} (b : Bool) (o p q r : Outcome A) → Alike o q → Alike p r → Alike (cond b o p) (cond b q r)
 either true o p q r h k = h
 either false o p q r h k = k
 
 -- Each room by its own test.
-in_rooms_lem : {A : Type 0} (b c : Bool) (k : ℕ) (o p : Outcome A) → Alike o p → Alike (cond b o (refuse 21 k)) (cond c p (refuse 21 k))
+in_rooms_lem : {A : Type 0} (b c : Bool) (k : ℕ) (o p : Outcome A) → Alike o p → Alike (cond b o (refusal reason.NoRoom k)) (cond c p (refusal reason.NoRoom k))
 in_rooms_lem true true k o p h = h
 in_rooms_lem true false k o p h = second_21
 in_rooms_lem false c k o p h = first_21
@@ -73,14 +68,14 @@ module _ (a b : Room) where
       after (transitions_of s nodes) _ _ λ ts.
       let below = before + length nodes in
       let next = destinations ts in
-      let whole : Lattice → Outcome Lattice = λ rest. given (record { layers = record { nodes = nodes; transitions = ts; spacing = spacing } ∷ rest.layers; final = rest.final }) in
+      let whole : Lattice → Outcome Lattice = λ rest. Ok (record { layers = record { nodes = nodes; transitions = ts; spacing = spacing } ∷ rest.layers; final = rest.final }) in
       in_rooms_lem (fits a (below + length next) (length next)) (fits b (below + length next) (length next)) (suc k) _ _ (after_both whole (grown-alike decay s.new_spacing below next (suc k) vs))
 
   flat-alike : (k left : ℕ) → Alike (flat a k left) (flat b k left)
   unfolding flat
-  flat-alike k zero = in_rooms_lem (fits a (k + 1) 1) (fits b (k + 1) 1) k (given (record { layers = []; final = root_layer })) (given (record { layers = []; final = root_layer })) same
+  flat-alike k zero = in_rooms_lem (fits a (k + 1) 1) (fits b (k + 1) 1) k (Ok (record { layers = []; final = root_layer })) (Ok (record { layers = []; final = root_layer })) same
   flat-alike k (suc left) =
-      let whole : Lattice → Outcome Lattice = λ rest. given (record { layers = flat_layer ∷ rest.layers; final = rest.final }) in
+      let whole : Lattice → Outcome Lattice = λ rest. Ok (record { layers = flat_layer ∷ rest.layers; final = rest.final }) in
       in_rooms_lem (fits a (k + 1) 1) (fits b (k + 1) 1) k _ _ (after_both whole (flat-alike (suc k) left))
 
   curved-alike : (alpha dt : Float) (vs : List Float) → Alike (curved a alpha dt vs) (curved b alpha dt vs)
@@ -108,16 +103,16 @@ module _ (a b : Room) where
 
 -- ---- the tree value
 
-as_values : {o p : Outcome TreeValue} → Alike o p → SameValueOr21 (on_outcome o Refused λ v. v) (on_outcome p Refused λ v. v)
+as_values : {o p : Outcome (Outcome TreeValue)} → Alike o p → SameValueOr21 (on_outcome o Err λ v. v) (on_outcome p Err λ v. v)
 unfolding on_outcome
 as_values same = same
 as_values first_21 = first_21
 as_values second_21 = second_21
 
-checked : (c : Check) (v w : TreeValue) → SameValueOr21 v w → SameValueOr21 (on_check c Refused v) (on_check c Refused w)
+checked : (c : Check) (v w : Outcome TreeValue) → SameValueOr21 v w → SameValueOr21 (on_check c Err v) (on_check c Err w)
 unfolding on_check
-checked check.Passed v w h = h
-checked (check.Refused r) v w h = same
+checked (Ok tt) v w h = h
+checked (Err r) v w h = same
 
 -- In two rooms the tree value is the same, or one of them is refused with 21.
 pub any_room : RoomRule
@@ -126,8 +121,8 @@ any_room m calls a b =
     checked (tree_checks m calls) _ _
     (as_values (after (event_grid m.settlement m.bond calls m.controls) _ _ λ grid. value-alike a b (curve_of m) m grid))
 
-one_of : {v w : TreeValue} {x y : Float} {n k : ℕ} → SameValueOr21 v w → v ≡ Value x n → w ≡ Value y k → (x ≡ y) × (n ≡ k)
-one_of {x = x} {y = y} {n = n} {k = k} same e f = let p : x ≡ y = cc in let q : n ≡ k = cc in (p, q)
+one_of : {v w : Outcome TreeValue} {x y : Float} {n k : ℕ} → SameValueOr21 v w → v ≡ Ok (record { value = x; nodes = n }) → w ≡ Ok (record { value = y; nodes = k }) → (x ≡ y) × (n ≡ k)
+one_of {x = x} {y = y} {n = n} {k = k} same e f = let p : ◌≡◌ {A = TreeValue} (record { value = x; nodes = n }) (record { value = y; nodes = k }) = cc in (ap (λ (v : TreeValue). v.value) p, ap (λ (v : TreeValue). v.nodes) p)
 one_of first_21 e f = absurd (let z : ◌≡◌ {A = ℕ} 0 1 = cc in omega arith)
 one_of second_21 e f = absurd (let z : ◌≡◌ {A = ℕ} 0 1 = cc in omega arith)
 
@@ -150,20 +145,20 @@ found_over_lem target cashflows calls second_21 = second_21
 
 found_on_lem : (m : Market) (a b : Room) (target : Float) (o : Outcome BondEventGrid) → SameSpreadOr21 (found_on m a target o) (found_on m b target o)
 unfolding found_on
-found_on_lem m a b target (given g) = found_over_lem target g.cashflows g.calls (fitted-alike a b (curve_of m) m g.maturity_time g.steps)
-found_on_lem m a b target (refused q) = same
+found_on_lem m a b target (Ok g) = found_over_lem target g.cashflows g.calls (fitted-alike a b (curve_of m) m g.maturity_time g.steps)
+found_on_lem m a b target (Err q) = same
 
-solved-alike : (asked : Quoted) (calls : CallSchedule) (a b : Room) → quoted_checks asked calls ≡ check.Passed → SameSpreadOr21 (solve_spread asked calls a) (solve_spread asked calls b)
+solved-alike : (asked : Quoted) (calls : CallSchedule) (a b : Room) → quoted_checks asked calls ≡ Ok tt → SameSpreadOr21 (solve_spread asked calls a) (solve_spread asked calls b)
 solved-alike asked calls a b e =
     let m = at_spread asked asked.target in
     let grid = event_grid m.settlement m.bond calls m.controls in
     subst (SameSpreadOr21 (solve_spread asked calls a)) (sym (fitted-once asked calls b e))
-    (subst (λ (r : Root). SameSpreadOr21 r (found_on m b asked.target grid)) (sym (fitted-once asked calls a e)) (found_on_lem m a b asked.target grid))
+    (subst (λ (r : Searched Root). SameSpreadOr21 r (found_on m b asked.target grid)) (sym (fitted-once asked calls a e)) (found_on_lem m a b asked.target grid))
 
-checked_spread_lem : (c d : Check) (r s : Root) → d ≡ c → (d ≡ check.Passed → SameSpreadOr21 r s) → SameSpreadOr21 (on_check c (λ q. root.Refused q 0) r) (on_check c (λ q. root.Refused q 0) s)
+checked_spread_lem : (c d : Check) (r s : Searched Root) → d ≡ c → (d ≡ Ok tt → SameSpreadOr21 r s) → SameSpreadOr21 (on_check c (λ q. no_root q 0) r) (on_check c (λ q. no_root q 0) s)
 unfolding on_check
-checked_spread_lem check.Passed d r s e h = h e
-checked_spread_lem (check.Refused q) d r s e h = same
+checked_spread_lem (Ok tt) d r s e h = h e
+checked_spread_lem (Err q) d r s e h = same
 
 -- In two rooms the spread, its tries, its refusal and place are the same, or one of them is refused with 21.
 pub any_room_spread : SpreadRoomRule

@@ -1,20 +1,16 @@
 -- A row of the spread by sigma table in slices that are too short for its terms: no cell shows a value. Assumes nothing.
-use Rattle.std.specs.Prelude.{ℕ, suc, ◌<◌, ◌≡◌, refl, Bool, true, false, not, ◌||◌, List, [], ◌∷◌, T, length, get_or, Float}
+use Rattle.std.specs.Prelude.{ℕ, suc, ◌<◌, ◌≡◌, refl, Bool, true, false, not, ◌||◌, List, [], ◌∷◌, T, length, get_or, Float, Ok, Err}
 use Rattle.std.proofs.Common.{arith, sym, subst, ◌∙◌}
-use Rattle.floats.specs.Answers.{plus_zero}
-use Rattle.terms.specs.declared.Check.{Check}
-use Rattle.terms.specs.declared.Check.TheVariants as check
+use Rattle.floats.specs.Answers.{plus_zero, Check, on_outcome}
 use Rattle.terms.specs.Numbers.{float}
 use Rattle.terms.specs.Terms.{SigmaSchedule, CallSchedule, Market}
 use Rattle.terms.specs.Checks.{on_check, not_up_to}
 use Rattle.terms.specs.Entries.{tree_checks}
-use Rattle.terms.specs.Outcomes.{on_outcome}
 use Rattle.terms.specs.laws.Sequence.{indexed-passed}
 use Rattle.terms.specs.laws.Groups.{SigmaPassed}
 use Rattle.terms.specs.laws.TermChecks.{sigma-counted}
 use Rattle.terms.specs.laws.EntryChecks.{tree-market}
 use Rattle.sizing.specs.Sizing.{tree_widths, sizes_of, sizes_number, sizes_from}
-use Rattle.sizing.specs.declared.Sizes.TheVariants as sizes
 use Rattle.spreadtable.specs.Table.{shifted, with_shift, any_outside}
 use Rattle.promises.specs.RefusalNumbers.{Among, tree_refusals}
 use Rattle.promises.specs.Sizing.{before_fit}
@@ -25,13 +21,13 @@ use Rattle.promises.proofs.laws.SpreadTable.{each-cell}
 
 -- ---- what sizing accepts passes the checks, so no sigma is out of range
 
-sized-passed : (m : Market) (calls : CallSchedule) (slice : ℕ) → sizes_number (sizes_of m calls slice) ≡ 0 → tree_checks m calls ≡ check.Passed
+sized-passed : (m : Market) (calls : CallSchedule) (slice : ℕ) → sizes_number (sizes_of m calls slice) ≡ 0 → tree_checks m calls ≡ Ok tt
 unfolding sizes_of on_check
 sized-passed m calls slice e = go (tree_checks m calls) (tree_checks-number m calls).it e
   where
-    go : (c : Check) → CheckAmong tree_refusals c → sizes_number (on_check c sizes.Refused (on_outcome (tree_widths m slice) sizes.Refused sizes_from)) ≡ 0 → c ≡ check.Passed
-    go check.Passed h z = refl
-    go (check.Refused q) h z = absurd (subst (Among tree_refusals) z h).is_one
+    go : (c : Check) → CheckAmong tree_refusals c → sizes_number (on_check c Err (on_outcome (tree_widths m slice) Err sizes_from)) ≡ 0 → c ≡ Ok tt
+    go (Ok tt) h z = refl
+    go (Err q) h z = absurd (subst (Among tree_refusals) z h).is_one
 
 all_inside : (sigmas : List Float) → ((i : ℕ) → i < length sigmas → not_up_to (float 10) (get_or sigmas i plus_zero) ≡ false) → any_outside sigmas ≡ false
 unfolding any_outside

@@ -1,19 +1,17 @@
 -- Sizing keeps its promise: of the tree value, of a closing line and of spread from price. Assumes nothing.
-use Rattle.std.specs.Prelude.{ℕ, ◌≤◌, ◌≡◌, List, length, Float}
+use Rattle.floats.specs.Reasons.{reason_number, refusal_number, refusal_place}
+use Rattle.std.specs.Prelude.{ℕ, ◌≤◌, ◌≡◌, List, length, Float, Ok, Err}
 use Rattle.std.proofs.Common.{arith, sym, ap, subst, ◌∙◌}
 use Rattle.std.proofs.Math.Path.{refl}
 use Rattle.std.specs.Float.{binary64}
 use Rattle.std.specs.Float.Ieee.{div}
 use Rattle.floats.specs.declared.Refusal.{Refusal}
-use Rattle.floats.specs.Answers.{not_finite}
+use Rattle.floats.specs.Answers.{not_finite, Check, Outcome}
 use Rattle.floats.specs.laws.Cases.{Holds}
-use Rattle.terms.specs.declared.Check.{Check}
-use Rattle.terms.specs.declared.Check.TheVariants as check
 use Rattle.terms.specs.Numbers.{float, target_limit}
 use Rattle.terms.specs.Terms.{CallSchedule, Market, with_spread}
 use Rattle.terms.specs.Checks.{on_check}
 use Rattle.terms.specs.Entries.{tree_checks, spread_checks}
-use Rattle.terms.specs.Outcomes.{Outcome, given, refused}
 use Rattle.terms.specs.laws.Outcomes.{given_or_refused}
 use Rattle.bondevents.specs.Grid.{event_grid}
 use Rattle.hullwhite.specs.Variance.{transition_variances}
@@ -21,7 +19,6 @@ use Rattle.lattice.specs.Layers.{Room}
 use Rattle.lattice.specs.Lattice.{Lattice}
 use Rattle.lattice.specs.laws.RoomTest.{Fitting}
 use Rattle.treebasedbondpricer.specs.declared.TreeValue.{TreeValue}
-use Rattle.treebasedbondpricer.specs.declared.TreeValue.TheVariants.{Value}
 use Rattle.treebasedbondpricer.specs.Tree.{Lent, room_of, lent_after, tree_value, number_of, place_of, value_of, counted_by}
 use Rattle.closingsheet.specs.declared.ClosingLine.{ClosingLine}
 use Rattle.closingsheet.specs.Sheet.{sheet_of}
@@ -31,7 +28,7 @@ use Rattle.sizing.specs.declared.Lengths.{Lengths}
 use Rattle.sizing.specs.Sizing.{tree_widths, lengths_of, sizes_of, needed}
 use Rattle.promises.specs.RefusalNumbers.{Among, tree_refusals}
 use Rattle.promises.specs.HostCallLists.{TreeCall, SpreadCall, SheetCall, SizesCall}
-use Rattle.promises.specs.Sizing.{AsLong, Shorter, fewer-nodes, fewer-probabilities, shorter_first, shorter-second, before_fit, Stops, with_21, earlier, RightLengths, lengths_in, Sized, SizingRule}
+use Rattle.promises.specs.Sizing.{AsLong, Shorter, fewer-nodes, fewer-probabilities, shorter_first, shorter-second, before_fit, Stops, with_21, earlier, RightLengths, lengths_in, Sized, SizingRule, Answered, answered}
 use Rattle.promises.specs.Rooms.{same, first_21, second_21}
 use Rattle.promises.proofs.laws.Rooms.{Alike, after, either, lattice-alike}
 use Rattle.promises.proofs.laws.Numbers.{arithmetic_refusals, built_refusals, grid_refusals, OutcomeAmong, CheckAmong, wider-outcome, then_outcome, then_checked, numbers}
@@ -43,6 +40,7 @@ use Rattle.promises.proofs.laws.SizedSpreads.{root_refusal, widths_any_spread, s
 use Rattle.promises.proofs.laws.SizingNumbers.{accepted}
 use Rattle.promises.proofs.laws.HostCallLists.{valued}
 use Rattle.promises.proofs.laws.ClosingSheet.{Shows, a_refusal, too_wide, a_value, shows}
+use Rattle.floats.specs.declared.Reason.TheVariants as reason
 
 -- ---- lengths and room
 
@@ -64,9 +62,9 @@ layers-alike m a b maturity steps =
 
 before-alike : (c : Check) (m : Market) (calls : CallSchedule) (a b : Room) → Alike (before_fit c m calls a) (before_fit c m calls b)
 unfolding before_fit on_check
-before-alike check.Passed m calls a b =
+before-alike (Ok tt) m calls a b =
     after (event_grid m.settlement m.bond calls m.controls) _ _ λ g. layers-alike m a b g.maturity_time g.steps
-before-alike (check.Refused q) m calls a b = same
+before-alike (Err q) m calls a b = same
 
 -- ---- 0 is no refusal's number
 
@@ -90,35 +88,35 @@ spread_checks-number : (m : Market) (calls : CallSchedule) → Holds (CheckAmong
 unfolding spread_checks
 spread_checks-number m calls = checks-tree target_limit m calls
 
-no_refusal_0 : {o : Outcome Lattice} {q : Refusal} → Holds (OutcomeAmong tree_refusals) o → o ≡ refused q → q.number ≡ 0 → ⊥
+no_refusal_0 : {o : Outcome Lattice} {q : Refusal} → Holds (OutcomeAmong tree_refusals) o → o ≡ Err q → reason_number q.reason ≡ 0 → ⊥
 no_refusal_0 h e z = (subst (Among tree_refusals) z (subst (OutcomeAmong tree_refusals) e h.it)).is_one
 
 -- ---- one function's calls
 
-first_of : {room : Room} {ws : List ℕ} {o : Outcome Lattice} {r q : Refusal} → Ends room ws o r → o ≡ refused q → r ≡ q
+first_of : {room : Room} {ws : List ℕ} {o : Outcome Lattice} {r : Answered} {q : Refusal} → Ends room ws o r → o ≡ Err q → r ≡ answered q
 first_of (after-layers f ne) e = absurd (given_or_refused refl e)
-first_of (without_room ne) e = cc
-first_of (before-layers ne) e = cc
+first_of {q = q} (without_room {k = k} ne) e = let p : record { reason = reason.NoRoom; place = k } ≡ q = cc in ap answered p
+first_of {q = q} (before-layers {q = first} ne) e = let p : first ≡ q = cc in ap answered p
 
-ample_too : {room : Room} {ws : List ℕ} {o p : Outcome Lattice} {r q : Refusal} → Fitting room (total ws) (widest ws) → (q.number ≡ 21 → ⊥) → Alike o p → o ≡ refused q → Ends room ws p r → p ≡ refused q
+ample_too : {room : Room} {ws : List ℕ} {o p : Outcome Lattice} {r : Answered} {q : Refusal} → Fitting room (total ws) (widest ws) → (reason_number q.reason ≡ 21 → ⊥) → Alike o p → o ≡ Err q → Ends room ws p r → p ≡ Err q
 ample_too fit ne same e x = e
-ample_too {q = q} fit ne (first_21 {place = k}) e x = let of-21 : record { number = 21; place = k } ≡ q = cc in absurd (ne (sym (ap (λ (r : Refusal). r.number) of-21)))
+ample_too {q = q} fit ne (first_21 {place = k}) e x = let of-21 : record { reason = reason.NoRoom; place = k } ≡ q = cc in absurd (ne (sym (ap (λ (r : Refusal). reason_number r.reason) of-21)))
 ample_too fit ne second_21 e (without_room none) = absurd (none fit)
 ample_too fit ne second_21 e (before-layers other) = absurd (other refl)
 
-module _ (ws : List ℕ) (before : Room → Outcome Lattice) (answers : Room → Refusal) (ends : (room : Room) → Ends room ws (before room) (answers room)) (both : (a b : Room) → Alike (before a) (before b)) (numbered : (room : Room) → Holds (OutcomeAmong tree_refusals) (before room)) where
+module _ (ws : List ℕ) (before : Room → Outcome Lattice) (answers : Room → Answered) (ends : (room : Room) → Ends room ws (before room) (answers room)) (both : (a b : Room) → Alike (before a) (before b)) (numbered : (room : Room) → Holds (OutcomeAmong tree_refusals) (before room)) where
   stops : (room : Room) → Shorter (lengths_of ws) room → Stops (lengths_of ws) before (answers room)
   stops room s = go refl (ends room)
     where
-      go : {o : Outcome Lattice} {q : Refusal} → before room ≡ o → Ends room ws o q → Stops (lengths_of ws) before q
+      go : {o : Outcome Lattice} {q : Answered} → before room ≡ o → Ends room ws o q → Stops (lengths_of ws) before q
       go e (after-layers f ne) = absurd (short-never-fits ws s f)
       go e (without_room ne) = with_21
       go e (before-layers ne) = earlier ne (no_refusal_0 (numbered room) e) λ ample a. ample_too (long-fits ws a) ne (both room ample) e (ends ample)
 
-  right : (Call : Type 0) (lent : Call → Lent) (refusal : Call → Refusal) → ((c : Call) → refusal c ≡ answers (room_of (lent c))) → RightLengths (lengths_of ws) before Call lent refusal
+  right : (Call : Type 0) (lent : Call → Lent) (refusal : Call → Answered) → ((c : Call) → refusal c ≡ answers (room_of (lent c))) → RightLengths (lengths_of ws) before Call lent refusal
   right Call lent refusal is =
       record {
-        never_21 = λ c a n. ends_not_21 (long-fits ws a) (ends (room_of (lent c))) (ap (λ (q : Refusal). q.number) (sym (is c)) ∙ n);
+        never_21 = λ c a n. ends_not_21 (long-fits ws a) (ends (room_of (lent c))) (ap (λ (q : Answered). q.number) (sym (is c)) ∙ n);
         shorter = λ c s. rw (is c) (stops (room_of (lent c)) s);
         first_cause = λ c q e. is c ∙ first_of (ends (room_of (lent c))) e;
       }
@@ -126,21 +124,25 @@ module _ (ws : List ℕ) (before : Room → Outcome Lattice) (answers : Room →
 -- ---- a line in range
 
 -- Where there is a value, all layers were laid.
-value-laid : {room : Room} {ws : List ℕ} {o : Outcome Lattice} {v : TreeValue} {x : Float} {n : ℕ} {q : Refusal} → ValueSized room ws o v → v ≡ Value x n → (q.number ≡ 21 → ⊥) → Ends room ws o q
+value-laid : {room : Room} {ws : List ℕ} {o : Outcome Lattice} {v : Outcome TreeValue} {x : Float} {n : ℕ} {q : Answered} → ValueSized room ws o v → v ≡ Ok (record { value = x; nodes = n }) → (q.number ≡ 21 → ⊥) → Ends room ws o q
 value-laid (was_laid f c) e ne = after-layers f ne
 value-laid (had_no_room short) e ne = absurd (let z : ◌≡◌ {A = ℕ} 0 1 = cc in omega arith)
 value-laid (stopped other) e ne = absurd (let z : ◌≡◌ {A = ℕ} 0 1 = cc in omega arith)
 
+-- What is handed back of a line's refusal.
+abbrev line_refusal : ClosingLine → Answered
+line_refusal s = record { number = refusal_number s.refusal; place = refusal_place s.refusal }
+
 -- A line ends as its value does.
-line-ends : {room : Room} {ws : List ℕ} {o : Outcome Lattice} {bond : ℕ} {v : TreeValue} {s : ClosingLine} → ValueSized room ws o v → Shows bond v s → Ends room ws o s.refusal
+line-ends : {room : Room} {ws : List ℕ} {o : Outcome Lattice} {bond : ℕ} {v : Outcome TreeValue} {s : ClosingLine} → ValueSized room ws o v → Shows bond v s → Ends room ws o (line_refusal s)
 line-ends z a_refusal = value-ends z
 line-ends z (too_wide h) = value-laid z refl λ e. omega (arith, e)
 line-ends z (a_value w h) = value-laid z refl λ e. omega (arith, e)
 
 -- ---- the calls of a bond that was sized
 
-module _ (m : Market) (calls : CallSchedule) (slice : ℕ) (ws : List ℕ) (e : tree_widths m slice ≡ given ws) where
-  known : (s : Float) → tree_widths (with_spread m s) slice ≡ given ws
+module _ (m : Market) (calls : CallSchedule) (slice : ℕ) (ws : List ℕ) (e : tree_widths m slice ≡ Ok ws) where
+  known : (s : Float) → tree_widths (with_spread m s) slice ≡ Ok ws
   known s = widths_any_spread m s slice ∙ e
 
   -- What stands before the fit doesn't read the spread.
@@ -159,7 +161,7 @@ module _ (m : Market) (calls : CallSchedule) (slice : ℕ) (ws : List ℕ) (e : 
   line_right : (bond : ℕ) (s : Float) → 1 ≤ bond → bond ≤ 999999
       → RightLengths (lengths_of ws) (before_fit (tree_checks (with_spread m s) calls) m calls) (SheetCall bond (with_spread m s) calls) (λ c. c.lent) (λ c. record { number = c.number; place = c.place })
   line_right bond s f l =
-      right ws _ (λ room. (sheet_of bond (tree_value (with_spread m s) calls room)).refusal)
+      right ws _ (λ room. line_refusal (sheet_of bond (tree_value (with_spread m s) calls room)))
       (λ room. rw (← same_before (tree_checks (with_spread m s) calls) s room) (line-ends (value-sized (with_spread m s) calls slice room ws (known s)) (shows bond (tree_value (with_spread m s) calls room) f l)))
       (before-alike (tree_checks (with_spread m s) calls) m calls)
       (before-number (tree_checks (with_spread m s) calls) m calls (tree_checks-number (with_spread m s) calls))
@@ -188,7 +190,7 @@ handed_lengths : {m : Market} {calls : CallSchedule} (s : SizesCall m calls) →
 handed_lengths s = let p = s.handed.handed in rw (p.nodes_is, p.probabilities_is, p.row_is, p.count_is)
 
 -- What stops in short slices isn't accepted.
-pub stops_not_0 : {l : Lengths} {before : Room → Outcome Lattice} {q : Refusal} → Stops l before q → q.number ≡ 0 → ⊥
+pub stops_not_0 : {l : Lengths} {before : Room → Outcome Lattice} {q : Answered} → Stops l before q → q.number ≡ 0 → ⊥
 stops_not_0 with_21 z = omega (arith, z)
 stops_not_0 (earlier ne some ample) z = some z
 

@@ -1,21 +1,19 @@
 -- Which numbers sizing refuses with: those of the input checks, and 21, 22, 23, 26 and 27 of the widths. Assumes nothing.
-use Rattle.std.specs.Prelude.{ℕ, zero, suc, ◌≡◌, refl, List, [], ◌∷◌, length, ℤ, Float}
+use Rattle.floats.specs.Reasons.{reason_number}
+use Rattle.std.specs.Prelude.{ℕ, zero, suc, ◌≡◌, refl, List, [], ◌∷◌, length, ℤ, Float, Ok, Err}
 use Rattle.std.proofs.Common.{sym, ap, subst, ◌∙◌}
 use Rattle.rounded.specs.Root.{sqrt_at}
 use Rattle.elementary.specs.Exponential.{exp_at}
-use Rattle.terms.specs.declared.Check.{Check}
-use Rattle.terms.specs.declared.Check.TheVariants as check
+use Rattle.floats.specs.Answers.{Check, Outcome, on_outcome}
 use Rattle.terms.specs.Numbers.{float}
 use Rattle.terms.specs.Terms.{HullWhite, CallSchedule, Market}
 use Rattle.terms.specs.Checks.{on_check}
 use Rattle.terms.specs.Entries.{tree_checks}
-use Rattle.terms.specs.Outcomes.{Outcome, given, refused, on_outcome}
 use Rattle.hullwhite.specs.Variance.{variances_from}
 use Rattle.lattice.specs.Transitions.{middle_of}
 use Rattle.floats.specs.laws.Cases.{Holds}
 use Rattle.widths.specs.Widths.{middle_nodes, new_spacing, widths_from, flat_widths, curved_widths, widths}
-use Rattle.sizing.specs.declared.Sizes.{Sizes}
-use Rattle.sizing.specs.declared.Sizes.TheVariants as sizes
+use Rattle.sizing.specs.declared.Lengths.{Lengths}
 use Rattle.sizing.specs.Sizing.{tree_widths, sizes_from, sizes_of, sizes_number}
 use Rattle.promises.specs.RefusalNumbers.{Among}
 use Rattle.promises.specs.Sizing.{sizing_refusals}
@@ -79,14 +77,14 @@ tree_widths-number : (m : Market) (room : ℕ) → Holds (OutcomeAmong width_ref
 unfolding tree_widths
 tree_widths-number m room = search (variances-number, widths-number, numbers)
 
-abbrev SizesAmong : List ℕ → Sizes → Type 0
-SizesAmong ns (sizes.Sized l) = Unit
-SizesAmong ns (sizes.Refused q) = Among ns q.number
+abbrev SizesAmong : List ℕ → Outcome Lengths → Type 0
+SizesAmong ns (Ok l) = Unit
+SizesAmong ns (Err q) = Among ns (reason_number q.reason)
 
-of_widths : (ns : List ℕ) (o : Outcome (List ℕ)) → OutcomeAmong ns o → SizesAmong ns (on_outcome o sizes.Refused sizes_from)
+of_widths : (ns : List ℕ) (o : Outcome (List ℕ)) → OutcomeAmong ns o → SizesAmong ns (on_outcome o Err sizes_from)
 unfolding on_outcome
-of_widths ns (given ws) h = tt
-of_widths ns (refused q) h = h
+of_widths ns (Ok ws) h = tt
+of_widths ns (Err q) h = h
 
 checks_among : (m : Market) (calls : CallSchedule) → CheckAmong sizing_refusals (tree_checks m calls)
 unfolding tree_checks
@@ -96,38 +94,38 @@ sizes_number_lem : (m : Market) (calls : CallSchedule) (room : ℕ) → SizesAmo
 unfolding sizes_of on_check
 sizes_number_lem m calls room = go (tree_checks m calls) (checks_among m calls)
   where
-    go : (c : Check) → CheckAmong sizing_refusals c → SizesAmong sizing_refusals (on_check c sizes.Refused (on_outcome (tree_widths m room) sizes.Refused sizes_from))
-    go check.Passed h = of_widths sizing_refusals (tree_widths m room) (wider-outcome width_refusals sizing_refusals refl (tree_widths m room) (tree_widths-number m room)).it
-    go (check.Refused q) h = h
+    go : (c : Check) → CheckAmong sizing_refusals c → SizesAmong sizing_refusals (on_check c Err (on_outcome (tree_widths m room) Err sizes_from))
+    go (Ok tt) h = of_widths sizing_refusals (tree_widths m room) (wider-outcome width_refusals sizing_refusals refl (tree_widths m room) (tree_widths-number m room)).it
+    go (Err q) h = h
 
-or_0 : (v : Sizes) → SizesAmong sizing_refusals v → Among (0 ∷ sizing_refusals) (sizes_number v)
-or_0 (sizes.Sized l) h = one_of 0 refl
-or_0 (sizes.Refused q) h = one_more 0 q.number h
+or_0 : (v : Outcome Lengths) → SizesAmong sizing_refusals v → Among (0 ∷ sizing_refusals) (sizes_number v)
+or_0 (Ok l) h = one_of 0 refl
+or_0 (Err q) h = one_more 0 (reason_number q.reason) h
 
 pub sizing_numbers : page.SizingNumbers
 sizing_numbers m calls s = rw s.handed.handed.number_is (or_0 (sizes_of m calls (length s.lent)) (sizes_number_lem m calls (length s.lent)))
 
 -- Terms that pass the checks are never refused with 4.
-or_0_widths : (o : Outcome (List ℕ)) → OutcomeAmong width_refusals o → Among (0 ∷ width_refusals) (sizes_number (on_outcome o sizes.Refused sizes_from))
+or_0_widths : (o : Outcome (List ℕ)) → OutcomeAmong width_refusals o → Among (0 ∷ width_refusals) (sizes_number (on_outcome o Err sizes_from))
 unfolding on_outcome
-or_0_widths (given ws) h = one_of 0 refl
-or_0_widths (refused q) h = one_more 0 q.number h
+or_0_widths (Ok ws) h = one_of 0 refl
+or_0_widths (Err q) h = one_more 0 (reason_number q.reason) h
 
-pub never_4 : (m : Market) (calls : CallSchedule) (room : ℕ) → tree_checks m calls ≡ check.Passed → sizes_number (sizes_of m calls room) ≡ 4 → ⊥
+pub never_4 : (m : Market) (calls : CallSchedule) (room : ℕ) → tree_checks m calls ≡ Ok tt → sizes_number (sizes_of m calls room) ≡ 4 → ⊥
 unfolding sizes_of on_check
 never_4 m calls room p e =
-    let passed = ap (λ (c : Check). sizes_number (on_check c sizes.Refused (on_outcome (tree_widths m room) sizes.Refused sizes_from))) (sym p) in
+    let passed = ap (λ (c : Check). sizes_number (on_check c Err (on_outcome (tree_widths m room) Err sizes_from))) (sym p) in
     (subst (Among (0 ∷ width_refusals)) (passed ∙ e) (or_0_widths (tree_widths m room) (tree_widths-number m room).it)).is_one
 
 -- Number 0 is no refusal's: the widths are known, and these are the lengths.
-pub accepted : (m : Market) (calls : CallSchedule) (room : ℕ) → sizes_number (sizes_of m calls room) ≡ 0 → (ws : List ℕ) × (tree_widths m room ≡ given ws) × (sizes_of m calls room ≡ sizes_from ws)
+pub accepted : (m : Market) (calls : CallSchedule) (room : ℕ) → sizes_number (sizes_of m calls room) ≡ 0 → (ws : List ℕ) × (tree_widths m room ≡ Ok ws) × (sizes_of m calls room ≡ sizes_from ws)
 unfolding sizes_of on_check on_outcome
 accepted m calls room e =
     go (tree_checks m calls) (tree_widths m room) refl (checks_among m calls) (wider-outcome width_refusals sizing_refusals refl (tree_widths m room) (tree_widths-number m room)).it e
   where
     go : (c : Check) (o : Outcome (List ℕ)) → tree_widths m room ≡ o → CheckAmong sizing_refusals c → OutcomeAmong sizing_refusals o
-        → sizes_number (on_check c sizes.Refused (on_outcome o sizes.Refused sizes_from)) ≡ 0
-        → (ws : List ℕ) × (tree_widths m room ≡ given ws) × (on_check c sizes.Refused (on_outcome o sizes.Refused sizes_from) ≡ sizes_from ws)
-    go check.Passed (given ws) p h k z = (ws, p, refl)
-    go check.Passed (refused q) p h k z = absurd (subst (Among sizing_refusals) z k).is_one
-    go (check.Refused q) o p h k z = absurd (subst (Among sizing_refusals) z h).is_one
+        → sizes_number (on_check c Err (on_outcome o Err sizes_from)) ≡ 0
+        → (ws : List ℕ) × (tree_widths m room ≡ Ok ws) × (on_check c Err (on_outcome o Err sizes_from) ≡ sizes_from ws)
+    go (Ok tt) (Ok ws) p h k z = (ws, p, refl)
+    go (Ok tt) (Err q) p h k z = absurd (subst (Among sizing_refusals) z k).is_one
+    go (Err q) o p h k z = absurd (subst (Among sizing_refusals) z h).is_one

@@ -1,5 +1,6 @@
 -- The promises of the spread by sigma table. Assumes nothing.
-use Rattle.std.specs.Prelude.{ℕ, ◌-◌, ◌*◌, ◌≡◌, refl, ◌⊎◌, Bool, true, false, not, ◌&&◌, ◌||◌, List, [], ◌∷◌, ◌++◌, T, eqb, length, get_or, take, drop, replicate, Float}
+use Rattle.floats.specs.Reasons.{reason_number, refusal_number, refusal_place}
+use Rattle.std.specs.Prelude.{ℕ, ◌-◌, ◌*◌, ◌≡◌, refl, ◌⊎◌, Bool, true, false, not, ◌&&◌, ◌||◌, List, [], ◌∷◌, ◌++◌, T, eqb, length, get_or, take, drop, replicate, Float, Ok, Err}
 use Rattle.std.proofs.Common.{sym, subst, ◌∙◌, inl, inr, arith, ne_eqb, T_not, eqb→eq}
 use Rattle.std.proofs.Math.Path.{ap}
 use Rattle.std.proofs.Math.Bool.{cond}
@@ -8,13 +9,12 @@ use Rattle.std.proofs.Math.Seq.{drop-append_seam}
 use Rattle.std.specs.Float.Ieee.{le}
 use Rattle.std.specs.Float.Ieee.Fits.{and_l, and_r}
 use Rattle.floats.specs.declared.Refusal.{Refusal}
-use Rattle.floats.specs.Answers.{plus_zero}
+use Rattle.floats.specs.Answers.{plus_zero, Outcome}
 use Rattle.floats.specs.laws.Fractions.{or_r, or_split}
 use Rattle.bondreport.specs.Numbers.{byte_left, digits_left, width_of, whole_left}
 use Rattle.terms.specs.Terms.{CallSchedule, Market}
 use Rattle.lattice.specs.Layers.{Room}
 use Rattle.treebasedbondpricer.specs.declared.TreeValue.{TreeValue}
-use Rattle.treebasedbondpricer.specs.declared.TreeValue.TheVariants.{Value, Refused}
 use Rattle.treebasedbondpricer.specs.Tree.{tree_value, room_of, zeroed, number_of, value_of}
 use Rattle.treebasedbondpricer.specs.CallLists.{Thinned, NoLowerOr27, accepted}
 use Rattle.treebasedbondpricer.proofs.laws.CallLists.{call_list_rule}
@@ -61,8 +61,8 @@ module _ {m : Market} {calls : CallSchedule} {spreads shifts : List Float} (a : 
   no_page_lem e =
       let p = a.handed.handed in
       record {
-        number = p.number_is ∙ ap (λ (t : SpreadTable). t.refusal.number) (wrong_is e);
-        place = p.place_is ∙ ap (λ (t : SpreadTable). t.refusal.place) (wrong_is e);
+        number = p.number_is ∙ ap (λ (t : SpreadTable). refusal_number t.refusal) (wrong_is e);
+        place = p.place_is ∙ ap (λ (t : SpreadTable). refusal_place t.refusal) (wrong_is e);
         size = p.length_is ∙ ap (λ (t : SpreadTable). t.length) (wrong_is e);
         page = p.page_is ∙ ap (λ (t : SpreadTable). t.page) (wrong_is e);
         slices = a.handed.slices ∙ ap (λ (b : Bool). cond b a.lent (zeroed a.lent)) e;
@@ -78,8 +78,8 @@ module _ {m : Market} {calls : CallSchedule} {spreads shifts : List Float} (a : 
   paged e =
       let p = a.handed.handed in
       record {
-        number = p.number_is ∙ ap (λ (t : SpreadTable). t.refusal.number) (right_is e);
-        place = p.place_is ∙ ap (λ (t : SpreadTable). t.refusal.place) (right_is e);
+        number = p.number_is ∙ ap (λ (t : SpreadTable). refusal_number t.refusal) (right_is e);
+        place = p.place_is ∙ ap (λ (t : SpreadTable). refusal_place t.refusal) (right_is e);
         size = size_is e ∙ page-long cells (cell-wide m calls (room_of a.lent)) spreads shifts;
         newline = λ i h.
             let r = row-there cells (cell-wide m calls (room_of a.lent)) spreads shifts i zeros h in
@@ -164,45 +164,45 @@ value-shows x = unhashed_shows (value_cell x).cell (cell_unhashed (printed_of x)
 longer : (k n : ℕ) (ks : List ℕ) → T (member n ks) → T (member n (k ∷ ks))
 longer k n ks h = or_r (eqb n k) (member n ks) h
 
-of_tree : (m : Market) (calls : CallSchedule) (room : Room) (q : Refusal) → tree_value m calls room ≡ Refused q → T (member q.number numbers)
-of_tree m calls room q e = longer 32 q.number (46 ∷ tree_refusals) (longer 46 q.number tree_refusals (tree_numbers_lem m calls room q e).is_one)
+of_tree : (m : Market) (calls : CallSchedule) (room : Room) (q : Refusal) → tree_value m calls room ≡ Err q → T (member (reason_number q.reason) numbers)
+of_tree m calls room q e = longer 32 (reason_number q.reason) (46 ∷ tree_refusals) (longer 46 (reason_number q.reason) tree_refusals (tree_numbers_lem m calls room q e).is_one)
 
 -- 46, a refusal, a value that is too wide, or a value.
-data Told : Bool → TreeValue → List ℕ → Type 0 where
-  with_46 : {v : TreeValue} → Told true v (hash_cell 46)
-  a_refusal : {q : Refusal} → T (member q.number numbers) → Told false (Refused q) (hash_cell q.number)
-  too_wide : {x : Float} {n : ℕ} → (value_cell x).wide ≡ true → Told false (Value x n) (hash_cell 32)
-  a_value : {x : Float} {n : ℕ} → (value_cell x).wide ≡ false → Told false (Value x n) (value_cell x).cell
+data Told : Bool → Outcome TreeValue → List ℕ → Type 0 where
+  with_46 : {v : Outcome TreeValue} → Told true v (hash_cell 46)
+  a_refusal : {q : Refusal} → T (member (reason_number q.reason) numbers) → Told false (Err q) (hash_cell (reason_number q.reason))
+  too_wide : {x : Float} {n : ℕ} → (value_cell x).wide ≡ true → Told false (Ok (record { value = x; nodes = n })) (hash_cell 32)
+  a_value : {x : Float} {n : ℕ} → (value_cell x).wide ≡ false → Told false (Ok (record { value = x; nodes = n })) (value_cell x).cell
 
-told : (outside : Bool) (v : TreeValue) → ((q : Refusal) → v ≡ Refused q → T (member q.number numbers)) → Told outside v (cond outside (hash_cell 46) (cell_text v))
+told : (outside : Bool) (v : Outcome TreeValue) → ((q : Refusal) → v ≡ Err q → T (member (reason_number q.reason) numbers)) → Told outside v (cond outside (hash_cell 46) (cell_text v))
 unfolding cell_text
 told true v among = with_46
-told false (Refused q) among = a_refusal (among q refl)
-told false (Value x n) among = go (value_cell x).wide refl
+told false (Err q) among = a_refusal (among q refl)
+told false (Ok v) among = go (value_cell v.value).wide refl
   where
-    go : (b : Bool) → (value_cell x).wide ≡ b → Told false (Value x n) (cond b (hash_cell 32) (value_cell x).cell)
+    go : (b : Bool) → (value_cell v.value).wide ≡ b → Told false (Ok (record { value = v.value; nodes = v.nodes })) (cond b (hash_cell 32) (value_cell v.value).cell)
     go true e = too_wide e
     go false e = a_value e
 
 -- ---- each cell is the value of a single call
 
-refused-text : (v : TreeValue) → (number_of v ≡ 0 → ⊥) → cell_text v ≡ hash_cell (number_of v)
+refused-text : (v : Outcome TreeValue) → (number_of v ≡ 0 → ⊥) → cell_text v ≡ hash_cell (number_of v)
 unfolding cell_text
-refused-text (Value x n) some = absurd (some refl)
-refused-text (Refused q) some = refl
+refused-text (Ok x) some = absurd (some refl)
+refused-text (Err q) some = refl
 
-valued-text : {v : TreeValue} {x : Float} {n : ℕ} → v ≡ Value x n → cell_text v ≡ value_text x
+valued-text : {v : Outcome TreeValue} {x : Float} {n : ℕ} → v ≡ Ok (record { value = x; nodes = n }) → cell_text v ≡ value_text x
 unfolding cell_text
 valued-text e = ap cell_text e
 
 -- A value is shown exactly where there is one and it isn't too wide.
-shown_where : {outside : Bool} {v : TreeValue} {cell : List ℕ} → Told outside v cell → ShowsValue cell → (outside ≡ false) × (number_of v ≡ 0) × ((value_cell (value_of v)).wide ≡ false)
+shown_where : {outside : Bool} {v : Outcome TreeValue} {cell : List ℕ} → Told outside v cell → ShowsValue cell → (outside ≡ false) × (number_of v ≡ 0) × ((value_cell (value_of v)).wide ≡ false)
 shown_where with_46 s = absurd (hash_no_value 46 tt s)
-shown_where (a_refusal {q = q} h) s = absurd (hash_no_value q.number h s)
+shown_where (a_refusal {q = q} h) s = absurd (hash_no_value (reason_number q.reason) h s)
 shown_where (too_wide w) s = absurd (hash_no_value 32 tt s)
 shown_where (a_value w) s = (refl, refl, w)
 
-where_shown : {outside : Bool} {v : TreeValue} {cell : List ℕ} → Told outside v cell → outside ≡ false → number_of v ≡ 0 → (value_cell (value_of v)).wide ≡ false → ShowsValue cell
+where_shown : {outside : Bool} {v : Outcome TreeValue} {cell : List ℕ} → Told outside v cell → outside ≡ false → number_of v ≡ 0 → (value_cell (value_of v)).wide ≡ false → ShowsValue cell
 where_shown with_46 f z w = absurd (false≢true (sym f))
 where_shown (a_refusal {q = q} h) f z w = absurd (subst (λ (n : ℕ). T (member n numbers)) z h)
 where_shown (too_wide t) f z w = absurd (false≢true (sym w ∙ t))
@@ -215,7 +215,7 @@ module _ {m : Market} {calls : CallSchedule} {spreads shifts : List Float} (a : 
   abbrev terms : Market
   terms = cell_terms m spreads shifts i j
 
-  abbrev answer : TreeValue
+  abbrev answer : Outcome TreeValue
   answer = tree_value terms calls (room_of a.lent)
 
   cell-cases : cell_in spreads i j a.page ≡ cond outside (hash_cell 46) (cell_text answer)
@@ -258,16 +258,16 @@ other-cells m calls spreads shifts others moves a b as_long z y i j k l on at sa
 -- ---- the call-list rule, and the put-list rule
 
 -- A cell that shows a value has it from its single call.
-record Shown (v : TreeValue) (cell : List ℕ) : Type 0 where
+record Shown (v : Outcome TreeValue) (cell : List ℕ) : Type 0 where
   pub value : Float
   pub count : ℕ
-  pub is : v ≡ Value value count
+  pub is : v ≡ Ok (record { value = value; nodes = count })
   pub narrow : (value_cell value).wide ≡ false
   pub text_is : cell ≡ (value_cell value).cell
 
-shown : {outside : Bool} {v : TreeValue} {cell : List ℕ} → Told outside v cell → ShowsValue cell → Shown v cell
+shown : {outside : Bool} {v : Outcome TreeValue} {cell : List ℕ} → Told outside v cell → ShowsValue cell → Shown v cell
 shown with_46 s = absurd (hash_no_value 46 tt s)
-shown (a_refusal {q = q} h) s = absurd (hash_no_value q.number h s)
+shown (a_refusal {q = q} h) s = absurd (hash_no_value (reason_number q.reason) h s)
 shown (too_wide w) s = absurd (hash_no_value 32 tt s)
 shown (a_value {x = x} {n = n} w) s = record { value = x; count = n; is = refl; narrow = w; text_is = refl }
 
@@ -278,16 +278,16 @@ as_long-told {n = n} {second = second} {spreads = spreads} {shifts = shifts} a b
     subst (λ (r : Room). Told (any_outside (shifted (get_or shifts i plus_zero) n.model.sigma.sigmas)) (tree_value (cell_terms n spreads shifts i j) second r) (cell_in spreads i j b.page)) as_long (cell-told b y i j on)
 
 -- Two cells that show values stand as the doubles behind them.
-stand-alike : {v w : TreeValue} {one two : List ℕ} (p : Shown v one) (q : Shown w two) → T (le p.value q.value) → NoLower (read_back one) (read_back two)
+stand-alike : {v w : Outcome TreeValue} {one two : List ℕ} (p : Shown v one) (q : Shown w two) → T (le p.value q.value) → NoLower (read_back one) (read_back two)
 stand-alike p q l = rw (p.text_is, q.text_is) (printed-no_lower p.value q.value p.narrow q.narrow l)
 
-thinned-value : {x y : Float} {n : ℕ} {second : CallSchedule} → Thinned x second (Value y n) → T (le x y)
+thinned-value : {x y : Float} {n : ℕ} {second : CallSchedule} → Thinned x second (Ok (record { value = y; nodes = n })) → T (le x y)
 thinned-value {x} {y} {n} t = go (t.otherwise λ above. never (t.with_4.1 above))
   where
     never : ◌≡◌ {A = ℕ} 0 4 → ⊥
     never e = omega arith
 
-    go : NoLowerOr27 x (Value y n) → T (le x y)
+    go : NoLowerOr27 x (Ok (record { value = y; nodes = n })) → T (le x y)
     go (accepted l) = l
 
 pub cell_call_list_rule : CellCallListRule
@@ -309,9 +309,9 @@ cell_put_list_rule m calls first second lowered spreads shifts a b as_long z i j
 
 -- ---- how large the slices must be
 
-no_21 : {outside : Bool} {v : TreeValue} {cell : List ℕ} → Told outside v cell → (number_of v ≡ 21 → ⊥) → cell ≡ hash_cell 21 → ⊥
+no_21 : {outside : Bool} {v : Outcome TreeValue} {cell : List ℕ} → Told outside v cell → (number_of v ≡ 21 → ⊥) → cell ≡ hash_cell 21 → ⊥
 no_21 with_46 other e = absurd (let n = told-apart 46 21 tt tt e in omega arith)
-no_21 (a_refusal {q = q} h) other e = other (told-apart q.number 21 h tt e)
+no_21 (a_refusal {q = q} h) other e = other (told-apart (reason_number q.reason) 21 h tt e)
 no_21 (too_wide w) other e = absurd (let n = told-apart 32 21 tt tt e in omega arith)
 no_21 (a_value {x = x} w) other e = hash_no_value 21 tt (subst ShowsValue e (value-shows x))
 

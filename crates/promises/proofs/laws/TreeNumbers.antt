@@ -1,11 +1,12 @@
 -- Whatever the tree value refuses with has a number of its list, on which 24 is not. Assumes nothing.
-use Rattle.std.specs.Prelude.{ℕ, ◌≡◌, refl, true, List, ◌∷◌, ℤ, Float}
+use Rattle.floats.specs.Reasons.{reason_number}
+use Rattle.std.specs.Prelude.{ℕ, ◌≡◌, refl, true, List, ◌∷◌, ℤ, Float, Ok, Err}
 use Rattle.std.proofs.Common.{subst}
 use Rattle.terms.specs.Numbers.{float}
 use Rattle.terms.specs.Terms.{HullWhite, CallSchedule, Market}
 use Rattle.terms.specs.Curve.{curve_over}
 use Rattle.terms.specs.Entries.{market_checks, tree_checks}
-use Rattle.terms.specs.Outcomes.{Outcome, given, refused, on_outcome, follow}
+use Rattle.floats.specs.Answers.{Outcome, follow, on_outcome}
 use Rattle.bondevents.specs.declared.BondEventGrid.{BondEventGrid}
 use Rattle.bondevents.specs.declared.CallStep.{CallStep}
 use Rattle.bondevents.specs.Grid.{event_grid}
@@ -15,7 +16,6 @@ use Rattle.lattice.specs.Lattice.{Layer}
 use Rattle.forwardinduction.specs.Fit.{shifts_from}
 use Rattle.backwardinduction.specs.Walk.{walk_from}
 use Rattle.treebasedbondpricer.specs.declared.TreeValue.{TreeValue}
-use Rattle.treebasedbondpricer.specs.declared.TreeValue.TheVariants.{Value, Refused}
 use Rattle.treebasedbondpricer.specs.Tree.{fitted_tree_over, lattice_value_over, fitted_tree, lattice_value, tree_value, number_of}
 use Rattle.floats.specs.laws.Cases.{Holds}
 use Rattle.promises.specs.RefusalNumbers.{Among, tree_refusals, TreeNumbers}
@@ -24,26 +24,26 @@ use Rattle.promises.proofs.laws.GridNumbers.{checks-number, grid_number_lem}
 use Rattle.promises.proofs.laws.LatticeNumbers.{variances-number, lattice-number}
 use Rattle.promises.proofs.laws.WalkNumbers.{shifts-number, walk-number}
 
-abbrev pub TreeAmong : List ℕ → TreeValue → Type 0
-TreeAmong ns (Value x n) = Unit
-TreeAmong ns (Refused q) = Among ns q.number
+abbrev pub TreeAmong : List ℕ → Outcome TreeValue → Type 0
+TreeAmong ns (Ok x) = Unit
+TreeAmong ns (Err q) = Among ns (reason_number q.reason)
 
 -- The tree value in which an outcome ends.
-abbrev pub EndsAmong : List ℕ → Outcome TreeValue → Type 0
-EndsAmong ns (given v) = TreeAmong ns v
-EndsAmong ns (refused q) = Among ns q.number
+abbrev pub EndsAmong : List ℕ → Outcome (Outcome TreeValue) → Type 0
+EndsAmong ns (Ok v) = TreeAmong ns v
+EndsAmong ns (Err q) = Among ns (reason_number q.reason)
 
 -- On any list that has all of these.
-ends_in : (ns ms : List ℕ) → every ns ms ≡ true → (o : Outcome TreeValue) → Holds (EndsAmong ns) o → Holds (TreeAmong ms) (on_outcome o Refused λ v. v)
+ends_in : (ns ms : List ℕ) → every ns ms ≡ true → (o : Outcome (Outcome TreeValue)) → Holds (EndsAmong ns) o → Holds (TreeAmong ms) (on_outcome o Err λ v. v)
 unfolding on_outcome
-ends_in ns ms e (given (Value x n)) h = record { it = tt }
-ends_in ns ms e (given (Refused q)) h = record { it = wider ns ms q.number e h.it }
-ends_in ns ms e (refused q) h = record { it = wider ns ms q.number e h.it }
+ends_in ns ms e (Ok (Ok x)) h = record { it = tt }
+ends_in ns ms e (Ok (Err q)) h = record { it = wider ns ms (reason_number q.reason) e h.it }
+ends_in ns ms e (Err q) h = record { it = wider ns ms (reason_number q.reason) e h.it }
 
-then_tree : {A : Type 0} {ns : List ℕ} (a : Outcome A) (k : A → Outcome TreeValue) → Holds (OutcomeAmong ns) a → ((x : A) → Holds (EndsAmong ns) (k x)) → Holds (EndsAmong ns) (on_outcome a refused k)
-then_tree a k h = on_outcome_lem a refused k h (λ r l. record { it = l })
+then_tree : {A : Type 0} {ns : List ℕ} (a : Outcome A) (k : A → Outcome (Outcome TreeValue)) → Holds (OutcomeAmong ns) a → ((x : A) → Holds (EndsAmong ns) (k x)) → Holds (EndsAmong ns) (on_outcome a Err k)
+then_tree a k h = on_outcome_lem a Err k h (λ r l. record { it = l })
 
-value-tree : {ns : List ℕ} (x : Float) (count : ℕ) → Holds (EndsAmong ns) (given (Value x count))
+value-tree : {ns : List ℕ} (x : Float) (count : ℕ) → Holds (EndsAmong ns) (Ok (Ok (record { value = x; nodes = count })))
 value-tree x count = record { it = tt }
 
 -- the parts on the lists of the whole
@@ -73,7 +73,7 @@ unfolding tree_value
 tree_among ns e m calls room h =
     let grid = event_grid m.settlement m.bond calls m.controls in
     let made = wider-outcome grid_refusals built_refusals refl grid (grid_number_lem m.settlement m.bond calls m.controls) in
-    on_check_lem (tree_checks m calls) Refused _ h (λ r l. record { it = l })
+    on_check_lem (tree_checks m calls) Err _ h (λ r l. record { it = l })
     (ends_in built_refusals ns e (follow grid (lattice_value m room)) (then_tree grid (lattice_value m room) made (lattice_value-number m room)))
 
 tree-number : (m : Market) (calls : CallSchedule) (room : Room) → Holds (TreeAmong tree_refusals) (tree_value m calls room)
@@ -84,9 +84,9 @@ pub tree_numbers_lem : TreeNumbers
 tree_numbers_lem m calls room q h = subst (TreeAmong tree_refusals) h (tree-number m calls room).it
 
 -- A value has number 0.
-pub or_0 : {ns : List ℕ} (v : TreeValue) → TreeAmong ns v → Among (0 ∷ ns) (number_of v)
-or_0 (Value x n) h = one_of 0 refl
-or_0 (Refused q) h = one_more 0 q.number h
+pub or_0 : {ns : List ℕ} (v : Outcome TreeValue) → TreeAmong ns v → Among (0 ∷ ns) (number_of v)
+or_0 (Ok x) h = one_of 0 refl
+or_0 (Err q) h = one_more 0 (reason_number q.reason) h
 
 -- 24 is never given.
 pub tree_never_24 : (m : Market) (calls : CallSchedule) (room : Room) → number_of (tree_value m calls room) ≡ 24 → ⊥

@@ -1,23 +1,18 @@
 -- Without puts every answer is the old one. Assumes nothing.
-use Rattle.std.specs.Prelude.{ℕ, zero, suc, ◌≡◌, Bool, true, false, not, ◌&&◌, List, [], ◌∷◌, map, length, get_or, replicate, T, ℤ, pos}
+use Rattle.std.specs.Prelude.{ℕ, zero, suc, ◌≡◌, Bool, true, false, not, ◌&&◌, List, [], ◌∷◌, map, length, get_or, replicate, T, ℤ, pos, Ok, Err, Some, None}
 use Rattle.std.proofs.Math.Path.{refl, ap, fun_ext}
 use Rattle.std.proofs.Common.{sym, ◌∙◌, inl, inr}
 use Rattle.std.proofs.Math.Bool.{cond}
 use Rattle.std.proofs.Math.ListN.{get_or-map}
 use Rattle.std.specs.Float.Ieee.{Float, binary64, sub, neg, lt}
 use Rattle.floats.specs.declared.Refusal.{Refusal}
-use Rattle.floats.specs.declared.Answer.{Answer}
-use Rattle.floats.specs.declared.Answer.TheVariants as answer
-use Rattle.floats.specs.Answers.{plus_zero, one, refusal, tested}
+use Rattle.floats.specs.Answers.{Answer, plus_zero, one, refusal, tested, Check, Outcome, follow, on_outcome}
 use Rattle.terms.specs.declared.Settlement.{Settlement}
-use Rattle.terms.specs.declared.Check.{Check}
-use Rattle.terms.specs.declared.Check.TheVariants as check
 use Rattle.terms.specs.Numbers.{float, target_limit}
 use Rattle.terms.specs.Terms.{CallSchedule, Bond, TimeGrid, Market, no_entries, bond_with_puts, with_puts}
 use Rattle.terms.specs.Checks.{on_check, first_of, lowest}
 use Rattle.terms.specs.CallLists.{Entries}
 use Rattle.terms.specs.Entries as entries
-use Rattle.terms.specs.Outcomes.{Outcome, given, refused, follow, on_outcome}
 use Rattle.terms.specs.laws.Outcomes.{outcome-cases, follow-given, follow-refused}
 use Rattle.terms.specs.laws.Sequence.{indexed_of_none}
 use Rattle.terms.specs.laws.EntryChecks.{grid-calls, tree-grid, spread_is}
@@ -39,18 +34,16 @@ use Rattle.lattice.specs.Layers.{At, value_at, Room}
 use Rattle.lattice.specs.Lattice.{Layer, node_count}
 use Rattle.backwardinduction.specs.Walk.{node_value, rolled, walk_from}
 use Rattle.treebasedbondpricer.specs.declared.TreeValue.{TreeValue}
-use Rattle.treebasedbondpricer.specs.declared.TreeValue.TheVariants.{Value, Refused}
 use Rattle.treebasedbondpricer.specs.Tree.{fitted_tree, lattice_value_over, lattice_value, tree_value_over, tree_value, Lent, zeroed, lent_after}
 use Rattle.closingsheet.specs.Sheet.{sheet_of}
-use Rattle.sizing.specs.declared.Sizes.TheVariants as sizes
 use Rattle.sizing.specs.Sizing.{tree_widths, sizes_from, sizes_of, nodes_after}
-use Rattle.brackets.specs.declared.Root.TheVariants as root
-use Rattle.brackets.specs.Brackets.{bracketed_root}
+use Rattle.brackets.specs.Brackets.{no_root, bracketed_root}
 use Rattle.sought.specs.Objectives.{first_lower, first_upper}
 use Rattle.spreads.specs.Spreads.{Quoted, at_spread, quoted_checks, on_tree_value, spread_objective, solve_spread, spread_from_price}
 use Rattle.spreads.specs.Spreads as spreads
 use Rattle.promises.specs.Callable as callable
 use Rattle.promises.specs.Puts.{unput, as_grid, asked_with_puts, WithoutPuts}
+use Rattle.floats.specs.declared.Reason.TheVariants as reason
 
 -- ---- the checks
 
@@ -80,8 +73,8 @@ same_entry a bond e cs = rw (same_steps_lem a bond e a.steps 0 cs)
 
 follow-alike : {A B : Type 0} (o : Outcome A) (f g : A → Outcome B) → ((x : A) → f x ≡ g x) → follow o f ≡ follow o g
 unfolding on_outcome
-follow-alike (given x) f g h = h x
-follow-alike (refused r) f g h = refl
+follow-alike (Ok x) f g h = h x
+follow-alike (Err r) f g h = refl
 
 same_entries : (a : Axis) (bond : Bond) (ss es : List ℕ) (ks : List Float) (cs : List Exercise) → over_entries Call a bond ss es ks cs ≡ callable.over_entries a bond ss es ks cs
 unfolding over_entries callable.over_entries
@@ -95,7 +88,7 @@ same_entries a bond (s ∷ ss) (e ∷ es) (k ∷ ks) cs =
 called : (a : Axis) (bond : Bond) (calls : CallSchedule) → exercises Call a (bond_with_puts bond no_entries) calls ≡ callable.call_steps a bond calls
 called a bond calls = exercises-unread Call a bond no_entries calls ∙ same_entries a bond calls.starts calls.ends calls.strikes (replicate 513 none)
 
-no_puts : (a : Axis) (bond : Bond) → exercises Put a bond no_entries ≡ given (replicate 513 none)
+no_puts : (a : Axis) (bond : Bond) → exercises Put a bond no_entries ≡ Ok (replicate 513 none)
 no_puts a bond = unfold over_entries in refl
 
 -- ---- the steps of the grid
@@ -112,16 +105,16 @@ none_above c = go c.marked
     go true = tt
     go false = tt
 
-none-refused : (cs : List Exercise) → puts_below (map unput cs) ≡ check.Passed
+none-refused : (cs : List Exercise) → puts_below (map unput cs) ≡ Ok tt
 none-refused cs =
-    indexed_of_none 38 (λ k. put_above (get_or (map unput cs) k new_step)) (map unput cs) λ k l.
+    indexed_of_none reason.PutAbove (λ k. put_above (get_or (map unput cs) k new_step)) (map unput cs) λ k l.
     rw (get_or-map unput cs k none) (none_above (get_or cs k none))
 
 -- The steps that are given, of as many places as the grid has.
-given-steps : (a : Axis) (bond : Bond) (calls : CallSchedule) (cs : List Exercise) → length cs ≡ 513 → exercises Call a (bond_with_puts bond no_entries) calls ≡ given cs → call_steps a (bond_with_puts bond no_entries) calls ≡ given (map unput cs)
+given-steps : (a : Axis) (bond : Bond) (calls : CallSchedule) (cs : List Exercise) → length cs ≡ 513 → exercises Call a (bond_with_puts bond no_entries) calls ≡ Ok cs → call_steps a (bond_with_puts bond no_entries) calls ≡ Ok (map unput cs)
 given-steps a bond calls cs n h =
     let e : joined cs (replicate 513 none) ≡ map unput cs = ap (λ (k : ℕ). joined cs (replicate k none)) (sym n) ∙ beside_none cs in
-    of_parts a (bond_with_puts bond no_entries) calls cs (replicate 513 none) h (no_puts a (bond_with_puts bond no_entries)) (ap puts_below e ∙ none-refused cs) ∙ ap given e
+    of_parts a (bond_with_puts bond no_entries) calls cs (replicate 513 none) h (no_puts a (bond_with_puts bond no_entries)) (ap puts_below e ∙ none-refused cs) ∙ ap Ok e
 
 -- The grid: the old one in the new record.
 abbrev as_grid_of : callable.Grid → BondEventGrid
@@ -133,27 +126,27 @@ old_grid a bond cs = record { maturity = a.maturity; steps = a.steps; cashflows 
 
 old_grid_lem : (settlement : Settlement) (bond : Bond) (calls : CallSchedule) (controls : TimeGrid)
     → callable.event_grid settlement bond calls controls
-    ≡ follow (exercises Call (axis_of settlement bond.leg controls) (bond_with_puts bond no_entries) calls) λ cs. given (old_grid (axis_of settlement bond.leg controls) bond cs)
+    ≡ follow (exercises Call (axis_of settlement bond.leg controls) (bond_with_puts bond no_entries) calls) λ cs. Ok (old_grid (axis_of settlement bond.leg controls) bond cs)
 unfolding callable.event_grid
 old_grid_lem settlement bond calls controls =
     let a = axis_of settlement bond.leg controls in
-    sym (ap (λ (o : Outcome (List Exercise)). follow o λ cs. given (old_grid a bond cs)) (called a bond calls))
+    sym (ap (λ (o : Outcome (List Exercise)). follow o λ cs. Ok (old_grid a bond cs)) (called a bond calls))
 
-same_grid_lem : (settlement : Settlement) (bond : Bond) (calls : CallSchedule) (controls : TimeGrid) → Entries calls → event_grid settlement (bond_with_puts bond no_entries) calls controls ≡ follow (callable.event_grid settlement bond calls controls) λ g. given (as_grid_of g)
+same_grid_lem : (settlement : Settlement) (bond : Bond) (calls : CallSchedule) (controls : TimeGrid) → Entries calls → event_grid settlement (bond_with_puts bond no_entries) calls controls ≡ follow (callable.event_grid settlement bond calls controls) λ g. Ok (as_grid_of g)
 same_grid_lem settlement bond calls controls n =
     let a = axis_of settlement bond.leg controls in
     let other = bond_with_puts bond no_entries in
     elim (outcome-cases (exercises Call a other calls)) [
       | inl (cs, e) ↦
-          let old : callable.event_grid settlement bond calls controls ≡ given (old_grid a bond cs) = old_grid_lem settlement bond calls controls ∙ follow-given (exercises Call a other calls) (λ cs. given (old_grid a bond cs)) e in
+          let old : callable.event_grid settlement bond calls controls ≡ Ok (old_grid a bond cs) = old_grid_lem settlement bond calls controls ∙ follow-given (exercises Call a other calls) (λ cs. Ok (old_grid a bond cs)) e in
           grid_is settlement other calls controls
-          ∙ follow-given (call_steps a other calls) (λ steps. given (grid_of a other steps)) (given-steps a bond calls cs (lowest-prices Call a other calls n cs e).row e)
-          ∙ sym (follow-given (callable.event_grid settlement bond calls controls) (λ g. given (as_grid_of g)) old)
+          ∙ follow-given (call_steps a other calls) (λ steps. Ok (grid_of a other steps)) (given-steps a bond calls cs (lowest-prices Call a other calls n cs e).row e)
+          ∙ sym (follow-given (callable.event_grid settlement bond calls controls) (λ g. Ok (as_grid_of g)) old)
       | inr (r, e) ↦
-          let old : callable.event_grid settlement bond calls controls ≡ refused r = old_grid_lem settlement bond calls controls ∙ follow-refused (exercises Call a other calls) (λ cs. given (old_grid a bond cs)) e in
+          let old : callable.event_grid settlement bond calls controls ≡ Err r = old_grid_lem settlement bond calls controls ∙ follow-refused (exercises Call a other calls) (λ cs. Ok (old_grid a bond cs)) e in
           grid_is settlement other calls controls
-          ∙ follow-refused (call_steps a other calls) (λ steps. given (grid_of a other steps)) (refused-of_calls a other calls r e)
-          ∙ sym (follow-refused (callable.event_grid settlement bond calls controls) (λ g. given (as_grid_of g)) old)
+          ∙ follow-refused (call_steps a other calls) (λ steps. Ok (grid_of a other steps)) (refused-of_calls a other calls r e)
+          ∙ sym (follow-refused (callable.event_grid settlement bond calls controls) (λ g. Ok (as_grid_of g)) old)
     ]
 
 unput-none : (n : ℕ) → map unput (replicate n none) ≡ replicate n new_step
@@ -165,16 +158,16 @@ abbrev new_answer : Check → Outcome BondEventGrid → GridAnswer
 new_answer c o = on_check c refused_grid (on_outcome o refused_grid accepted_grid)
 
 abbrev old_answer : Check → Outcome callable.Grid → callable.GridAnswer
-old_answer c o = on_check c (λ r. record { refusal = r; grid = callable.zero_grid }) (on_outcome o (λ r. record { refusal = r; grid = callable.zero_grid }) λ g. record { refusal = record { number = 0; place = 0 }; grid = g })
+old_answer c o = on_check c (λ r. record { refusal = Some r; grid = callable.zero_grid }) (on_outcome o (λ r. record { refusal = Some r; grid = callable.zero_grid }) λ g. record { refusal = None; grid = g })
 
-zero-grids : (r : Refusal) → refused_grid r ≡ as_grid (record { refusal = r; grid = callable.zero_grid })
-zero-grids r = ap (λ (z : List CallStep). record { refusal = r; grid = record { maturity_time = plus_zero; steps = 0; cashflows = replicate 513 plus_zero; calls = z } }) (sym (unput-none 513))
+zero-grids : (r : Refusal) → refused_grid r ≡ as_grid (record { refusal = Some r; grid = callable.zero_grid })
+zero-grids r = ap (λ (z : List CallStep). record { refusal = Some r; grid = record { maturity_time = plus_zero; steps = 0; cashflows = replicate 513 plus_zero; calls = z } }) (sym (unput-none 513))
 
-answers : (c : Check) (o : Outcome callable.Grid) → new_answer c (follow o λ g. given (as_grid_of g)) ≡ as_grid (old_answer c o)
+answers : (c : Check) (o : Outcome callable.Grid) → new_answer c (follow o λ g. Ok (as_grid_of g)) ≡ as_grid (old_answer c o)
 unfolding on_check on_outcome
-answers (check.Refused r) o = zero-grids r
-answers check.Passed (given g) = refl
-answers check.Passed (refused r) = zero-grids r
+answers (Err r) o = zero-grids r
+answers (Ok tt) (Ok g) = refl
+answers (Ok tt) (Err r) = zero-grids r
 
 same_answer : (settlement : Settlement) (bond : Bond) (calls : CallSchedule) (controls : TimeGrid) → grid_answer settlement (bond_with_puts bond no_entries) calls controls ≡ as_grid (callable.grid_answer settlement bond calls controls)
 unfolding grid_answer callable.grid_answer on_check
@@ -184,11 +177,11 @@ same_answer settlement bond calls controls = go (entries.grid_checks settlement 
     other = bond_with_puts bond no_entries
 
     go : (c : Check) → entries.grid_checks settlement other calls controls ≡ c → grid_answer settlement other calls controls ≡ as_grid (callable.grid_answer settlement bond calls controls)
-    go (check.Refused r) e =
+    go (Err r) e =
         ap (λ (c : Check). new_answer c (event_grid settlement other calls controls)) e
         ∙ zero-grids r
         ∙ sym (ap (λ (c : Check). as_grid (old_answer c (callable.event_grid settlement bond calls controls))) (sym (grid_checks_lem settlement bond calls controls) ∙ e))
-    go check.Passed e =
+    go (Ok tt) e =
         ap (λ (o : Outcome BondEventGrid). new_answer (entries.grid_checks settlement other calls controls) o) (same_grid_lem settlement bond calls controls (call-entries calls (grid-calls settlement other calls controls e)))
         ∙ answers (entries.grid_checks settlement other calls controls) (callable.event_grid settlement bond calls controls)
         ∙ ap (λ (c : Check). as_grid (old_answer c (callable.event_grid settlement bond calls controls))) (grid_checks_lem settlement bond calls controls)
@@ -225,16 +218,16 @@ same_tree : (m : Market) (room : Room) (g : callable.Grid) → lattice_value (wi
 unfolding lattice_value_over callable.lattice_value
 same_tree m room g =
     follow-alike (fitted_tree m room g.maturity g.steps) _ _
-    (λ f. ap (λ (o : Outcome (List At)). follow o λ row. given (Value (value_at (pos 0) row) (node_count f.tree))) (same_walk f.dt m.spread g.cashflows g.calls 0 f.tree.layers f.shifts f.tree.final))
+    (λ f. ap (λ (o : Outcome (List At)). follow o λ row. Ok (Ok (record { value = (value_at (pos 0) row); nodes = (node_count f.tree) }))) (same_walk f.dt m.spread g.cashflows g.calls 0 f.tree.layers f.shifts f.tree.final))
 
 -- What is made of the checks, the grid and the tree.
 values : (c : Check) (m : Market) (room : Room) (o : Outcome callable.Grid)
-    → on_check c Refused (on_outcome (follow (follow o λ g. given (as_grid_of g)) λ g. lattice_value (with_puts m no_entries) room g) Refused λ v. v)
-    ≡ on_check c Refused (on_outcome (follow o λ g. callable.lattice_value m room g) Refused λ v. v)
+    → on_check c Err (on_outcome (follow (follow o λ g. Ok (as_grid_of g)) λ g. lattice_value (with_puts m no_entries) room g) Err λ v. v)
+    ≡ on_check c Err (on_outcome (follow o λ g. callable.lattice_value m room g) Err λ v. v)
 unfolding on_check on_outcome
-values (check.Refused r) m room o = refl
-values check.Passed m room (given g) = ap (λ (v : Outcome TreeValue). on_outcome v Refused λ v. v) (same_tree m room g)
-values check.Passed m room (refused r) = refl
+values (Err r) m room o = refl
+values (Ok tt) m room (Ok g) = ap (λ (v : Outcome (Outcome TreeValue)). on_outcome v Err λ v. v) (same_tree m room g)
+values (Ok tt) m room (Err r) = refl
 
 same_value_lem : (m : Market) (calls : CallSchedule) (room : Room) → tree_value (with_puts m no_entries) calls room ≡ callable.tree_value m calls room
 unfolding tree_value tree_value_over callable.tree_value on_check
@@ -244,14 +237,14 @@ same_value_lem m calls room = go (entries.tree_checks (with_puts m no_entries) c
     old = callable.event_grid m.settlement m.bond calls m.controls
 
     go : (c : Check) → entries.tree_checks (with_puts m no_entries) calls ≡ c → tree_value (with_puts m no_entries) calls room ≡ callable.tree_value m calls room
-    go (check.Refused r) e =
-        ap (λ (c : Check). on_check c Refused (on_outcome (follow (event_grid m.settlement (bond_with_puts m.bond no_entries) calls m.controls) λ g. lattice_value (with_puts m no_entries) room g) Refused λ v. v)) e
-        ∙ sym (ap (λ (c : Check). on_check c Refused (on_outcome (follow old λ g. callable.lattice_value m room g) Refused λ v. v)) (sym (tree_checks_lem m calls) ∙ e))
-    go check.Passed e =
-        ap (λ (o : Outcome BondEventGrid). on_check (entries.tree_checks (with_puts m no_entries) calls) Refused (on_outcome (follow o λ g. lattice_value (with_puts m no_entries) room g) Refused λ v. v))
+    go (Err r) e =
+        ap (λ (c : Check). on_check c Err (on_outcome (follow (event_grid m.settlement (bond_with_puts m.bond no_entries) calls m.controls) λ g. lattice_value (with_puts m no_entries) room g) Err λ v. v)) e
+        ∙ sym (ap (λ (c : Check). on_check c Err (on_outcome (follow old λ g. callable.lattice_value m room g) Err λ v. v)) (sym (tree_checks_lem m calls) ∙ e))
+    go (Ok tt) e =
+        ap (λ (o : Outcome BondEventGrid). on_check (entries.tree_checks (with_puts m no_entries) calls) Err (on_outcome (follow o λ g. lattice_value (with_puts m no_entries) room g) Err λ v. v))
         (same_grid_lem m.settlement m.bond calls m.controls (call-entries calls (grid-calls m.settlement (bond_with_puts m.bond no_entries) calls m.controls (tree-grid (with_puts m no_entries) calls e))))
         ∙ values (entries.tree_checks (with_puts m no_entries) calls) m room old
-        ∙ ap (λ (c : Check). on_check c Refused (on_outcome (follow old λ g. callable.lattice_value m room g) Refused λ v. v)) (tree_checks_lem m calls)
+        ∙ ap (λ (c : Check). on_check c Err (on_outcome (follow old λ g. callable.lattice_value m room g) Err λ v. v)) (tree_checks_lem m calls)
 
 same_slices : (m : Market) (calls : CallSchedule) (lent : Lent) → lent_after (with_puts m no_entries) calls lent ≡ callable.lent_after m calls lent
 unfolding lent_after callable.lent_after
@@ -266,8 +259,8 @@ same_widths m room = refl
 same_sizes : (m : Market) (calls : CallSchedule) (room : ℕ) → sizes_of (with_puts m no_entries) calls room ≡ callable.sizes_of m calls room
 unfolding sizes_of callable.sizes_of
 same_sizes m calls room =
-    ap (λ (c : Check). on_check c sizes.Refused (on_outcome (tree_widths (with_puts m no_entries) room) sizes.Refused sizes_from)) (tree_checks_lem m calls)
-    ∙ ap (λ (o : Outcome (List ℕ)). on_check (callable.market_checks (float 1) m calls) sizes.Refused (on_outcome o sizes.Refused sizes_from)) (same_widths m room)
+    ap (λ (c : Check). on_check c Err (on_outcome (tree_widths (with_puts m no_entries) room) Err sizes_from)) (tree_checks_lem m calls)
+    ∙ ap (λ (o : Outcome (List ℕ)). on_check (callable.market_checks (float 1) m calls) Err (on_outcome o Err sizes_from)) (same_widths m room)
 
 same_nodes : (m : Market) (calls : CallSchedule) (nodes : List ℤ) → nodes_after (with_puts m no_entries) calls nodes ≡ callable.nodes_after m calls nodes
 unfolding nodes_after callable.nodes_after
@@ -281,13 +274,13 @@ module _ (asked : Quoted) (calls : CallSchedule) where
 
   same_try : (room : Room) (x : Float) → spread_objective (asked_with_puts asked no_entries) calls room x ≡ callable.spread_objective asked calls room x
   unfolding spread_objective callable.spread_objective
-  same_try room x = ap (λ (v : TreeValue). cond (lt one x) (refusal 36 0) (on_tree_value v answer.Refused λ y. tested (sub binary64 y asked.target) 0)) (same_value_lem (at_spread asked x) calls room)
+  same_try room x = ap (λ (v : Outcome TreeValue). cond (lt one x) (refusal reason.SpreadAbove 0) (on_tree_value v Err λ y. tested (sub binary64 y asked.target) 0)) (same_value_lem (at_spread asked x) calls room)
 
   same_root : (room : Room) → spread_from_price (asked_with_puts asked no_entries) calls room ≡ callable.spread_from_price asked calls room
   unfolding spread_from_price callable.spread_from_price
   same_root room =
-      ap (λ (c : Check). on_check c (λ r. root.Refused r 0) (solve_spread (asked_with_puts asked no_entries) calls room)) quoted_checks_lem
-      ∙ ap (λ (f : Float → Answer). on_check (callable.market_checks target_limit (at_spread asked asked.target) calls) (λ r. root.Refused r 0) (bracketed_root f first_lower first_upper (neg one))) (fun_ext (same_try room))
+      ap (λ (c : Check). on_check c (λ r. no_root r 0) (solve_spread (asked_with_puts asked no_entries) calls room)) quoted_checks_lem
+      ∙ ap (λ (f : Float → Answer). on_check (callable.market_checks target_limit (at_spread asked asked.target) calls) (λ r. no_root r 0) (bracketed_root f first_lower first_upper (neg one))) (fun_ext (same_try room))
 
   same_spread_slices : (lent : Lent) → spreads.lent_after (asked_with_puts asked no_entries) calls lent ≡ callable.lent_after_spread asked calls lent
   unfolding spreads.lent_after callable.lent_after_spread

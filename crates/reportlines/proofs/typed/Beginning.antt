@@ -92,9 +92,11 @@ module _ (text : List ℕ) (line : ℕ) where
       ∙ ap (λ (n : ℕ). get_or (lines_of text) n []) (add-zero (line - 1))
 
   pub up_to_comment : (at : ℕ) {end comment : ℕ} → Begins text line at → end ≡ run_end (is_other 10) text at → comment ≡ run_end (is_other 35) (between at end text) 0
-      → between 0 comment (between at end text) ≡ typed_line text line
-  up_to_comment at {end} b e c =
-      ap (λ (n : ℕ). between 0 n (between at end text)) c ∙ ap (λ (n : ℕ). uncommented (between at n text)) e ∙ ap uncommented (found at b)
+      → take comment (between at end text) ≡ typed_line text line
+  up_to_comment at {end} {comment} b e c =
+      let all : comment ≡ comment - 0 = omega arith in
+      ap (λ (n : ℕ). take n (between at end text)) all
+      ∙ ap (λ (n : ℕ). between 0 n (between at end text)) c ∙ ap (λ (n : ℕ). uncommented (between at n text)) e ∙ ap uncommented (found at b)
 
 pub end-within : (text : List ℕ) (line at : ℕ) {end : ℕ} → Begins text line at → end ≡ run_end (is_other 10) text at → end ≤ length text
 end-within text line at b e = rw e (run_within (is_other 10) text at b.within)

@@ -1,68 +1,61 @@
 -- mul_add's sum from the digits and places of its three numbers.
 use mathlib.Core.Path.{◌≡◌, refl, sym, ap, ◌∙◌}
 use Prim.Native.Nat.{ℕ, ◌+◌, ◌*◌, ◌/◌, ◌%◌, ◌^◌, ◌≤◌, ◌<◌}
-use native.Mathlib.Nat.{add-zero, le_of_eq, le-add_right, le_trans, lt_of_le_of_lt, lt_of_lt_of_le, lt_of_mul-lt-mul_right, mul_assoc, mul_comm, mul_left_comm, mul-le-mul, mul-pos, mul-lt-mul_of_pos_right, zero-mul}
+use native.Mathlib.Nat.{mod-eq_of_lt, mul-mod_left, le_of_eq, le_trans, lt_of_le_of_lt, lt_of_lt_of_le, mul_assoc, mul_comm, mul_left_comm, mul-le-mul, mul-pos, mul-lt-mul_of_pos_right, zero-mul}
 use native.Mathlib.Omega.{arith}
 use mathlib.Core.Bool.{Bool}
 use lib.Pow.{pow-add, pow_pos}
 use lib.Ieee.{Float, unlike}
-use lib.Ieee.Positive.{num, den, den_pos}
+use lib.Ieee.Positive.{num, den, den_pos, first_pos}
 use Rattle.rounded.specs.Fused.{is_negative, rounded_sum, mul_add}
 use Rattle.rounded.specs.laws.Packing.{word, scale, scale_is}
 use Rattle.rounded.specs.laws.Parts.{Digits, Joinable, Parted, middle, middle_is}
 use Rattle.rounded.specs.laws.Sums.{none_with, rounded_sum_same, with_none}
 
+-- ---- the addend's digits, one word up
+
+pub upper : (c : ℕ) → c < word → c * word % 340282366920938463463374607431768211456 ≡ c * word
+upper c h = mod-eq_of_lt (omega arith)
+
 -- ---- one part is 0
 
-pub vanished : (s t : Bool) (a b e c e2 : ℕ) → a * b ≡ 0 → {r : Float} → r ≡ rounded_sum t ((c * word + 0) * 2 ^ e2) t 0 (2 ^ scale) → r ≡ rounded_sum s (a * b * 2 ^ e) t (c * word * 2 ^ e2) (2 ^ scale)
-vanished s t a b e c e2 z given =
+pub vanished : (s t : Bool) (p a b e q : ℕ) → p ≡ a * b → p ≡ 0 → {r : Float} → r ≡ rounded_sum t q t 0 (2 ^ scale) → r ≡ rounded_sum s (a * b * 2 ^ e) t q (2 ^ scale)
+vanished s t p a b e q h z given =
     given
-    ∙ (ap (λ (x : ℕ). rounded_sum t (x * 2 ^ e2) t 0 (2 ^ scale)) (add-zero (c * word))
-    ∙ none_with s t (c * word * 2 ^ e2) (2 ^ scale) (pow_pos scale)
-    ∙ ap (λ (x : ℕ). rounded_sum s x t (c * word * 2 ^ e2) (2 ^ scale)) (sym (ap (λ (x : ℕ). x * 2 ^ e) z ∙ zero-mul (2 ^ e))))
+    ∙ none_with s t q (2 ^ scale) (pow_pos scale)
+    ∙ ap (λ (x : ℕ). rounded_sum s x t q (2 ^ scale)) (sym (ap (λ (x : ℕ). x * 2 ^ e) (sym h ∙ z) ∙ zero-mul (2 ^ e)))
 
-pub unadded : (s t : Bool) (p a b e c e2 : ℕ) → p ≡ a * b → c ≡ 0 → {r : Float} → r ≡ rounded_sum s (p * 2 ^ e) s 0 (2 ^ scale) → r ≡ rounded_sum s (a * b * 2 ^ e) t (c * word * 2 ^ e2) (2 ^ scale)
+pub unadded : (s t : Bool) (p a b e c e2 : ℕ) → p ≡ a * b → c ≡ 0 → {r : Float} → r ≡ rounded_sum s (p * 2 ^ e) s 0 (2 ^ scale) → r ≡ rounded_sum s (a * b * 2 ^ e) t (c * 2 ^ e2) (2 ^ scale)
 unadded s t p a b e c e2 h z given =
     given
     ∙ (ap (λ (x : ℕ). rounded_sum s (x * 2 ^ e) s 0 (2 ^ scale)) h
     ∙ sym (with_none s t (a * b * 2 ^ e) (2 ^ scale))
-    ∙ ap (λ (x : ℕ). rounded_sum s (a * b * 2 ^ e) t x (2 ^ scale)) (sym (ap (λ (x : ℕ). x * word * 2 ^ e2) z ∙ ap (λ (x : ℕ). x * 2 ^ e2) (zero-mul word) ∙ zero-mul (2 ^ e2))))
+    ∙ ap (λ (x : ℕ). rounded_sum s (a * b * 2 ^ e) t x (2 ^ scale)) (sym (ap (λ (x : ℕ). x * 2 ^ e2) z ∙ zero-mul (2 ^ e2))))
 
 pub multiplied : (s t : Bool) (p a b e q : ℕ) → p ≡ a * b → {r : Float} → r ≡ rounded_sum s (p * 2 ^ e) t q (2 ^ scale) → r ≡ rounded_sum s (a * b * 2 ^ e) t q (2 ^ scale)
 multiplied s t p a b e q h given = given ∙ ap (λ (x : ℕ). rounded_sum s (x * 2 ^ e) t q (2 ^ scale)) h
 
-pub left_zero : (a b : ℕ) → a ≡ 0 → a * b ≡ 0
-left_zero a b z = ap (λ (x : ℕ). x * b) z ∙ zero-mul b
+-- ---- the product of two numbers of 63 digits
 
-pub right_zero : (a b : ℕ) → b ≡ 0 → a * b ≡ 0
-right_zero a b z = mul_comm a b ∙ left_zero b a z
+module _ (p a b c : ℕ) (A : Digits a) (B : Digits b) (C : Digits c) (h : p ≡ a * b) where
+  some : (p ≡ 0 → ⊥) → 1 ≤ a × 1 ≤ b
+  some n = let k : 0 < a * b = omega arith in (first_pos a b k, first_pos b a (le_trans k (le_of_eq (mul_comm a b))))
 
-pub some : (a : ℕ) → (a ≡ 0 → ⊥) → 1 ≤ a
-some a h = omega arith
-
--- ---- the words of a product of two numbers of 63 digits
-
-module _ (a b c high low : ℕ) (A : Digits a) (B : Digits b) (C : Digits c) (fits : low < word) (p : high * word + low ≡ a * b) where
-  pub joinable : 1 ≤ a → 1 ≤ b → 1 ≤ c → Joinable high low c
-  joinable u v w = record {
-    least = le_of_lt-suc (lt_of_mul-lt-mul_right word (lt_of_le_of_lt (mul-le-mul {n₁ = 4611686018427387904} {m₁ = 4611686018427387904} (A.full u) (B.full v)) (lt_of_le_of_lt (le_of_eq (sym p)) (short high low fits))));
-    most = lt_of_mul-lt-mul_right word (lt_of_le_of_lt (le_trans (le-add_right (high * word) low) (le_of_eq p)) (lt_of_lt_of_le (mul-lt-mul_of_pos_right A.short v) (mul-le-mul {n₁ = 9223372036854775808} {m₁ = b} (le_of_eq refl) (le_of_lt B.short))));
-    even = last high low (ap (λ (x : ℕ). x % 2) p ∙ twice a b A.even);
-    full = C.full w;
-    short = C.short;
-  }
+  pub joinable : (p ≡ 0 → ⊥) → (c * word ≡ 0 → ⊥) → Joinable p (c * word)
+  joinable n m =
+      let u = some n in
+      let v : 1 ≤ c = omega arith in
+      record {
+        least = le_trans (mul-le-mul {n₁ = 4611686018427387904} {m₁ = 4611686018427387904} (A.full u.0) (B.full u.1)) (le_of_eq (sym h));
+        most = lt_of_le_of_lt (le_of_eq h) (lt_of_lt_of_le (mul-lt-mul_of_pos_right A.short u.1) (mul-le-mul {n₁ = 9223372036854775808} {m₁ = b} (le_of_eq refl) (le_of_lt B.short)));
+        even = ap (λ (z : ℕ). z % 2) h ∙ twice a b A.even;
+        full = let f = C.full v in omega arith;
+        short = let f = C.short in omega arith;
+        upper = mul-mod_left c word;
+      }
     where
-      short : (h l : ℕ) → l < word → h * word + l < (h + 1) * word
-      short h l k = omega arith
-
-      le_of_lt-suc : 1152921504606846976 < high + 1 → 1152921504606846976 ≤ high
-      le_of_lt-suc k = omega arith
-
       le_of_lt : {m n : ℕ} → m < n → m ≤ n
       le_of_lt k = omega arith
-
-      last : (h l : ℕ) → (h * word + l) % 2 ≡ 0 → l % 2 ≡ 0
-      last h l e = omega arith
 
       twice : (m n : ℕ) → m % 2 ≡ 0 → m * n % 2 ≡ 0
       twice m n e =

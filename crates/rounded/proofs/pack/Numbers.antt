@@ -2,10 +2,10 @@
 use mathlib.Core.Path.{◌≡◌, refl, sym, ap, ◌∙◌, subst}
 use mathlib.Core.Logic.{◌⊎◌, inl, inr}
 use Prim.Native.Nat.{ℕ, zero, suc, ◌+◌, ◌-◌, ◌*◌, ◌/◌, ◌%◌, ◌^◌, ◌≤◌, ◌<◌}
-use native.Mathlib.Nat.{mul-one, mul_comm, mul_assoc, add_assoc, sub-add_cancel, mod-eq_of_lt, lt_of_mul-lt-mul_right, le-add_right, add-zero, add-mul, div-div-eq-div-mul, div-le_self, one-mul, le_trans, le_of_eq, mul-le-mul_right, div-add-mod', mod-lt, pow-succ', div-lt_iff_lt-mul}
+use native.Mathlib.Nat.{le_of_mul-le-mul_right, lt_of_lt_of_le, lt_of_le_of_lt, lt_of_mul-lt-mul_right, le-add_right, add-zero, add-mul, div-div-eq-div-mul, div-le_self, one-mul, le_trans, le_of_eq, mul-le-mul_right, div-add-mod', mod-lt, pow-succ'}
 use native.Mathlib.Omega.{arith}
-use lib.Arith.{digits_lt}
-use lib.Pow.{pow-add, pow_pos, shl_exact, shl_lt}
+use lib.Count.{count_leading_zeros, leading_top}
+use lib.Pow.{pow_mono, pow-add, pow_pos, shl_exact, shl_lt}
 use lib.Ieee.Nearest.{closest}
 use Rattle.rounded.specs.laws.Packing.{word, Lifted, Stuck}
 use Rattle.rounded.specs.laws.RoundToOdd.{Odd, exact, near, ordered, closest_down, closest_up, closest-tie}
@@ -80,42 +80,71 @@ pub stuck_ge : (w rest r : ℕ) → Stuck w rest r → w ≤ r
 stuck_ge w zero r s = le_of_eq (sym (s.none refl))
 stuck_ge w (suc rest) r s = le_trans (le-add_right w (1 - w % 2)) (le_of_eq (sym (s.some (omega arith))))
 
--- ---- the leading digits of two words
+-- ---- a number of 128 digits moved down
 
-module _ (high low p : ℕ) (h : Lifted high p) (l : low < word) where
-  split : 2 ^ (64 - p) * 2 ^ p ≡ word
-  split = sym (pow-add 2 (64 - p) p) ∙ ap (λ (z : ℕ). 2 ^ z) (sub-add_cancel (le_trans h.few (omega arith)))
+wide_unit-is : (p : ℕ) → p ≤ 127 → 1 * 2 ^ p % 340282366920938463463374607431768211456 ≡ 2 ^ p
+wide_unit-is p h = shl_exact 1 p 128 (omega arith) (omega arith) ∙ one-mul (2 ^ p)
 
-  high_lt : high < 2 ^ (64 - p)
-  high_lt = lt_of_mul-lt-mul_right (2 ^ p) (subst (λ (z : ℕ). high * 2 ^ p < z) (sym split) h.fits)
+module _ (w p : ℕ) (h : p ≤ 127) where
+  stuck_odd : (r : ℕ) → Stuck (w / 2 ^ p) (w % 2 ^ p) r → Odd w (2 ^ p) r
+  stuck_odd r s = odd_stuck w (2 ^ p) (w / 2 ^ p) (w % 2 ^ p) r (sym (div-add-mod' w (2 ^ p))) (mod-lt w (pow_pos p)) s
 
-  low_lt : low / 2 ^ (64 - p) < 2 ^ p
-  low_lt = (div-lt_iff_lt-mul (pow_pos (64 - p))).1 (subst (λ (z : ℕ). low < z) (sym (mul_comm (2 ^ p) (2 ^ (64 - p)) ∙ split)) l)
+  pub cut_even : w % (1 * 2 ^ p % 340282366920938463463374607431768211456) ≡ 0 → Odd w (2 ^ p) (w / 2 ^ p)
+  cut_even e =
+      let z : w % 2 ^ p ≡ 0 = rw (wide_unit-is p h) at e in
+      stuck_odd (w / 2 ^ p) (record { none = λ _. refl; some = λ g. absurd (omega arith) })
 
-  -- the two parts make one word
-  pub parts-fit : high * 2 ^ p % word + low / 2 ^ (64 - p) < word
-  parts-fit = subst (λ (z : ℕ). z + low / 2 ^ (64 - p) < word) (sym (mod-eq_of_lt h.fits)) (subst (λ (z : ℕ). high * 2 ^ p + low / 2 ^ (64 - p) < z) split (digits_lt high_lt low_lt))
+  pub cut_odd : (w % (1 * 2 ^ p % 340282366920938463463374607431768211456) ≡ 0 → ⊥) → Odd w (2 ^ p) (w / 2 ^ p + (1 - w / 2 ^ p % 2))
+  cut_odd n =
+      let z : w % 2 ^ p ≡ 0 → ⊥ = rw (wide_unit-is p h) at n in
+      stuck_odd (w / 2 ^ p + (1 - w / 2 ^ p % 2)) (record { none = λ g. absurd (z g); some = λ _. refl })
 
-  parts : high * word + low ≡ (high * 2 ^ p % word + low / 2 ^ (64 - p)) * 2 ^ (64 - p) + low % 2 ^ (64 - p)
-  parts =
-      ap (λ (z : ℕ). high * z + low) (sym (mul_comm (2 ^ p) (2 ^ (64 - p)) ∙ split))
-      ∙ ap (λ (z : ℕ). z + low) (sym (mul_assoc high (2 ^ p) (2 ^ (64 - p))))
-      ∙ ap (λ (z : ℕ). high * 2 ^ p * 2 ^ (64 - p) + z) (sym (div-add-mod' low (2 ^ (64 - p))))
-      ∙ sym (add_assoc (high * 2 ^ p * 2 ^ (64 - p)) (low / 2 ^ (64 - p) * 2 ^ (64 - p)) (low % 2 ^ (64 - p)))
-      ∙ ap (λ (z : ℕ). z + low % 2 ^ (64 - p)) (sym (add-mul (high * 2 ^ p) (low / 2 ^ (64 - p)) (2 ^ (64 - p))))
-      ∙ ap (λ (z : ℕ). (z + low / 2 ^ (64 - p)) * 2 ^ (64 - p) + low % 2 ^ (64 - p)) (sym (mod-eq_of_lt h.fits))
+-- by more places than it has digits
+pub one_odd : (w p : ℕ) → 1 ≤ w → w < 340282366920938463463374607431768211456 → 128 ≤ p → Odd w (2 ^ p) 1
+one_odd w p h k g = at w (2 ^ p) h (lt_of_lt_of_le k (pow_mono {i = 128} g))
+  where
+    at : (X D : ℕ) → 0 < X → X < D → Odd X D 1
+    at X D h k = near {X = X} {D = D} {w = 1} refl (omega arith) (omega arith)
 
-  pub leading-odd : (r : ℕ) → 1 ≤ p → Stuck (high * 2 ^ p % word + low / 2 ^ (64 - p)) (low % unit (64 - p)) r
-      → Odd (high * word + low) (2 ^ (64 - p)) r × (9223372036854775808 ≤ r)
-  leading-odd r one s =
-      let t : Stuck (high * 2 ^ p % word + low / 2 ^ (64 - p)) (low % 2 ^ (64 - p)) r =
-      subst (λ (u : ℕ). Stuck (high * 2 ^ p % word + low / 2 ^ (64 - p)) (low % u) r) (unit-is (64 - p) (omega arith)) s in (
-        odd_stuck (high * word + low) (2 ^ (64 - p)) (high * 2 ^ p % word + low / 2 ^ (64 - p)) (low % 2 ^ (64 - p)) r parts (mod-lt low (pow_pos (64 - p))) t,
-        le_trans h.full (le_trans (le_of_eq (sym (mod-eq_of_lt h.fits))) (le_trans (le-add_right (high * 2 ^ p % word) (low / 2 ^ (64 - p))) (stuck_ge (high * 2 ^ p % word + low / 2 ^ (64 - p)) (low % 2 ^ (64 - p)) r t))),
-      )
+-- ---- its 64 leading digits
 
-  pub whole-odd : (r : ℕ) → p ≡ 0 → Stuck high low r → Odd (high * word + low) (2 ^ (64 - p)) r × (9223372036854775808 ≤ r)
-  whole-odd r z s = (
-    subst (λ (u : ℕ). Odd (high * word + low) (2 ^ (64 - u)) r) (sym z) (odd_stuck (high * word + low) word high low r refl l s),
-    le_trans (subst (λ (u : ℕ). 9223372036854775808 ≤ high * 2 ^ u) z h.full) (le_trans (le_of_eq (mul-one high)) (stuck_ge high low r s)),
-  )
+low_zeros : count_leading_zeros 128 0 ≡ 128
+unfolding count_leading_zeros
+low_zeros = refl
+
+pub few-digits : (w : ℕ) → w < 340282366920938463463374607431768211456 → 64 ≤ count_leading_zeros 128 w → w < word
+few-digits zero h k = omega arith
+few-digits (suc n) h k =
+    let t = leading_top 128 (suc n) (omega arith) h in
+    lt_of_lt_of_le t.3 (pow_mono {i = suc t.0} {j = 64} (let e = t.1 in omega arith))
+
+pub some_digit : (w : ℕ) → count_leading_zeros 128 w < 64 → 1 ≤ w
+some_digit zero k = absurd (let e = low_zeros in omega arith)
+some_digit (suc n) k = omega arith
+
+-- a quotient of 64 digits, rounded to odd, has no more of them
+module _ (X D r : ℕ) (D-pos : 0 < D) (lo : 9223372036854775808 * D ≤ X) (hi : X < word * D) where
+  pub odd_full : Odd X D r → 9223372036854775808 ≤ r
+  odd_full (exact e) = le_of_mul-le-mul_right (le_trans lo (le_of_eq e)) D-pos
+  odd_full (near o u l) =
+      let k : 9223372036854775808 * D < (r + 1) * D = lt_of_le_of_lt lo (lt_of_lt_of_le u (le_of_eq (sym (add-mul r 1 D ∙ ap (λ (z : ℕ). r * D + z) (one-mul D))))) in
+      let g : 9223372036854775808 < r + 1 = lt_of_mul-lt-mul_right D k in
+      omega arith
+
+  pub odd_fits : Odd X D r → r < word
+  odd_fits (exact e) = lt_of_mul-lt-mul_right D (lt_of_le_of_lt (le_of_eq (sym e)) hi)
+  odd_fits (near o u l) =
+      let m : (word + 1) * D ≡ word * D + D = add-mul word 1 D ∙ ap (λ (z : ℕ). word * D + z) (one-mul D) in
+      let k : r * D < (word + 1) * D = omega arith in
+      let g : r < word + 1 = lt_of_mul-lt-mul_right D k in
+      omega arith
+
+module _ (w r : ℕ) (h : w < 340282366920938463463374607431768211456) (k : count_leading_zeros 128 w < 64) (o : Odd w (2 ^ (64 - count_leading_zeros 128 w)) r) where
+  pub leading : (9223372036854775808 ≤ r) × (r < word)
+  leading =
+      let t = leading_top 128 w (some_digit w k) h in
+      let e = t.1 in
+      let p = 64 - count_leading_zeros 128 w in
+      let lo : 9223372036854775808 * 2 ^ p ≤ w = le_trans (le_of_eq (sym (pow-add 2 63 p) ∙ ap (λ (z : ℕ). 2 ^ z) (omega arith))) t.2 in
+      let hi : w < word * 2 ^ p = lt_of_lt_of_le t.3 (le_of_eq (ap (λ (z : ℕ). 2 ^ z) (omega arith) ∙ pow-add 2 64 p)) in
+      (odd_full w (2 ^ p) r (pow_pos p) lo hi o, odd_fits w (2 ^ p) r (pow_pos p) lo hi o)

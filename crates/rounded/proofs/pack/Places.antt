@@ -64,9 +64,6 @@ nothing s w e z =
     ∙ round-word binary64 s 0 0 scale 0 1262 (omega (arith, scale_is)) (pow_pos (53 + 1262)) (inl refl)
     ∙ ap (λ (q : ℕ). units binary64 s q 0) (closest_down 0 (2 ^ 1262) 0 0 refl (pow_pos 1262))
 
-pub only-low : (high low : ℕ) → high ≡ 0 → low ≡ high * word + low
-only-low high low e = omega arith
-
 -- a word moved up by p places, and its exponent down
 pub moved : (s : Bool) (w p e : ℕ) → Lifted w p → p ≤ e → round binary64 s (w * 2 ^ p % word * 2 ^ (e - p)) (2 ^ scale) ≡ round binary64 s (w * 2 ^ e) (2 ^ scale)
 moved s w p e h l =

@@ -2,10 +2,11 @@
 -- Assumes nothing.
 use mathlib.Core.Path.{◌≡◌, sym, ap, ◌∙◌, subst}
 use mathlib.Core.Bool.{Bool, false}
-use Prim.Native.Nat.{ℕ, ◌+◌, ◌*◌, ◌^◌, ◌≤◌, ◌<◌}
-use native.Mathlib.Nat.{mul-pos, mul_assoc, mul_right_comm, eq_of_mul-eq-mul_right}
+use Prim.Native.Nat.{ℕ, ◌+◌, ◌*◌, ◌%◌, ◌^◌, ◌≤◌, ◌<◌}
+use native.Mathlib.Nat.{lt_of_lt_of_le, le_trans, le_of_eq, mul-lt-mul_of_pos_right, mul-le-mul, mul-le-mul_left, mod-eq_of_lt, mul-pos, mul_assoc, mul_right_comm, eq_of_mul-eq-mul_right}
+use native.Mathlib.Omega.{arith}
 use lib.Dec.{T}
-use lib.Pow.{pow-add, pow_pos}
+use lib.Pow.{pow-add, pow_pos, pow_mono}
 use lib.Ieee.{Float, binary64, fits, round}
 use lib.Ieee.Positive.{num, den, den_pos, positive, positive-finite, own_value, value_pos, first_pos}
 use Rattle.rounded.specs.Root.{root_of}
@@ -14,6 +15,21 @@ use Rattle.rounded.specs.laws.Parts.{Parted, middle}
 use Rattle.rounded.specs.laws.RootValue.{Doubled, number, number_is, number-below}
 use Rattle.rounded.specs.laws.Sized.{sized}
 use Rattle.rounded.proofs.sqrt.Scaled.{root-packed}
+
+-- moved up by 44 places or 45 in 128
+module _ (d up : ℕ) (short : d < 9223372036854775808) (few : up ≤ 45) where
+  held_under : d * 2 ^ up < 2 ^ 124
+  held_under = lt_of_lt_of_le (mul-lt-mul_of_pos_right short (pow_pos up)) (le_trans (mul-le-mul_left 9223372036854775808 (pow_mono {i = up} {j = 45} few)) (omega arith))
+
+  pub held_up : d * 2 ^ up % 340282366920938463463374607431768211456 ≡ d * 2 ^ up
+  held_up = mod-eq_of_lt (lt_of_lt_of_le held_under (omega arith))
+
+  pub held_small : d * 2 ^ up % 340282366920938463463374607431768211456 < 2 ^ 124
+  held_small = subst (λ (z : ℕ). z < 2 ^ 124) (sym held_up) held_under
+
+pub held_full : (d up : ℕ) → 4611686018427387904 ≤ d → d < 9223372036854775808 → up ≤ 45 → 44 ≤ up → 2 ^ 53 * 2 ^ 53 ≤ d * 2 ^ up % 340282366920938463463374607431768211456
+held_full d up full short few some =
+    le_trans (le_trans (omega arith) (mul-le-mul full (pow_mono {i = 44} {j = up} some))) (le_of_eq (sym (held_up d up short few)))
 
 -- moved up by `up` places, and down again by an even number of them
 shifted : (digits place up t : ℕ) → up + (t + t) ≡ place + 1012 → digits * 2 ^ up * (2 ^ t * 2 ^ t) ≡ digits * 2 ^ place * 2 ^ 1012

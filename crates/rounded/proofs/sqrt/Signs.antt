@@ -1,5 +1,6 @@
 -- What the tests of `sqrt_at` say of its argument, and its value where it isn't refused.
 -- Assumes nothing.
+use Rattle.std.specs.Prelude.{Ok, Err}
 use mathlib.Core.Path.{◌≡◌, refl, sym, ap, ◌∙◌, subst}
 use mathlib.Core.Bool.{Bool, true, false, not, cond, true≢false, ◌&&◌, ◌||◌, beq}
 use mathlib.Core.Logic.{inl, inr}
@@ -13,10 +14,13 @@ use lib.Ieee.{Float, nan, inf, fin, up, down, lt, eq, of_bits}
 use lib.Ieee.Fits.{and_l, and_i, eq→eqb}
 use lib.Ieee.Positive.{num, positive}
 use lib.Ieee.Scale.{finite}
-use Rattle.floats.specs.declared.Answer.TheVariants.{Value}
-use Rattle.floats.specs.Answers.{plus_zero, not_finite, refusal}
+use Rattle.floats.specs.declared.Refusal.{Refusal}
+use Rattle.floats.specs.Answers.{Answer, plus_zero, refusal, tested, when_finite}
+use Rattle.floats.proofs.Laws.{left, taken}
+use Rattle.floats.specs.laws.Propagation.{passed_test, passed_on, passes, stopped}
 use Rattle.rounded.specs.Root.{root_of, sqrt_at}
 use Rattle.rounded.specs.laws.RootBounds.{root_of_bounds, zero-root}
+use Rattle.floats.specs.declared.Reason.TheVariants as reason
 
 -- ---- a flag as a fact
 
@@ -48,10 +52,10 @@ zero-value x e = sym (zero-root x (none x e))
 same : (e : ℤ) (m : ℕ) → m * up e ≡ 0 → T (eqb (m * up e * 1) (0 * down e))
 same e m z = eq→eqb {a = m * up e * 1} {b = 0 * down e} (omega arith)
 
-pub positive-value : (x : Float) → not_finite x ≡ false → lt x plus_zero ≡ false → eq x plus_zero ≡ false → T (positive x)
+pub positive-value : (x : Float) → T (finite x) → lt x plus_zero ≡ false → eq x plus_zero ≡ false → T (positive x)
 unfolding lt eq of_bits
-positive-value nan f l e = absurd (true≢false f)
-positive-value (inf s) f l e = absurd (true≢false f)
+positive-value nan f l e = absurd f
+positive-value (inf s) f l e = absurd f
 positive-value (fin true m d) f l e =
     let z : m * up d * 1 + 0 * down d ≤ 0 = ltb-false 0 (m * up d * 1 + 0 * down d) l in
     let t : T (eqb (m * up d * 1) (0 * down d) && eqb (m * up d * 1) 0) = and_i (eqb (m * up d * 1) (0 * down d)) (eqb (m * up d * 1) 0) (same d m (omega arith)) (eq→eqb {a = m * up d * 1} {b = 0} (omega arith)) in
@@ -61,16 +65,29 @@ positive-value (fin false m d) f l e = elim (eq-zero-or-pos m) [
   | inr p ↦ lt→ltb 0 m p
 ]
 
--- ---- the value
+-- ---- the answer, where x passed the test as z and where it didn't
 
-pub value_at_lem : (x y : Float) (place : ℕ) → not_finite x ≡ false → lt x plus_zero ≡ false → y ≡ root_of x → Value y ≡ sqrt_at x place
+-- The answer for a finite number, and the definition.
+abbrev of_finite : Float → ℕ → Answer
+of_finite x place = cond (lt x plus_zero) (refusal reason.Outside place) (tested (root_of x) place)
+
+is_when : (x : Float) (place : ℕ) {a : Answer} → a ≡ when_finite x place (λ x. of_finite x place) → a ≡ sqrt_at x place
 unfolding sqrt_at
-value_at_lem x y place f l e =
-    ap Value e
-    ∙ ap (λ (b : Bool). cond b (refusal 27 place) (Value (root_of x))) (sym (is_number (finite (root_of x)) (root_of_bounds x (no_flag (finite x) f)).is_finite))
-    ∙ ap (λ (b : Bool). cond b (refusal 26 place) (cond (not_finite (root_of x)) (refusal 27 place) (Value (root_of x)))) (sym l)
-    ∙ ap (λ (b : Bool). cond b (refusal 27 place) (cond (lt x plus_zero) (refusal 26 place) (cond (not_finite (root_of x)) (refusal 27 place) (Value (root_of x))))) (sym f)
-  where
-    is_number : (b : Bool) → T b → not b ≡ false
-    is_number true h = refl
-    is_number false h = absurd h
+is_when x place h = h
+
+pub refused : (x : Float) (place : ℕ) {r : Refusal} {a : Answer} → tested x place ≡ Err r → a ≡ Err r → a ≡ sqrt_at x place
+refused x place t e = is_when x place (stopped (λ x. of_finite x place) x place t e)
+
+module _ (x : Float) (place : ℕ) {z : Float} (t : tested x place ≡ Ok z) where
+  pub passed : T (finite z)
+  passed = let q = passed_test x place t in subst (λ (v : Float). T (finite v)) (sym q.0) q.1
+
+  of_passed : {a : Answer} → a ≡ of_finite z place → a ≡ sqrt_at x place
+  of_passed e = is_when x place (passed_on (λ x. of_finite x place) x place t (λ f. e))
+
+  pub below_zero : lt z plus_zero ≡ true → refusal reason.Outside place ≡ sqrt_at x place
+  below_zero l = of_passed (taken (lt z plus_zero) _ _ l refl)
+
+  pub root_at : (y : Float) → lt z plus_zero ≡ false → y ≡ root_of z → Ok y ≡ sqrt_at x place
+  root_at y l e =
+      of_passed (left (lt z plus_zero) _ _ l (ap Ok e ∙ sym (passes (root_of z) place Ok (root_of_bounds z passed).is_finite)))

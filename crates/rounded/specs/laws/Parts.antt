@@ -31,10 +31,11 @@ pub record Parted (x : Float) (neg : Bool) (digits place : ℕ) : Type 0 where
   pub shape : Digits digits
   pub within : place ≤ 2107
 
--- The words of a product of two such numbers, and an addend's digits.
-pub record Joinable (high low top : ℕ) : Type 0 where
-  pub least : 1152921504606846976 ≤ high
-  pub most : high < 4611686018427387904
-  pub even : low % 2 ≡ 0
-  pub full : 4611686018427387904 ≤ top
-  pub short : top < 9223372036854775808
+-- A product of two such numbers, and an addend's digits in the upper half of its 128.
+pub record Joinable (product addend : ℕ) : Type 0 where
+  pub least : 21267647932558653966460912964485513216 ≤ product
+  pub most : product < 85070591730234615865843651857942052864
+  pub even : product % 2 ≡ 0
+  pub full : 85070591730234615865843651857942052864 ≤ addend
+  pub short : addend < 170141183460469231731687303715884105728
+  pub upper : addend % 18446744073709551616 ≡ 0

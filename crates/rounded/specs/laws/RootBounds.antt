@@ -1,6 +1,6 @@
 -- The root of a finite double is finite and not below 0, and so is every value that `sqrtAt` gives.
 -- Assumes nothing.
-use Rattle.std.specs.Prelude.{◌≡◌, refl, Bool, true, false, not, cond, ◌&&◌, ◌||◌, ℕ, ◌*◌, ◌^◌, ◌<◌, T, eqb, Float}
+use Rattle.std.specs.Prelude.{◌≡◌, refl, Bool, true, false, not, cond, ◌&&◌, ◌||◌, ℕ, ◌*◌, ◌^◌, ◌<◌, T, eqb, Float, Ok}
 use Rattle.std.proofs.Common.{sym, ap, subst, inl, inr, zero-le, eq-zero-or-pos, le_trans, le_of_lt, le_of_eq, mul-one, zero-mul, arith, eq-eqb, lit≤, pow_pos}
 use Rattle.std.specs.Bool.{beq}
 use Rattle.std.specs.Float.{nan, inf, fin, binary64}
@@ -9,10 +9,10 @@ use Rattle.std.specs.Float.Ieee.Fits.{and_i, eq→eqb}
 use Rattle.std.specs.Float.Ieee.Order.{round_mono}
 use Rattle.std.specs.Float.Ieee.Positive.{num, den}
 use Rattle.std.specs.Float.Ieee.Scale.{finite}
-use Rattle.floats.specs.declared.Answer.TheVariants.{Value}
 use Rattle.floats.specs.Answers.{plus_zero, refusal, not_finite}
 use Rattle.rounded.specs.Root.{doubled_root, root_of, sqrt_at}
 use Rattle.rounded.specs.laws.RootValue.{doubled_root-few, root_value_lem}
+use Rattle.floats.specs.declared.Reason.TheVariants as reason
 
 pub record NotBelow (y : Float) : Type 0 where
   pub is_finite : T (finite y)
@@ -79,11 +79,11 @@ root_of_bounds x f = elim (eq-zero-or-pos (num x)) [
 -- ---- where `sqrtAt` gives a value
 
 -- Of a finite number that isn't below 0 it is the root.
-pub sqrt_at_is : (x : Float) (place : ℕ) → T (finite x) → lt x plus_zero ≡ false → sqrt_at x place ≡ Value (root_of x)
+pub sqrt_at_is : (x : Float) (place : ℕ) → T (finite x) → lt x plus_zero ≡ false → sqrt_at x place ≡ Ok (root_of x)
 unfolding sqrt_at
 sqrt_at_is x place f n = go (finite x) (lt x plus_zero) (finite (root_of x)) f n (root_of_bounds x f).is_finite
   where
-    go : (b c d : Bool) → T b → c ≡ false → T d → cond (not b) (refusal 27 place) (cond c (refusal 26 place) (cond (not d) (refusal 27 place) (Value (root_of x)))) ≡ Value (root_of x)
+    go : (b c d : Bool) → T b → c ≡ false → T d → cond (not b) (refusal reason.NotFinite place) (cond c (refusal reason.Outside place) (cond (not d) (refusal reason.NotFinite place) (Ok (root_of x)))) ≡ Ok (root_of x)
     go false c d f n g = absurd f
     go true true d f n g = cc
     go true false false f n g = absurd g
@@ -94,26 +94,26 @@ pub record RootValue (x y : Float) : Type 0 where
   pub of_finite : T (finite x)
   pub is_root : root_of x ≡ y
 
-pub sqrt_at-root : (x : Float) (place : ℕ) (y : Float) → sqrt_at x place ≡ Value y → RootValue x y
+pub sqrt_at-root : (x : Float) (place : ℕ) (y : Float) → sqrt_at x place ≡ Ok y → RootValue x y
 unfolding sqrt_at
 sqrt_at-root x place y = go (finite x) (lt x plus_zero) (not_finite (root_of x)) refl
   where
-    go : (b c d : Bool) → finite x ≡ b → cond (not b) (refusal 27 place) (cond c (refusal 26 place) (cond d (refusal 27 place) (Value (root_of x)))) ≡ Value y → RootValue x y
+    go : (b c d : Bool) → finite x ≡ b → cond (not b) (refusal reason.NotFinite place) (cond c (refusal reason.Outside place) (cond d (refusal reason.NotFinite place) (Ok (root_of x)))) ≡ Ok y → RootValue x y
     go false c d k h = absurd (let z : ◌≡◌ {A = ℕ} 0 1 = cc in omega arith)
     go true true d k h = absurd (let z : ◌≡◌ {A = ℕ} 0 1 = cc in omega arith)
     go true false true k h = absurd (let z : ◌≡◌ {A = ℕ} 0 1 = cc in omega arith)
     go true false false k h = record { of_finite = subst T (sym k) tt; is_root = cc }
 
 -- A value doesn't depend on the place.
-pub sqrt_at-place : (x : Float) (j k : ℕ) (y : Float) → sqrt_at x j ≡ Value y → sqrt_at x k ≡ Value y
+pub sqrt_at-place : (x : Float) (j k : ℕ) (y : Float) → sqrt_at x j ≡ Ok y → sqrt_at x k ≡ Ok y
 unfolding sqrt_at
 sqrt_at-place x j k y = go (finite x) (lt x plus_zero) (not_finite (root_of x))
   where
-    go : (b c d : Bool) → cond (not b) (refusal 27 j) (cond c (refusal 26 j) (cond d (refusal 27 j) (Value (root_of x)))) ≡ Value y → cond (not b) (refusal 27 k) (cond c (refusal 26 k) (cond d (refusal 27 k) (Value (root_of x)))) ≡ Value y
+    go : (b c d : Bool) → cond (not b) (refusal reason.NotFinite j) (cond c (refusal reason.Outside j) (cond d (refusal reason.NotFinite j) (Ok (root_of x)))) ≡ Ok y → cond (not b) (refusal reason.NotFinite k) (cond c (refusal reason.Outside k) (cond d (refusal reason.NotFinite k) (Ok (root_of x)))) ≡ Ok y
     go false c d h = absurd (let z : ◌≡◌ {A = ℕ} 0 1 = cc in omega arith)
     go true true d h = absurd (let z : ◌≡◌ {A = ℕ} 0 1 = cc in omega arith)
     go true false true h = absurd (let z : ◌≡◌ {A = ℕ} 0 1 = cc in omega arith)
     go true false false h = h
 
-pub sqrt_at_bounds : (x : Float) (place : ℕ) (y : Float) → sqrt_at x place ≡ Value y → NotBelow y
+pub sqrt_at_bounds : (x : Float) (place : ℕ) (y : Float) → sqrt_at x place ≡ Ok y → NotBelow y
 sqrt_at_bounds x place y h = let v = sqrt_at-root x place y h in subst NotBelow v.is_root (root_of_bounds x v.of_finite)

@@ -2,7 +2,7 @@
 use Rattle.std.specs.Prelude.{◌≡◌, List, [], ℕ, length, Float}
 use Rattle.std.proofs.Math.Path.{sym}
 use Rattle.std.proofs.Common.{ap, ◌∙◌, arith}
-use Rattle.floats.specs.declared.Answer.{Answer}
+use Rattle.floats.specs.Answers.{Answer}
 use Rattle.sought.specs.declared.Sought.{Sought}
 use Rattle.sought.specs.declared.Priced.{Priced}
 use Rattle.sought.specs.declared.Priced.TheVariants.{Yield, Spread}

@@ -2,10 +2,8 @@
 use Rattle.std.specs.Prelude.{ℕ, ◌<◌, ◌^◌, ◌*◌, ◌≡◌, Bool, cond, List, [], length, get_or, ℤ, Float}
 use Rattle.std.specs.Float.{binary64}
 use Rattle.std.specs.Float.Ieee.{sub, lt}
-use Rattle.floats.specs.declared.Answer.{Answer}
-use Rattle.floats.specs.Answers.{one, refusal, and_then, on_answer, tested}
+use Rattle.floats.specs.Answers.{Answer, one, refusal, follow, on_outcome, tested}
 use Rattle.terms.specs.Numbers.{float}
-use Rattle.terms.specs.Outcomes.{on_outcome}
 use Rattle.terms.specs.Checks.{beyond}
 use Rattle.lattice.specs.Lattice.{root_layer}
 use Rattle.backwardinduction.specs.Walk.{walk_from}
@@ -17,6 +15,7 @@ use Rattle.sought.specs.declared.Sought.{Sought}
 use Rattle.sought.specs.declared.Priced.{Priced}
 use Rattle.sought.specs.declared.Priced.TheVariants.{Yield, Spread}
 use Rattle.sought.specs.Objectives.{objective}
+use Rattle.floats.specs.declared.Reason.TheVariants as reason
 
 -- What stands in the lent slices of a fitted tree.
 pub record TreeParts : Type 0 where
@@ -44,11 +43,11 @@ root_at dt flat t s =
 
 -- The root's value at a spread less the target; 36 above 1, 4 where the spread is no input of the tree.
 unfoldable pub spread_at : Float → Bool → Float → TreeParts → Float → Answer
-unfolding walk_from on_answer on_outcome sub lt
+unfolding walk_from on_outcome sub lt
 spread_at dt flat target t s =
-    cond (lt one s) (refusal 36 0)
-    (cond (beyond (float 1) s) (refusal 4 0)
-    (and_then (root_at dt flat t s) λ x. tested (sub binary64 x target) 0))
+    cond (lt one s) (refusal reason.SpreadAbove 0)
+    (cond (beyond (float 1) s) (refusal reason.Number 0)
+    (follow (root_at dt flat t s) λ x. tested (sub binary64 x target) 0))
 
 -- By the case of what is priced.
 unfoldable pub on_priced {ℓ} : {A : Type ℓ} → Priced → A → A → A

@@ -1,44 +1,39 @@
 -- The spread's root from its parts: the checks, the grid, the tree fitted once, and the slices left all zero. Assumes nothing.
-use Rattle.std.specs.Prelude.{ℕ, ◌≡◌, Bool, length, replicate, ℤ, pos}
+use Rattle.std.specs.Prelude.{ℕ, ◌≡◌, Bool, length, replicate, ℤ, pos, Ok, Err}
 use Rattle.std.proofs.Math.Path.{refl, sym, ap}
 use Rattle.std.proofs.Common.{◌∙◌}
 use Rattle.std.proofs.Math.Bool.{cond}
 use mathlib.Core.List.{List, map}
 use Rattle.std.specs.Float.Ieee.{Float, binary64, of_bits, sub, div, neg, lt}
 use Rattle.floats.specs.declared.Refusal.{Refusal}
-use Rattle.floats.specs.declared.Answer.{Answer}
-use Rattle.floats.specs.Answers.{plus_zero, one, refusal, and_then, tested}
-use Rattle.terms.specs.declared.Check.{Check}
-use Rattle.terms.specs.declared.Check.TheVariants as check
+use Rattle.floats.specs.Answers.{Answer, plus_zero, one, refusal, follow, tested, Check, Outcome, on_outcome, when_finite}
 use Rattle.terms.specs.Numbers.{float}
 use Rattle.terms.specs.Terms.{CallSchedule, Market}
 use Rattle.terms.specs.Checks.{on_check, beyond}
 use Rattle.terms.specs.Curve.{curve_over, pillar_times}
-use Rattle.terms.specs.Outcomes.{Outcome, on_outcome, finite_then}
 use Rattle.bondevents.specs.declared.CallStep.{CallStep}
-use Rattle.bondevents.specs.declared.EventGrid.{EventGrid}
+use Rattle.bondevents.specs.declared.BondEventGrid.{BondEventGrid}
 use Rattle.bondevents.specs.Grid.{event_grid}
-use Rattle.bondevents.specs.Parts.{grid_outcome, step_mark, step_prices}
+use Rattle.bondevents.specs.Parts.{step_mark, step_prices}
 use Rattle.lattice.specs.Layers.{At, Room}
 use Rattle.backwardinduction.specs.laws.WalkMore.{calls_of}
 use Rattle.treebasedbondpricer.specs.declared.fitted.FittedTree.{FittedTree}
-use Rattle.treebasedbondpricer.specs.declared.fitted.FittedTree.TheVariants as tree
 use Rattle.treebasedbondpricer.specs.Tree.{Fitted, Lent, room_of, zeroed}
-use Rattle.treebasedbondpricer.specs.laws.FittedIn.{FitsTree, fitted_over, tree_refusal}
+use Rattle.treebasedbondpricer.specs.laws.FittedIn.{FitsTree, fitted_over}
 use Rattle.treebasedbondpricer.specs.laws.Valued.{Standing, not_standing, same_row, same_calls}
 use Rattle.backwardinduction.specs.laws.WalkRoot.{root_of}
-use Rattle.treebasedbondpricer.specs.laws.Entered.{grid-given, grid-refused, tree_is}
+use Rattle.treebasedbondpricer.specs.laws.Entered.{tree_is}
 use Rattle.interestrate.specs.declared.RateDefinition.{RateDefinition}
 use Rattle.brackets.specs.declared.Root.{Root}
-use Rattle.brackets.specs.declared.Root.TheVariants as root
 use Rattle.sought.specs.declared.Sought.{Sought}
 use Rattle.sought.specs.declared.Priced.TheVariants.{Spread}
-use Rattle.brackets.specs.Brackets.{bracketed_root}
+use Rattle.brackets.specs.Brackets.{Searched, no_root, bracketed_root}
 use Rattle.sought.specs.Objectives.{first_lower, first_upper}
 use Rattle.spreads.specs.Spreads.{Quoted, at_spread, quoted_checks, spread_from_price, lent_after, solve_spread, Solved}
 use Rattle.sought.specs.laws.Sought.{TreeParts, tree_parts, spread_at, sought_at}
 use Rattle.brackets.specs.laws.SoughtRoots.{sought_spread_lem}
 use Rattle.spreads.specs.laws.SpreadTree.{walked_at, found_over, found_on, fitted-once}
+use Rattle.floats.specs.declared.Reason.TheVariants as reason
 
 -- The lowest spread, as the code writes it.
 abbrev pub lowest_spread : Float
@@ -49,15 +44,15 @@ unfolding neg of_bits
 lowest_is = refl
 
 -- The grid, then the root.
-unfoldable pub found_for : Quoted → CallSchedule → Room → Root
+unfoldable pub found_for : Quoted → CallSchedule → Room → Searched Root
 unfolding found_on event_grid
 found_for asked calls room = found_on (at_spread asked asked.target) room asked.target (event_grid asked.settlement asked.bond calls asked.controls)
 
 module _ {o : Outcome Fitted} {long wide : ℕ} {counts : List ℕ} {spacings shifts : List Float} {nodes : List ℤ} {probabilities : List Float} where
   -- What is refused before the walk is met at the first try.
-  pub root-refused : {r : FittedTree} {p q : Refusal} (target : Float) (cashflows : List Float) (calls : List CallStep) → FitsTree o long wide counts spacings shifts nodes probabilities r → r ≡ tree.Refused q → p ≡ tree_refusal r → root.Refused p 1 ≡ found_over target cashflows calls o
+  pub root-refused : {r : Outcome FittedTree} {q : Refusal} (target : Float) (cashflows : List Float) (calls : List CallStep) → FitsTree o long wide counts spacings shifts nodes probabilities r → r ≡ Err q → {v : Searched Root} → v ≡ no_root q 1 → v ≡ found_over target cashflows calls o
   unfolding found_over on_outcome
-  root-refused target cashflows calls p e f = ap (λ (z : Refusal). root.Refused z 1) (f ∙ ap tree_refusal e) ∙ sym (ap (found_over target cashflows calls) (not_standing p e))
+  root-refused target cashflows calls p e f = f ∙ sym (ap (found_over target cashflows calls) (not_standing p e))
 
   module _ {dt : Float} {flat : Bool} (s : Standing o dt flat long wide counts spacings shifts nodes probabilities) (target : Float) (cashflows : List Float) (marks : List ℕ) (prices : List Float) where
     abbrev parts : TreeParts
@@ -66,14 +61,14 @@ module _ {o : Outcome Fitted} {long wide : ℕ} {counts : List ℕ} {spacings sh
     tried-alike : (x : Float) → spread_at dt flat target parts x ≡ walked_at target cashflows (calls_of marks prices) s.content x
     unfolding spread_at walked_at
     tried-alike x =
-        ap (λ (row : Outcome (List At)). cond (lt one x) (refusal 36 0) (cond (beyond (float 1) x) (refusal 4 0) (and_then (root_of row) λ y. tested (sub binary64 y target) 0)))
+        ap (λ (row : Outcome (List At)). cond (lt one x) (refusal reason.SpreadAbove 0) (cond (beyond (float 1) x) (refusal reason.Number 0) (follow (root_of row) λ y. tested (sub binary64 y target) 0)))
         (sym (same_row s x cashflows (calls_of marks prices)))
 
     -- What the solver looks for over the tree.
     abbrev pub sought_spread : RateDefinition → Sought
     sought_spread rate = record { priced = Spread; rate = rate; settlement = record { day = 0; code = 0; count = 0 }; target = target; dt = dt; flat = flat }
 
-    pub root_is : (rate : RateDefinition) (days : List ℕ) (amounts : List Float) {v : Root}
+    pub root_is : (rate : RateDefinition) (days : List ℕ) (amounts : List Float) {v : Searched Root}
         → v ≡ bracketed_root (sought_at (sought_spread rate) days amounts parts) first_lower first_upper lowest_spread
         → v ≡ found_over target cashflows (calls_of marks prices) o
     unfolding found_over on_outcome
@@ -84,43 +79,43 @@ module _ {o : Outcome Fitted} {long wide : ℕ} {counts : List ℕ} {spacings sh
         ∙ ap (λ (objective : Float → Answer). bracketed_root objective first_lower first_upper (neg one)) (λ i x. tried-alike x i)
         ∙ sym (ap (found_over target cashflows (calls_of marks prices)) s.is)
 
-pub root-with_calls : (o : Outcome Fitted) (target : Float) (cashflows : List Float) (calls : List CallStep) {marks : List ℕ} {prices : List Float} {v : Root} → v ≡ found_over target cashflows (calls_of marks prices) o → marks ≡ map step_mark calls → prices ≡ step_prices calls → v ≡ found_over target cashflows calls o
+pub root-with_calls : (o : Outcome Fitted) (target : Float) (cashflows : List Float) (calls : List CallStep) {marks : List ℕ} {prices : List Float} {v : Searched Root} → v ≡ found_over target cashflows (calls_of marks prices) o → marks ≡ map step_mark calls → prices ≡ step_prices calls → v ≡ found_over target cashflows calls o
 root-with_calls o target cashflows calls e f g = e ∙ ap (λ (cs : List CallStep). found_over target cashflows cs o) (same_calls calls f g)
 
-module _ (asked : Quoted) (calls : CallSchedule) (room : Room) {r : EventGrid} (e : r ≡ grid_outcome (event_grid asked.settlement asked.bond calls asked.controls)) where
+module _ (asked : Quoted) (calls : CallSchedule) (room : Room) {r : Outcome BondEventGrid} (e : r ≡ event_grid asked.settlement asked.bond calls asked.controls) where
   abbrev m : Market
   m = at_spread asked asked.target
 
-  pub root_unchecked : {q : Refusal} → r.check ≡ check.Refused q → root.Refused q 1 ≡ found_for asked calls room
+  pub root_unchecked : {q : Refusal} {v : Searched Root} → r ≡ Err q → v ≡ no_root q 1 → v ≡ found_for asked calls room
   unfolding found_for found_on on_outcome
-  root_unchecked p = sym (ap (found_on m room asked.target) (grid-refused (event_grid m.settlement m.bond calls m.controls) e p))
+  root_unchecked p f = f ∙ sym (ap (found_on m room asked.target) (sym e ∙ p))
 
-  pub root-checked : {times : List Float} {v : Root} → times ≡ pillar_times m.settlement m.pillars.days → r.check ≡ check.Passed
-      → v ≡ found_over asked.target r.grid.cashflows r.grid.calls (finite_then (div binary64 r.grid.maturity_time (float r.grid.steps)) 0 λ dt. fitted_over (curve_over times m.pillars.factors) m.model room r.grid.steps dt)
+  pub root-checked : {times : List Float} {g : BondEventGrid} {v : Searched Root} → times ≡ pillar_times m.settlement m.pillars.days → r ≡ Ok g
+      → v ≡ found_over asked.target g.cashflows g.calls (when_finite (div binary64 g.maturity_time (float g.steps)) 0 λ dt. fitted_over (curve_over times m.pillars.factors) m.model room g.steps dt)
       → v ≡ found_for asked calls room
   unfolding found_for found_on on_outcome
-  root-checked t p f =
+  root-checked {g = g} t p f =
       f
-      ∙ ap (λ (times : List Float). found_over asked.target r.grid.cashflows r.grid.calls (finite_then (div binary64 r.grid.maturity_time (float r.grid.steps)) 0 λ dt. fitted_over (curve_over times m.pillars.factors) m.model room r.grid.steps dt)) t
-      ∙ ap (found_over asked.target r.grid.cashflows r.grid.calls) (sym (tree_is m room r.grid.maturity_time r.grid.steps))
-      ∙ sym (ap (found_on m room asked.target) (grid-given (event_grid m.settlement m.bond calls m.controls) e p))
+      ∙ ap (λ (times : List Float). found_over asked.target g.cashflows g.calls (when_finite (div binary64 g.maturity_time (float g.steps)) 0 λ dt. fitted_over (curve_over times m.pillars.factors) m.model room g.steps dt)) t
+      ∙ ap (found_over asked.target g.cashflows g.calls) (sym (tree_is m room g.maturity_time g.steps))
+      ∙ sym (ap (found_on m room asked.target) (sym e ∙ p))
 
 module _ (asked : Quoted) (calls : CallSchedule) {k : Check} (e : k ≡ quoted_checks asked calls) (before : Lent) where
-  pub solved-refused : {q : Refusal} → k ≡ check.Refused q → Solved asked calls (root.Refused q 0) before before
+  pub solved-refused : {q : Refusal} {v : Searched Root} → k ≡ Err q → v ≡ no_root q 0 → Solved asked calls v before before
   unfolding spread_from_price lent_after on_check
-  solved-refused p =
+  solved-refused p f =
       record {
-        root = ap (λ (c : Check). on_check c (λ r. root.Refused r 0) (solve_spread asked calls (room_of before))) (sym p ∙ e);
+        root = f ∙ ap (λ (c : Check). on_check c (λ r. no_root r 0) (solve_spread asked calls (room_of before))) (sym p ∙ e);
         slices = ap (λ (c : Check). on_check c (λ r. before) (zeroed before)) (sym p ∙ e);
       }
 
-  pub solved-zeroed : {v : Root} {nodes : List ℤ} {probabilities first second : List Float} {a b c d : ℕ} → k ≡ check.Passed → v ≡ found_for asked calls (room_of before)
+  pub solved-zeroed : {v : Searched Root} {nodes : List ℤ} {probabilities first second : List Float} {a b c d : ℕ} → k ≡ Ok tt → v ≡ found_for asked calls (room_of before)
       → nodes ≡ replicate a (pos 0) → probabilities ≡ replicate b plus_zero → first ≡ replicate c plus_zero → second ≡ replicate d plus_zero
       → a ≡ length before.nodes → b ≡ length before.probabilities → c ≡ length before.first → d ≡ length before.second
       → Solved asked calls v before (record { nodes = nodes; probabilities = probabilities; first = first; second = second })
   unfolding spread_from_price lent_after on_check found_for
   solved-zeroed p f n o q s g h i j =
       record {
-        root = f ∙ sym (fitted-once asked calls (room_of before) (sym e ∙ p)) ∙ ap (λ (c : Check). on_check c (λ r. root.Refused r 0) (solve_spread asked calls (room_of before))) (sym p ∙ e);
+        root = f ∙ sym (fitted-once asked calls (room_of before) (sym e ∙ p)) ∙ ap (λ (c : Check). on_check c (λ r. no_root r 0) (solve_spread asked calls (room_of before))) (sym p ∙ e);
         slices = rw (n, o, q, s, g, h, i, j) (ap (λ (c : Check). on_check c (λ r. before) (zeroed before)) (sym p ∙ e));
       }

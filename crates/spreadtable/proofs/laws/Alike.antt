@@ -4,6 +4,7 @@ use Rattle.std.proofs.Common.{ap, ◌∙◌}
 use Rattle.terms.specs.Terms.{CallSchedule, Market, with_spread}
 use Rattle.lattice.specs.Layers.{Room}
 use Rattle.treebasedbondpricer.specs.declared.TreeValue.{TreeValue}
+use Rattle.floats.specs.Answers.{Outcome}
 use Rattle.treebasedbondpricer.specs.Tree.{tree_value}
 use Rattle.spreadtable.specs.Cells.{hash_cell, cell_text}
 use Rattle.spreadtable.specs.Page.{row_text, page_text, printed, no_table}
@@ -27,5 +28,5 @@ same_table m n first second room sigmas e spreads shifts =
     (same_pages (cell_at n second room) (cell_at m first room)
     (λ h s.
     ap (λ (l : List Float). cond (any_outside (shifted h l)) (hash_cell 46) (cell_text (tree_value (with_spread (with_shift n h) s) second room))) sigmas
-    ∙ ap (λ (v : TreeValue). cond (any_outside (shifted h m.model.sigma.sigmas)) (hash_cell 46) (cell_text v)) (e h s))
+    ∙ ap (λ (v : Outcome TreeValue). cond (any_outside (shifted h m.model.sigma.sigmas)) (hash_cell 46) (cell_text v)) (e h s))
     spreads shifts)

@@ -6,9 +6,8 @@ use Rattle.std.specs.Float.Ieee as ieee
 use Rattle.floats.specs.Answers.{plus_zero}
 use Rattle.decimal.specs.Examples.{bytes}
 use Rattle.bondreport.specs.Numbers.{byte_left, digits_left, width_of, whole_left}
-use Rattle.bondreport.specs.Figures.{on_decimals, point_left, minus_left}
+use Rattle.bondreport.specs.Figures.{point_left, minus_left}
 use Rattle.terms.specs.Numbers.{float}
-use Rattle.treebasedbondpricer.specs.declared.TreeValue.TheVariants.{Value, Refused}
 use Rattle.closingsheet.specs.Cells.{printed_of}
 use Rattle.spreadtable.specs.Cells.{hash_cell, value_text, cell_text}
 use Rattle.spreadtable.specs.Page.{row_text, page_text, at}
@@ -16,7 +15,7 @@ use Rattle.spreadtable.specs.Table.{shifted, any_outside, wrong_count}
 use Rattle.spreadtable.specs.Examples.{Starred}
 
 pub starred : Starred
-unfolding hash_cell cell_text row_text page_text any_outside printed_of byte_left digits_left width_of whole_left on_decimals point_left minus_left ieee.of_bits ieee.of_int ieee.add ieee.neg ieee.lt ieee.le
+unfolding hash_cell cell_text row_text page_text any_outside printed_of byte_left digits_left width_of whole_left point_left minus_left ieee.of_bits ieee.of_int ieee.add ieee.neg ieee.lt ieee.le
 starred =
     record {
       hash_4 = refl;

@@ -1,5 +1,5 @@
 -- Cells whose single call is refused by its checks. Assumes nothing.
-use Rattle.std.specs.Prelude.{ℕ, ◌≤◌, ◌<◌, ◌≡◌, refl, ◌⊎◌, Bool, true, false, not, ◌||◌, T, ltb, eqb, length, Float}
+use Rattle.std.specs.Prelude.{ℕ, ◌≤◌, ◌<◌, ◌≡◌, refl, ◌⊎◌, Bool, true, false, not, ◌||◌, T, ltb, eqb, length, Float, Ok, Err}
 use Rattle.std.proofs.Math.Path.{sym, ap}
 use Rattle.std.proofs.Common.{subst, ◌∙◌, inl, inr, arith, lt-ltb, le-ltb, ne_eqb}
 use Rattle.std.proofs.Math.Bool.{cond}
@@ -8,11 +8,9 @@ use Rattle.std.proofs.lemmas.List.{length-map}
 use Rattle.std.specs.Float.{binary64}
 use Rattle.std.specs.Float.Ieee.{add, neg, lt, of_bits, of_int}
 use Rattle.floats.specs.declared.Refusal.{Refusal}
-use Rattle.floats.specs.Answers.{plus_zero}
+use Rattle.floats.specs.Answers.{plus_zero, Check, Outcome}
 use Rattle.rounded.specs.laws.RoundToOdd.{ordered}
 use Rattle.terms.specs.declared.Settlement.{Settlement}
-use Rattle.terms.specs.declared.Check.{Check}
-use Rattle.terms.specs.declared.Check.TheVariants as check
 use Rattle.terms.specs.Numbers.{float}
 use Rattle.terms.specs.Terms.{CallSchedule, Market, SigmaSchedule, with_spread}
 use Rattle.terms.specs.Checks.{on_check, first_of, single, within, sigma_count, pillar_count}
@@ -22,7 +20,6 @@ use Rattle.terms.specs.laws.Sequence.{passed_not_refused, all}
 use Rattle.terms.specs.laws.EntryChecks.{other-spread}
 use Rattle.lattice.specs.Layers.{Room}
 use Rattle.treebasedbondpricer.specs.declared.TreeValue.{TreeValue}
-use Rattle.treebasedbondpricer.specs.declared.TreeValue.TheVariants.{Value, Refused}
 use Rattle.treebasedbondpricer.specs.Tree.{tree_value}
 use Rattle.spreadtable.specs.declared.Written.{Written}
 use Rattle.spreadtable.specs.Cells.{hash_cell, cell_text}
@@ -33,38 +30,39 @@ use Rattle.spreadtable.specs.laws.Filling.{same_cells}
 use Rattle.spreadtable.specs.laws.FittedOnce.{spread_cell, walk_on}
 use Rattle.spreadtable.proofs.laws.FittedOnce.{fitted-once}
 use Rattle.spreadtable.specs.laws.Refusing.{check_text, check_cell, single_cell}
+use Rattle.floats.specs.declared.Reason.TheVariants as reason
 
-refused-text : (c : Check) (v : TreeValue) → (c ≡ check.Passed → ⊥) → check_text c ≡ cell_text (on_check c Refused v)
+refused-text : (c : Check) (v : Outcome TreeValue) → (c ≡ Ok tt → ⊥) → check_text c ≡ cell_text (on_check c Err v)
 unfolding check_text cell_text on_check
-refused-text check.Passed v some = absurd (some refl)
-refused-text (check.Refused q) v some = refl
+refused-text (Ok tt) v some = absurd (some refl)
+refused-text (Err q) v some = refl
 
-pub refused-cell : (m : Market) (calls : CallSchedule) (room : Room) → (tree_checks m calls ≡ check.Passed → ⊥) → check_text (tree_checks m calls) ≡ cell_text (tree_value m calls room)
+pub refused-cell : (m : Market) (calls : CallSchedule) (room : Room) → (tree_checks m calls ≡ Ok tt → ⊥) → check_text (tree_checks m calls) ≡ cell_text (tree_value m calls room)
 unfolding tree_value
 refused-cell m calls room some = refused-text (tree_checks m calls) _ some
 
 -- ---- terms that a spread of 0 doesn't pass are passed by none
 
-zero_in_range : within (float 1) plus_zero ≡ check.Passed
+zero_in_range : within (float 1) plus_zero ≡ Ok tt
 unfolding of_bits lt neg of_int
 zero_in_range = refl
 
 module _ (m : Market) (calls : CallSchedule) where
-  never-passed : {q : Refusal} → m.spread ≡ plus_zero → tree_checks m calls ≡ check.Refused q → (s : Float) → tree_checks (with_spread m s) calls ≡ check.Passed → ⊥
+  never-passed : {q : Refusal} → m.spread ≡ plus_zero → tree_checks m calls ≡ Err q → (s : Float) → tree_checks (with_spread m s) calls ≡ Ok tt → ⊥
   unfolding tree_checks
   never-passed {q} zero-spread e s h =
       passed_not_refused (tree_checks m calls) q
       (other-spread (float 1) (with_spread m s) calls m.spread h ∙ ap (within (float 1)) zero-spread ∙ zero_in_range)
       e
 
-  pub row_unchecked : {k : Check} {q : Refusal} {v : Written} (w : Written) (spreads : List Float) (room : Room) → k ≡ tree_checks m calls → k ≡ check.Refused q
+  pub row_unchecked : {k : Check} {q : Refusal} {v : Written} (w : Written) (spreads : List Float) (room : Room) → k ≡ tree_checks m calls → k ≡ Err q
       → v ≡ appended w (row_text (check_cell m calls) spreads) → m.spread ≡ plus_zero → v ≡ appended w (row_text (single_cell m calls room) spreads)
   row_unchecked w spreads room e p f zero-spread =
       f
       ∙ ap (λ (z : List ℕ). appended w z)
       (same_cells (check_cell m calls) (single_cell m calls room) (λ s. refused-cell (with_spread m s) calls room (never-passed zero-spread (sym e ∙ p) s)) spreads)
 
-  pub row-checked : {k : Check} {v : Written} (w : Written) (spreads : List Float) (room : Room) → k ≡ tree_checks m calls → k ≡ check.Passed
+  pub row-checked : {k : Check} {v : Written} (w : Written) (spreads : List Float) (room : Room) → k ≡ tree_checks m calls → k ≡ Ok tt
       → v ≡ appended w (row_text (spread_cell (walk_on m calls room)) spreads) → v ≡ appended w (row_text (single_cell m calls room) spreads)
   row-checked w spreads room e p f =
       f
@@ -73,19 +71,19 @@ module _ (m : Market) (calls : CallSchedule) where
 
 -- ---- more sigmas than a call takes are refused before any of them is read
 
-same_refusal : (before : List Check) (c d : Check) (after more : List Check) {q : Refusal} → c ≡ check.Refused q → d ≡ check.Refused q → first_of (before ++ (c ∷ after)) ≡ first_of (before ++ (d ∷ more))
+same_refusal : (before : List Check) (c d : Check) (after more : List Check) {q : Refusal} → c ≡ Err q → d ≡ Err q → first_of (before ++ (c ∷ after)) ≡ first_of (before ++ (d ∷ more))
 unfolding first_of on_check
 same_refusal [] c d after more e f = rw (e, f, on_check)
-same_refusal (b ∷ before) c d after more e f = ap (λ (z : Check). on_check b check.Refused z) (same_refusal before c d after more e f)
+same_refusal (b ∷ before) c d after more e f = ap (λ (z : Check). on_check b Err z) (same_refusal before c d after more e f)
 
-one_refusal : (before : List Check) (c : Check) (after : List Check) {q : Refusal} → c ≡ check.Refused q → first_of (before ++ (c ∷ after)) ≡ check.Passed → ⊥
+one_refusal : (before : List Check) (c : Check) (after : List Check) {q : Refusal} → c ≡ Err q → first_of (before ++ (c ∷ after)) ≡ Ok tt → ⊥
 unfolding first_of on_check
-one_refusal [] c after {q} e h = passed_not_refused (check.Refused q) q (sym (ap (λ (z : Check). on_check z check.Refused (first_of after)) e) ∙ h) refl
-one_refusal (check.Passed ∷ before) c after e h = one_refusal before c after e h
-one_refusal (check.Refused r ∷ before) c after e h = passed_not_refused (check.Refused r) r h refl
+one_refusal [] c after {q} e h = passed_not_refused (Err q) q (sym (ap (λ (z : Check). on_check z Err (first_of after)) e) ∙ h) refl
+one_refusal ((Ok tt) ∷ before) c after e h = one_refusal before c after e h
+one_refusal (Err r ∷ before) c after e h = passed_not_refused (Err r) r h refl
 
-too_many : (s : SigmaSchedule) → 64 < length s.sigmas → sigma_count s ≡ check.Refused (record { number = 2; place = 0 })
-too_many s h = ap (single 2 0) (go (ordered (length s.times) 64))
+too_many : (s : SigmaSchedule) → 64 < length s.sigmas → sigma_count s ≡ Err (record { reason = reason.Count; place = 0 })
+too_many s h = ap (single reason.Count 0) (go (ordered (length s.times) 64))
   where
     go : (length s.times ≤ 64) ⊎ (64 < length s.times) → ((ltb (length s.times) 1 || ltb 64 (length s.times)) || not (eqb (length s.sigmas) (length s.times))) ≡ true
     go (inl l) = rw (ne_eqb (length s.sigmas) (length s.times) (λ (e : length s.sigmas ≡ length s.times). omega arith)) (last (ltb (length s.times) 1 || ltb 64 (length s.times)))
@@ -121,7 +119,7 @@ module _ (m : Market) (calls : CallSchedule) (shift : Float) (many : 64 < length
   unfolding tree_checks
   unread s = same_refusal early (sigma_count m.model.sigma) (sigma_count (with_shift m shift).model.sigma) (late (with_spread m s)) (late (with_spread (with_shift m shift) s)) (too_many m.model.sigma many) (too_many (with_shift m shift).model.sigma as_many)
 
-  unpassed : (s : Float) → tree_checks (with_spread (with_shift m shift) s) calls ≡ check.Passed → ⊥
+  unpassed : (s : Float) → tree_checks (with_spread (with_shift m shift) s) calls ≡ Ok tt → ⊥
   unfolding tree_checks
   unpassed s h = one_refusal early (sigma_count (with_shift m shift).model.sigma) (late (with_spread (with_shift m shift) s)) (too_many (with_shift m shift).model.sigma as_many) h
 

@@ -1,5 +1,5 @@
 -- Each cell has 16 characters, each row 16 for a column and a newline. Assumes nothing.
-use Rattle.std.specs.Prelude.{ℕ, zero, suc, ◌+◌, ◌*◌, ◌≤◌, ◌≡◌, refl, Bool, true, false, cond, List, [], ◌∷◌, ◌++◌, length, take, Float}
+use Rattle.std.specs.Prelude.{ℕ, zero, suc, ◌+◌, ◌*◌, ◌≤◌, ◌≡◌, refl, Bool, true, false, cond, List, [], ◌∷◌, ◌++◌, length, take, Float, Ok, Err}
 use Rattle.std.proofs.Common.{sym, ap, ◌∙◌, arith, length-append, length-take-le}
 use Rattle.std.proofs.lemmas.List.{length-replicate}
 use Rattle.bondreport.specs.Columns.{blank_line}
@@ -8,7 +8,7 @@ use Rattle.bondreport.specs.Figures.{before, put_whole}
 use Rattle.terms.specs.Terms.{CallSchedule, Market}
 use Rattle.lattice.specs.Layers.{Room}
 use Rattle.treebasedbondpricer.specs.declared.TreeValue.{TreeValue}
-use Rattle.treebasedbondpricer.specs.declared.TreeValue.TheVariants.{Value, Refused}
+use Rattle.floats.specs.Answers.{Outcome}
 use Rattle.closingsheet.specs.laws.Columns.{byte-length, whole_length, cell-length}
 use Rattle.spreadtable.specs.Cells.{hash_cell, cell_text}
 use Rattle.spreadtable.specs.Page.{row_text}
@@ -28,10 +28,10 @@ either-wide false xs ys e f = f
 -- What a cell is made of.
 ruleset widths = (either-wide, hash_wide, cell-length)
 
-pub text-wide : (v : TreeValue) → length (cell_text v) ≡ 16
+pub text-wide : (v : Outcome TreeValue) → length (cell_text v) ≡ 16
 unfolding cell_text
-text-wide (Value x n) = search widths
-text-wide (Refused q) = search widths
+text-wide (Ok x) = search widths
+text-wide (Err q) = search widths
 
 pub cell-wide : (m : Market) (calls : CallSchedule) (room : Room) (shift spread : Float) → length (cell_at m calls room shift spread) ≡ 16
 unfolding cell_at

@@ -1,28 +1,23 @@
 -- Definitions only. A cell by its spread and the walk over a tree that is fitted once for all spreads of a row.
-use Rattle.std.specs.Prelude.{ℕ, ◌≡◌, Bool, ℤ, pos, Float}
+use Rattle.std.specs.Prelude.{ℕ, ◌≡◌, Bool, ℤ, pos, Float, Err}
 use Rattle.std.proofs.Math.Path.{refl, sym, ap}
 use Rattle.std.proofs.Common.{◌∙◌}
 use Rattle.std.proofs.Math.Bool.{true, false, cond}
 use mathlib.Core.List.{List, map}
 use Rattle.std.specs.Float.Ieee.{binary64, div}
 use Rattle.floats.specs.declared.Refusal.{Refusal}
-use Rattle.floats.specs.declared.Answer.{Answer}
-use Rattle.floats.specs.declared.Answer.TheVariants as answer
-use Rattle.terms.specs.declared.Check.{Check}
-use Rattle.terms.specs.declared.Check.TheVariants as check
+use Rattle.floats.specs.Answers.{Answer, Check, Outcome, follow, on_outcome, when_finite}
 use Rattle.terms.specs.Numbers.{float}
 use Rattle.terms.specs.Terms.{CallSchedule, Market, with_spread}
 use Rattle.terms.specs.Checks.{on_check, single, beyond, within}
 use Rattle.terms.specs.Curve.{curve_over, pillar_times}
 use Rattle.terms.specs.Entries.{tree_checks}
-use Rattle.terms.specs.Outcomes.{Outcome, given, refused, on_outcome, follow, finite_then}
 use Rattle.terms.specs.laws.Outcomes.{follow-given, follow-refused}
 use Rattle.terms.specs.laws.EntryChecks.{other-spread}
 use Rattle.bondevents.specs.declared.BondEventGrid.{BondEventGrid}
 use Rattle.bondevents.specs.declared.CallStep.{CallStep}
-use Rattle.bondevents.specs.declared.EventGrid.{EventGrid}
 use Rattle.bondevents.specs.Grid.{event_grid}
-use Rattle.bondevents.specs.Parts.{grid_outcome, step_mark, step_prices}
+use Rattle.bondevents.specs.Parts.{step_mark, step_prices}
 use Rattle.lattice.specs.Layers.{At, value_at, Room}
 use Rattle.lattice.specs.Lattice.{node_count}
 use Rattle.lattice.specs.laws.Laid.{layers_in, final_in}
@@ -30,13 +25,11 @@ use Rattle.backwardinduction.specs.Walk.{walk_from}
 use Rattle.backwardinduction.specs.laws.WalkMore.{calls_of}
 use Rattle.backwardinduction.specs.laws.WalkRoot.{root_of}
 use Rattle.treebasedbondpricer.specs.declared.TreeValue.{TreeValue}
-use Rattle.treebasedbondpricer.specs.declared.TreeValue.TheVariants.{Value, Refused}
 use Rattle.treebasedbondpricer.specs.declared.fitted.FittedTree.{FittedTree}
-use Rattle.treebasedbondpricer.specs.declared.fitted.FittedTree.TheVariants as tree
 use Rattle.treebasedbondpricer.specs.Tree.{Fitted, fitted_tree_over, lattice_value_over, fitted_tree, lattice_value, tree_value}
-use Rattle.treebasedbondpricer.specs.laws.FittedIn.{FitsTree, fitted_over, tree_refusal}
+use Rattle.treebasedbondpricer.specs.laws.FittedIn.{FitsTree, fitted_over}
 use Rattle.treebasedbondpricer.specs.laws.Valued.{row_over, standing, not_standing, same_row, same_calls}
-use Rattle.treebasedbondpricer.specs.laws.Entered.{grid-given, grid-refused, tree_is}
+use Rattle.treebasedbondpricer.specs.laws.Entered.{tree_is}
 use Rattle.spreadtable.specs.declared.Written.{Written}
 use Rattle.spreadtable.specs.Cells.{hash_cell, cell_text, answer_text}
 use Rattle.spreadtable.specs.Page.{row_text}
@@ -49,13 +42,13 @@ spread_cell walk s = cond (beyond (float 1) s) (hash_cell 4) (answer_text (walk 
 
 -- The walk at a spread over a tree that is fitted, or refused.
 abbrev pub walk_over : List Float → List CallStep → Outcome Fitted → Float → Answer
-walk_over cashflows calls o s = on_outcome o answer.Refused λ f. root_of (row_over s cashflows calls f)
+walk_over cashflows calls o s = on_outcome o Err λ f. root_of (row_over s cashflows calls f)
 
 -- The grid and the tree before it.
 unfoldable pub walk_on : Market → CallSchedule → Room → Float → Answer
 unfolding event_grid fitted_tree_over walk_from on_outcome
 walk_on m calls room s =
-    on_outcome (event_grid m.settlement m.bond calls m.controls) answer.Refused λ g.
+    on_outcome (event_grid m.settlement m.bond calls m.controls) Err λ g.
     walk_over g.cashflows g.calls (fitted_tree m room g.maturity_time g.steps) s
 
 -- The walk over what stands in the slices.

@@ -2,12 +2,11 @@
 use Rattle.std.specs.Prelude.{ℕ, zero, suc, ◌+◌, ◌-◌, ◌/◌, ◌%◌, ◌≤◌, ◌<◌, ◌≡◌, refl, ◌⊎◌, Bool, true, false, cond, List, [], ◌∷◌, eqb, ltb, get_or, set, take, replicate}
 use Rattle.std.proofs.Common.{sym, ap, subst, ◌∙◌, inl, inr, arith}
 use Rattle.decimal.specs.declared.Rounded.{Rounded}
-use Rattle.decimal.specs.declared.Decimals.{Decimals}
-use Rattle.decimal.specs.declared.Decimals.TheVariants.{Shown, Beyond}
+use Rattle.std.specs.Prelude.{Option, Some, None}
 use Rattle.bondreport.specs.declared.Leftward.{Leftward}
 use Rattle.bondreport.specs.Columns.{blank_line}
 use Rattle.bondreport.specs.Numbers.{byte_left, digits_left, width_of, whole_left}
-use Rattle.bondreport.specs.Figures.{before, point_left, minus_left, decimals_left, on_decimals}
+use Rattle.bondreport.specs.Figures.{before, point_left, minus_left, decimals_left}
 use Rattle.closingsheet.specs.Cells.{cell_of}
 
 -- Each byte is another.
@@ -66,7 +65,6 @@ written_unhashed v =
     pointed : Leftward
     pointed = byte_left (digits_left 2 (before blank_line 16) v.part) 46
 
-pub cell_unhashed : (d : Decimals) → Unhashed (cell_of d).cell
-unfolding on_decimals
-cell_unhashed (Shown v) = take_unhashed 16 (decimals_left (before blank_line 16) 2 v).line (written_unhashed v)
-cell_unhashed Beyond = blank_unhashed 16
+pub cell_unhashed : (d : Option Rounded) → Unhashed (cell_of d).cell
+cell_unhashed (Some v) = take_unhashed 16 (decimals_left (before blank_line 16) 2 v).line (written_unhashed v)
+cell_unhashed None = blank_unhashed 16

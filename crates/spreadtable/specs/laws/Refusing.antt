@@ -1,5 +1,5 @@
 -- Definitions only. A cell by the checks of its single call, and by its whole answer.
-use Rattle.std.specs.Prelude.{ℕ, ◌≤◌, ◌<◌, ◌≡◌, refl, ◌⊎◌, Bool, true, false, not, ◌||◌, T, ltb, eqb, length, Float}
+use Rattle.std.specs.Prelude.{ℕ, ◌≤◌, ◌<◌, ◌≡◌, refl, ◌⊎◌, Bool, true, false, not, ◌||◌, T, ltb, eqb, length, Float, Ok, Err}
 use Rattle.std.proofs.Math.Path.{sym, ap}
 use Rattle.std.proofs.Common.{subst, ◌∙◌, inl, inr, arith, lt-ltb, le-ltb, ne_eqb}
 use Rattle.std.proofs.Math.Bool.{cond}
@@ -8,11 +8,10 @@ use Rattle.std.proofs.lemmas.List.{length-map}
 use Rattle.std.specs.Float.{binary64}
 use Rattle.std.specs.Float.Ieee.{add, neg, lt, of_bits, of_int}
 use Rattle.floats.specs.declared.Refusal.{Refusal}
-use Rattle.floats.specs.Answers.{plus_zero}
+use Rattle.floats.specs.Reasons.{reason_number}
+use Rattle.floats.specs.Answers.{plus_zero, Check, Outcome}
 use Rattle.rounded.specs.laws.RoundToOdd.{ordered}
 use Rattle.terms.specs.declared.Settlement.{Settlement}
-use Rattle.terms.specs.declared.Check.{Check}
-use Rattle.terms.specs.declared.Check.TheVariants as check
 use Rattle.terms.specs.Numbers.{float}
 use Rattle.terms.specs.Terms.{CallSchedule, Market, SigmaSchedule, with_spread}
 use Rattle.terms.specs.Checks.{on_check, first_of, single, within, sigma_count, pillar_count}
@@ -22,7 +21,6 @@ use Rattle.terms.specs.laws.Sequence.{passed_not_refused, all}
 use Rattle.terms.specs.laws.EntryChecks.{other-spread}
 use Rattle.lattice.specs.Layers.{Room}
 use Rattle.treebasedbondpricer.specs.declared.TreeValue.{TreeValue}
-use Rattle.treebasedbondpricer.specs.declared.TreeValue.TheVariants.{Value, Refused}
 use Rattle.treebasedbondpricer.specs.Tree.{tree_value}
 use Rattle.spreadtable.specs.declared.Written.{Written}
 use Rattle.spreadtable.specs.Cells.{hash_cell, cell_text}
@@ -35,8 +33,8 @@ use Rattle.spreadtable.specs.laws.FittedOnce.{spread_cell, walk_on}
 -- A check's number. One that passed isn't asked.
 unfoldable pub check_text : Check → List ℕ
 unfolding hash_cell
-check_text check.Passed = hash_cell 0
-check_text (check.Refused q) = hash_cell q.number
+check_text (Ok tt) = hash_cell 0
+check_text (Err q) = hash_cell (reason_number q.reason)
 
 -- A cell by the checks of its single call, and by its whole answer.
 abbrev pub check_cell : Market → CallSchedule → Float → List ℕ

@@ -1,11 +1,11 @@
 -- Texts written one behind the other, and the page that they make. Assumes nothing.
-use Rattle.std.specs.Prelude.{ℕ, zero, suc, ◌+◌, ◌-◌, ◌≤◌, ◌≡◌, refl, List, [], ◌∷◌, ◌++◌, length, set, replicate}
+use Rattle.std.specs.Prelude.{ℕ, zero, suc, ◌+◌, ◌-◌, ◌≤◌, ◌≡◌, refl, List, [], ◌∷◌, ◌++◌, length, set, replicate, None}
 use Rattle.std.proofs.Common.{sym, ap, ◌∙◌, append-nil, add-zero, add_assoc, arith, length-append}
 use Rattle.std.proofs.Math.Seq.{append_snoc, set-append_seam}
 use Rattle.bondreport.specs.Columns.{put_at}
 use Rattle.spreadtable.specs.declared.SpreadTable.{SpreadTable}
 use Rattle.spreadtable.specs.declared.Written.{Written}
-use Rattle.spreadtable.specs.Page.{no_page, at, printed}
+use Rattle.spreadtable.specs.Page.{no_page, printed}
 
 abbrev pub empty : Written
 empty = record { page = no_page; length = 0 }
@@ -16,7 +16,7 @@ appended w text = record { page = put_at w.page w.length text; length = w.length
 
 -- What is written, with its length.
 abbrev pub as_table : Written → SpreadTable
-as_table w = record { refusal = at 0 0; length = w.length; page = w.page }
+as_table w = record { refusal = None; length = w.length; page = w.page }
 
 put-append : (xs ys line : List ℕ) (i : ℕ) → put_at line i (xs ++ ys) ≡ put_at (put_at line i xs) (i + length xs) ys
 unfolding put_at
@@ -51,8 +51,8 @@ before-zeros (b ∷ text) p (suc n) h =
 -- A text that is written into an empty page is the page, zero past it.
 pub page_is : (text : List ℕ) → length text ≤ 4112 → as_table (appended empty text) ≡ printed text
 page_is text h =
-    ap (λ (z : List ℕ). record { refusal = at 0 0; length = 0 + length text; page = z }) (before-zeros text [] 4112 h)
-    ∙ ap (λ (z : ℕ). record { refusal = at 0 0; length = z; page = text ++ replicate (4112 - length text) 0 }) none
+    ap (λ (z : List ℕ). record { refusal = None; length = 0 + length text; page = z }) (before-zeros text [] 4112 h)
+    ∙ ap (λ (z : ℕ). record { refusal = None; length = z; page = text ++ replicate (4112 - length text) 0 }) none
   where
     none : 0 + length text ≡ length text
     none = omega arith

@@ -1,11 +1,10 @@
 -- The checks of each entry are passed exactly where those of each group are. Assumes nothing.
-use Rattle.std.specs.Prelude.{◌≡◌, List, [], ◌∷◌, ◌++◌, ◌≤◌, length, Float}
+use Rattle.std.specs.Prelude.{◌≡◌, List, [], ◌∷◌, ◌++◌, ◌≤◌, length, Float, Ok, Err}
 use Rattle.std.proofs.Math.Path.{refl}
 use Rattle.std.proofs.Common.{sym, ◌∙◌}
 use Rattle.floats.specs.declared.Refusal.{Refusal}
 use Rattle.terms.specs.declared.Settlement.{Settlement}
-use Rattle.terms.specs.declared.Check.{Check}
-use Rattle.terms.specs.declared.Check.TheVariants.{Passed, Refused}
+use Rattle.floats.specs.Answers.{Check}
 use Rattle.terms.specs.Numbers.{float, target_limit}
 use Rattle.terms.specs.Terms.{Leg, CallSchedule, Pillars, Bond, TimeGrid, Market, with_spread, bond_with_puts, with_puts}
 use Rattle.terms.specs.Checks.{first_of, call_count, put_count, put_most, call_days, call_order, pillar_days, units_range, within, amount_range, strike_range, sigma_order, any_paid, maturity_apart, positive_factors}
@@ -18,7 +17,7 @@ use Rattle.terms.specs.laws.Groups.{LegPassed, CallsPassed, PillarsPassed, GridT
 -- ---- the puts
 
 -- What 2 and 37, and the other numbers, say of puts is what the calls' say of calls.
-puts-passed : (puts : CallSchedule) → put_count puts ≡ Passed → put_most puts ≡ Passed → call_days puts ≡ Passed → strike_range puts ≡ Passed → call_order puts ≡ Passed → CallsPassed puts
+puts-passed : (puts : CallSchedule) → put_count puts ≡ Ok tt → put_most puts ≡ Ok tt → call_days puts ≡ Ok tt → strike_range puts ≡ Ok tt → call_order puts ≡ Ok tt → CallsPassed puts
 puts-passed puts counted most days strikes ordered =
     record {
       counted = call-count_of puts (record { entries = put_entries puts counted; few = put-few puts most });
@@ -27,10 +26,10 @@ puts-passed puts counted most days strikes ordered =
       ordered = ordered;
     }
 
-puts-counted : (puts : CallSchedule) → CallsPassed puts → put_count puts ≡ Passed
+puts-counted : (puts : CallSchedule) → CallsPassed puts → put_count puts ≡ Ok tt
 puts-counted puts k = put-count_of puts (call-counted puts k.counted).entries
 
-puts-most : (puts : CallSchedule) → CallsPassed puts → put_most puts ≡ Passed
+puts-most : (puts : CallSchedule) → CallsPassed puts → put_most puts ≡ Ok tt
 puts-most puts k = put_most_of puts (call-counted puts k.counted).few
 
 -- ---- the grid
@@ -60,12 +59,12 @@ module _ (settlement : Settlement) (bond : Bond) (calls : CallSchedule) (control
     counts : Passes (grid_counts bond.leg calls bond.puts)
     most : Passes (most_checks bond.puts)
     days : Passes (grid_days settlement.day bond.leg calls bond.puts)
-    field : units_range bond.units ≡ Passed
+    field : units_range bond.units ≡ Ok tt
     lists : Passes (list_numbers bond.leg calls bond.puts)
     orders : Passes (call_orders calls bond.puts)
     later-orders : Passes (any_paid settlement.day bond.leg ∷ maturity_apart settlement bond.leg ∷ [])
 
-  grid_groups : grid_checks settlement bond calls controls ≡ Passed → GridGroups
+  grid_groups : grid_checks settlement bond calls controls ≡ Ok tt → GridGroups
   unfolding grid_checks
   grid_groups h =
       let g =
@@ -91,7 +90,7 @@ module _ (settlement : Settlement) (bond : Bond) (calls : CallSchedule) (control
         later-orders = g.1.1.1.1.1.1.1.0;
       }
 
-  pub grid-terms : grid_checks settlement bond calls controls ≡ Passed → GridTermsPassed settlement bond controls
+  pub grid-terms : grid_checks settlement bond calls controls ≡ Ok tt → GridTermsPassed settlement bond controls
   grid-terms h =
       let g = grid_groups h in
       record {
@@ -109,7 +108,7 @@ module _ (settlement : Settlement) (bond : Bond) (calls : CallSchedule) (control
         apart = g.later-orders.1.0;
       }
 
-  pub grid-calls : grid_checks settlement bond calls controls ≡ Passed → CallsPassed calls
+  pub grid-calls : grid_checks settlement bond calls controls ≡ Ok tt → CallsPassed calls
   grid-calls h =
       let g = grid_groups h in
       record {
@@ -119,7 +118,7 @@ module _ (settlement : Settlement) (bond : Bond) (calls : CallSchedule) (control
         ordered = g.orders.0;
       }
 
-  grid-front : GridTermsPassed settlement bond controls → call_count calls ≡ Passed → call_days calls ≡ Passed → Passes (all grid-before)
+  grid-front : GridTermsPassed settlement bond controls → call_count calls ≡ Ok tt → call_days calls ≡ Ok tt → Passes (all grid-before)
   grid-front terms counted days =
       all_pass grid-before (
         (terms.steps, (terms.leg.code, tt)),
@@ -135,14 +134,14 @@ module _ (settlement : Settlement) (bond : Bond) (calls : CallSchedule) (control
         ),
       )
 
-  pub grid-passed : GridTermsPassed settlement bond controls → CallsPassed calls → grid_checks settlement bond calls controls ≡ Passed
+  pub grid-passed : GridTermsPassed settlement bond controls → CallsPassed calls → grid_checks settlement bond calls controls ≡ Ok tt
   grid-passed terms k =
       grid-split
       ∙ first_of_one (all grid-before) (strike_range calls) (all grid-after) (grid-front terms k.counted k.days) (all_pass grid-after ((terms.puts.strikes, tt), ((k.ordered, (terms.puts.ordered, tt)), ((terms.leg.paid, (terms.apart, tt)), tt))))
       ∙ k.strikes
 
   -- What stands before the strikes is passed, and a strike is refused: that is the answer.
-  pub grid-strike-refused : (r : Refusal) → GridTermsPassed settlement bond controls → call_count calls ≡ Passed → call_days calls ≡ Passed → strike_range calls ≡ Refused r → grid_checks settlement bond calls controls ≡ Refused r
+  pub grid-strike-refused : (r : Refusal) → GridTermsPassed settlement bond controls → call_count calls ≡ Ok tt → call_days calls ≡ Ok tt → strike_range calls ≡ Err r → grid_checks settlement bond calls controls ≡ Err r
   grid-strike-refused r terms counted days e =
       grid-split ∙ first_refusal (all grid-before) (strike_range calls) r (all grid-after) (grid-front terms counted days) e
 
@@ -192,7 +191,7 @@ module _ (limit : Float) (m : Market) (calls : CallSchedule) where
     model_counts_lem : Passes (model_counts m.model.sigma m.pillars)
     most : Passes (most_checks m.bond.puts)
     days : Passes (grid_days m.settlement.day m.bond.leg calls m.bond.puts)
-    pillar_days_lem : pillar_days m.pillars ≡ Passed
+    pillar_days_lem : pillar_days m.pillars ≡ Ok tt
     fields : Passes (tree_fields limit m.bond.units m.model.alpha m.spread)
     lists : Passes (list_numbers m.bond.leg calls m.bond.puts)
     model_numbers_lem : Passes (model_numbers m.model.sigma m.pillars)
@@ -200,7 +199,7 @@ module _ (limit : Float) (m : Market) (calls : CallSchedule) where
     later-orders : Passes (sigma_order m.model.sigma ∷ any_paid m.settlement.day m.bond.leg ∷ [])
     late : Passes (late_checks m.settlement m.bond.leg m.pillars)
 
-  market_groups : market_checks limit m calls ≡ Passed → MarketGroups
+  market_groups : market_checks limit m calls ≡ Ok tt → MarketGroups
   unfolding market_checks
   market_groups h =
       let g =
@@ -230,7 +229,7 @@ module _ (limit : Float) (m : Market) (calls : CallSchedule) where
         late = g.1.1.1.1.1.1.1.1.1.1.1.0;
       }
 
-  pub market-terms : market_checks limit m calls ≡ Passed → MarketPassed limit m
+  pub market-terms : market_checks limit m calls ≡ Ok tt → MarketPassed limit m
   market-terms h =
       let g = market_groups h in
       record {
@@ -265,7 +264,7 @@ module _ (limit : Float) (m : Market) (calls : CallSchedule) where
         spread = g.fields.1.1.0;
       }
 
-  pub market-calls : market_checks limit m calls ≡ Passed → CallsPassed calls
+  pub market-calls : market_checks limit m calls ≡ Ok tt → CallsPassed calls
   market-calls h =
       let g = market_groups h in
       record {
@@ -275,7 +274,7 @@ module _ (limit : Float) (m : Market) (calls : CallSchedule) where
         ordered = g.orders.0;
       }
 
-  market-front : MarketPassed limit m → call_count calls ≡ Passed → call_days calls ≡ Passed → Passes market-before
+  market-front : MarketPassed limit m → call_count calls ≡ Ok tt → call_days calls ≡ Ok tt → Passes market-before
   market-front t counted days =
       all_pass (spread-before m calls ++ ((within limit m.spread ∷ amount_range m.bond.leg ∷ []) ∷ [])) (
         (t.grid.steps, (t.grid.leg.code, tt)),
@@ -300,7 +299,7 @@ module _ (limit : Float) (m : Market) (calls : CallSchedule) where
         ),
       )
 
-  pub market-passed : MarketPassed limit m → CallsPassed calls → market_checks limit m calls ≡ Passed
+  pub market-passed : MarketPassed limit m → CallsPassed calls → market_checks limit m calls ≡ Ok tt
   market-passed t k =
       market-split
       ∙ first_of_one market-before (strike_range calls) (all (market-after m calls)) (market-front t k.counted k.days)
@@ -320,16 +319,16 @@ module _ (limit : Float) (m : Market) (calls : CallSchedule) where
       ∙ k.strikes
 
   -- What stands before the strikes is passed, and a strike is refused: that is the answer.
-  pub market-strike-refused : (r : Refusal) → MarketPassed limit m → call_count calls ≡ Passed → call_days calls ≡ Passed → strike_range calls ≡ Refused r → market_checks limit m calls ≡ Refused r
+  pub market-strike-refused : (r : Refusal) → MarketPassed limit m → call_count calls ≡ Ok tt → call_days calls ≡ Ok tt → strike_range calls ≡ Err r → market_checks limit m calls ≡ Err r
   market-strike-refused r t counted days e =
       market-split ∙ first_refusal market-before (strike_range calls) r (all (market-after m calls)) (market-front t counted days) e
 
   -- As many pillars as a table of their times has room for.
-  pub market-few-pillars : market_checks limit m calls ≡ Passed → length m.pillars.days ≤ 256
+  pub market-few-pillars : market_checks limit m calls ≡ Ok tt → length m.pillars.days ≤ 256
   market-few-pillars h = (pillars-counted m.pillars (market-terms h).pillars.counted).few
 
   -- Where these checks are passed, so are those of the grid.
-  pub market-grid : market_checks limit m calls ≡ Passed → grid_checks m.settlement m.bond calls m.controls ≡ Passed
+  pub market-grid : market_checks limit m calls ≡ Ok tt → grid_checks m.settlement m.bond calls m.controls ≡ Ok tt
   market-grid h = grid-passed m.settlement m.bond calls m.controls (market-terms h).grid (market-calls h)
 
 -- The other checks don't read the call entries: two lists that both pass their own checks are answered alike.
@@ -357,34 +356,34 @@ grid-puts-alike settlement bond calls controls first second k l =
     cc
 
 -- Nor the spread: where they are passed, another spread is answered by its own check.
-pub other-spread : (limit : Float) (m : Market) (calls : CallSchedule) (s : Float) → market_checks limit m calls ≡ Passed → tree_checks (with_spread m s) calls ≡ within (float 1) s
+pub other-spread : (limit : Float) (m : Market) (calls : CallSchedule) (s : Float) → market_checks limit m calls ≡ Ok tt → tree_checks (with_spread m s) calls ≡ within (float 1) s
 unfolding tree_checks
 other-spread limit m calls s h = first_of-other (all (spread-before m calls)) (within limit m.spread) (within (float 1) s) (all (spread-after m calls)) h
 
 -- ---- the tree value
 
 module _ (m : Market) (calls : CallSchedule) where
-  pub tree-market : tree_checks m calls ≡ Passed → MarketPassed (float 1) m
+  pub tree-market : tree_checks m calls ≡ Ok tt → MarketPassed (float 1) m
   unfolding tree_checks
   tree-market = market-terms (float 1) m calls
 
-  pub tree-calls : tree_checks m calls ≡ Passed → CallsPassed calls
+  pub tree-calls : tree_checks m calls ≡ Ok tt → CallsPassed calls
   unfolding tree_checks
   tree-calls = market-calls (float 1) m calls
 
-  pub tree-passed : MarketPassed (float 1) m → CallsPassed calls → tree_checks m calls ≡ Passed
+  pub tree-passed : MarketPassed (float 1) m → CallsPassed calls → tree_checks m calls ≡ Ok tt
   unfolding tree_checks
   tree-passed = market-passed (float 1) m calls
 
-  pub tree-strike-refused : (r : Refusal) → MarketPassed (float 1) m → call_count calls ≡ Passed → call_days calls ≡ Passed → strike_range calls ≡ Refused r → tree_checks m calls ≡ Refused r
+  pub tree-strike-refused : (r : Refusal) → MarketPassed (float 1) m → call_count calls ≡ Ok tt → call_days calls ≡ Ok tt → strike_range calls ≡ Err r → tree_checks m calls ≡ Err r
   unfolding tree_checks
   tree-strike-refused = market-strike-refused (float 1) m calls
 
-  pub tree-few-pillars : tree_checks m calls ≡ Passed → length m.pillars.days ≤ 256
+  pub tree-few-pillars : tree_checks m calls ≡ Ok tt → length m.pillars.days ≤ 256
   unfolding tree_checks
   tree-few-pillars = market-few-pillars (float 1) m calls
 
-  pub tree-grid : tree_checks m calls ≡ Passed → grid_checks m.settlement m.bond calls m.controls ≡ Passed
+  pub tree-grid : tree_checks m calls ≡ Ok tt → grid_checks m.settlement m.bond calls m.controls ≡ Ok tt
   unfolding tree_checks
   tree-grid = market-grid (float 1) m calls
 
@@ -402,14 +401,14 @@ pub spread_is : (m : Market) (calls : CallSchedule) → spread_checks m calls �
 unfolding spread_checks
 spread_is m calls = refl
 
-pub spread-few-pillars : (m : Market) (calls : CallSchedule) → spread_checks m calls ≡ Passed → length m.pillars.days ≤ 256
+pub spread-few-pillars : (m : Market) (calls : CallSchedule) → spread_checks m calls ≡ Ok tt → length m.pillars.days ≤ 256
 spread-few-pillars m calls h = market-few-pillars target_limit m calls (sym (spread_is m calls) ∙ h)
 
-pub spread-grid : (m : Market) (calls : CallSchedule) → spread_checks m calls ≡ Passed → grid_checks m.settlement m.bond calls m.controls ≡ Passed
+pub spread-grid : (m : Market) (calls : CallSchedule) → spread_checks m calls ≡ Ok tt → grid_checks m.settlement m.bond calls m.controls ≡ Ok tt
 spread-grid m calls h = market-grid target_limit m calls (sym (spread_is m calls) ∙ h)
 
 -- Where a target's terms are accepted, those of a tried spread are checked only for its range.
-pub spread-tried : (m : Market) (calls : CallSchedule) (s : Float) → spread_checks m calls ≡ Passed → tree_checks (with_spread m s) calls ≡ within (float 1) s
+pub spread-tried : (m : Market) (calls : CallSchedule) (s : Float) → spread_checks m calls ≡ Ok tt → tree_checks (with_spread m s) calls ≡ within (float 1) s
 spread-tried m calls s h = other-spread target_limit m calls s (sym (spread_is m calls) ∙ h)
 
 -- ---- straight value
@@ -425,7 +424,7 @@ module _ (settlement : Settlement) (leg : Leg) (spread : Float) (pillars : Pilla
       ∷ (positive_factors pillars ∷ [])
       ∷ []
 
-  pub straight-terms : straight_checks settlement leg spread pillars ≡ Passed → LegPassed settlement leg × PillarsPassed settlement leg pillars × (within (float 1) spread ≡ Passed)
+  pub straight-terms : straight_checks settlement leg spread pillars ≡ Ok tt → LegPassed settlement leg × PillarsPassed settlement leg pillars × (within (float 1) spread ≡ Ok tt)
   unfolding straight_checks
   straight-terms h =
       let g = groups_of_first straight_groups h in
@@ -447,7 +446,7 @@ module _ (settlement : Settlement) (leg : Leg) (spread : Float) (pillars : Pilla
         numbers.0,
       )
 
-  pub straight-passed : LegPassed settlement leg → PillarsPassed settlement leg pillars → within (float 1) spread ≡ Passed → straight_checks settlement leg spread pillars ≡ Passed
+  pub straight-passed : LegPassed settlement leg → PillarsPassed settlement leg pillars → within (float 1) spread ≡ Ok tt → straight_checks settlement leg spread pillars ≡ Ok tt
   unfolding straight_checks
   straight-passed l q e =
       first_of_groups straight_groups (
@@ -479,7 +478,7 @@ module _ (limit : Float) (settlement : Settlement) (leg : Leg) (x : Float) (rate
       ∷ (rate ∷ [])
       ∷ []
 
-  pub yield-terms : yield_checks limit settlement leg x rate ≡ Passed → LegPassed settlement leg × (within limit x ≡ Passed) × (rate ≡ Passed)
+  pub yield-terms : yield_checks limit settlement leg x rate ≡ Ok tt → LegPassed settlement leg × (within limit x ≡ Ok tt) × (rate ≡ Ok tt)
   unfolding yield_checks
   yield-terms h =
       let g = groups_of_first yield_groups h in
@@ -493,7 +492,7 @@ module _ (limit : Float) (settlement : Settlement) (leg : Leg) (x : Float) (rate
         last.0,
       )
 
-  pub yield-passed : LegPassed settlement leg → within limit x ≡ Passed → rate ≡ Passed → yield_checks limit settlement leg x rate ≡ Passed
+  pub yield-passed : LegPassed settlement leg → within limit x ≡ Ok tt → rate ≡ Ok tt → yield_checks limit settlement leg x rate ≡ Ok tt
   unfolding yield_checks
   yield-passed l e f =
       first_of_groups yield_groups (

@@ -1,11 +1,11 @@
 -- The strikes and days of a call list made from an accepted one: refused with 4 where a strike is above 1,000,000, else accepted. Assumes nothing.
-use Rattle.std.specs.Prelude.{◌≡◌, ◌⊎◌, ℕ, ◌<◌, T}
+use Rattle.std.specs.Prelude.{◌≡◌, ◌⊎◌, ℕ, ◌<◌, T, Ok, Err}
 use Rattle.std.proofs.Common.{inl, inr, arith}
 use Rattle.std.specs.Float.Ieee.{lt, le}
 use Rattle.floats.specs.declared.Refusal.{Refusal}
+use Rattle.floats.specs.declared.Reason.TheVariants as reason
 use Rattle.floats.specs.Answers.{plus_zero}
 use Rattle.floats.specs.laws.Order.{number_of-finite, number_of_le, le_of_lt, le_of_not_lt, lt_of_lt_of_le, between}
-use Rattle.terms.specs.declared.Check.TheVariants.{Passed, Refused}
 use Rattle.terms.specs.Numbers.{million}
 use Rattle.terms.specs.Terms.{CallSchedule}
 use Rattle.terms.specs.Checks.{call_days, call_order, strike_range}
@@ -47,14 +47,14 @@ module _ (first second : CallSchedule) (made : MadeFrom first second) where
   -- ---- the checks of the call entries
 
   module _ (accepted : CallsPassed first) where
-    pub made-days : call_days second ≡ Passed
+    pub made-days : call_days second ≡ Ok tt
     made-days =
         call-days_of second
         (λ i l.
         let d = call_days-passed first accepted.days (made.partner i) (made.of_first i l) in
         record { start-day = rw (made.same_start i l) d.start-day; end-day = rw (made.same_end i l) d.end-day })
 
-    pub made-ordered : call_order second ≡ Passed
+    pub made-ordered : call_order second ≡ Ok tt
     made-ordered =
         call_order_of second
         (λ i l.
@@ -68,7 +68,7 @@ module _ (first second : CallSchedule) (made : MadeFrom first second) where
         (accepted-strike first accepted (made.partner i) (made.of_first i l)).above_zero
         (made.strike_as_high i l)
 
-    pub made-strikes : AllWithin second → strike_range second ≡ Passed
+    pub made-strikes : AllWithin second → strike_range second ≡ Ok tt
     made-strikes h =
         strikes_of second
         (λ i u.
@@ -80,11 +80,11 @@ module _ (first second : CallSchedule) (made : MadeFrom first second) where
           at_most = h i l;
         })
 
-  pub made-refused : SomeAbove second → (r : Refusal) × (strike_range second ≡ Refused r) × (r.number ≡ 4)
+  pub made-refused : SomeAbove second → (r : Refusal) × (strike_range second ≡ Err r) × (r.reason ≡ reason.Number)
   made-refused s =
       let e = made.entries.strikes_too in
       let found = strike-refused second s.index (let b = s.below in omega arith) s.holds in
-      (found.0, found.1, found.2.same_number)
+      (found.0, found.1, found.2.same_reason)
 
 -- ---- a reordered list
 

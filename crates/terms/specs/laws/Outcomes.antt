@@ -1,74 +1,71 @@
 -- One part of the working state after another: where the whole is given, or refused, what the first part was, and what holds of the whole where it holds of each part. Assumes nothing.
-use Rattle.std.specs.Prelude.{◌≡◌, ◌⊎◌, Bool, true, false, not, cond, ℕ, T, Float}
+use Rattle.std.specs.Prelude.{◌≡◌, ◌⊎◌, Bool, true, false, not, cond, ℕ, T, Float, Ok, Err}
 use Rattle.std.proofs.Math.Path.{refl}
 use Rattle.std.proofs.Common.{ap, inl, inr, arith}
 use Rattle.std.specs.Float.Ieee.Scale.{finite}
 use Rattle.floats.specs.declared.Refusal.{Refusal}
-use Rattle.floats.specs.declared.Answer.{Answer}
-use Rattle.floats.specs.declared.Answer.TheVariants.{Value, Refused}
-use Rattle.floats.specs.Answers.{on_answer, not_finite}
-use Rattle.terms.specs.Outcomes.{Outcome, given, refused, on_outcome, follow, valued}
+use Rattle.floats.specs.Answers.{Answer, on_outcome, not_finite, Outcome, follow}
 
 -- Nothing is both given and refused.
-pub given_or_refused : {A : Type 0} {o : Outcome A} {x : A} {r : Refusal} → o ≡ given x → o ≡ refused r → ⊥
+pub given_or_refused : {A : Type 0} {o : Outcome A} {x : A} {r : Refusal} → o ≡ Ok x → o ≡ Err r → ⊥
 given_or_refused {A} {o} {x} {r} h k = let z : ◌≡◌ {A = ℕ} 0 1 = cc in omega arith
 
-pub value_or_refused : {o : Answer} {x : Float} {r : Refusal} → o ≡ Value x → o ≡ Refused r → ⊥
+pub value_or_refused : {o : Answer} {x : Float} {r : Refusal} → o ≡ Ok x → o ≡ Err r → ⊥
 value_or_refused {o} {x} {r} h k = let z : ◌≡◌ {A = ℕ} 0 1 = cc in omega arith
 
 -- What is given is one thing.
-pub same_given : {A : Type 0} {x y : A} → given y ≡ given x → y ≡ x
+pub same_given : {A : Type 0} {x y : A} → ◌≡◌ {A = Outcome A} (Ok y) (Ok x) → y ≡ x
 same_given e = cc
 
 -- An outcome is given or refused.
-pub outcome-cases : {A : Type 0} (o : Outcome A) → ((x : A) × (o ≡ given x)) ⊎ ((r : Refusal) × (o ≡ refused r))
-outcome-cases (given x) = inl (x, refl)
-outcome-cases (refused r) = inr (r, refl)
+pub outcome-cases : {A : Type 0} (o : Outcome A) → ((x : A) × (o ≡ Ok x)) ⊎ ((r : Refusal) × (o ≡ Err r))
+outcome-cases (Ok x) = inl (x, refl)
+outcome-cases (Err r) = inr (r, refl)
 
-pub answer-cases : (o : Answer) → ((x : Float) × (o ≡ Value x)) ⊎ ((r : Refusal) × (o ≡ Refused r))
-answer-cases (Value x) = inl (x, refl)
-answer-cases (Refused r) = inr (r, refl)
+pub answer-cases : (o : Answer) → ((x : Float) × (o ≡ Ok x)) ⊎ ((r : Refusal) × (o ≡ Err r))
+answer-cases (Ok x) = inl (x, refl)
+answer-cases (Err r) = inr (r, refl)
 
 -- ---- what follows a given part, and a refusal handed up
 
-pub follow-given : {A B : Type 0} (o : Outcome A) (k : A → Outcome B) {x : A} → o ≡ given x → follow o k ≡ k x
+pub follow-given : {A B : Type 0} (o : Outcome A) (k : A → Outcome B) {x : A} → o ≡ Ok x → follow o k ≡ k x
 unfolding on_outcome
 follow-given o k h = rw h
 
-pub follow-refused : {A B : Type 0} (o : Outcome A) (k : A → Outcome B) {r : Refusal} → o ≡ refused r → follow o k ≡ refused r
+pub follow-refused : {A B : Type 0} (o : Outcome A) (k : A → Outcome B) {r : Refusal} → o ≡ Err r → follow o k ≡ Err r
 unfolding on_outcome
 follow-refused o k h = rw h
 
-pub of_given : {A B : Type 0} (o : Outcome A) (k : A → Outcome B) {y : B} → follow o k ≡ given y → (x : A) × (o ≡ given x) × (k x ≡ given y)
+pub of_given : {A B : Type 0} (o : Outcome A) (k : A → Outcome B) {y : B} → follow o k ≡ Ok y → (x : A) × (o ≡ Ok x) × (k x ≡ Ok y)
 unfolding on_outcome
-of_given (given x) k h = (x, refl, h)
-of_given (refused r) k h = absurd (given_or_refused h refl)
+of_given (Ok x) k h = (x, refl, h)
+of_given (Err r) k h = absurd (given_or_refused h refl)
 
-pub of_refused : {A B : Type 0} (o : Outcome A) (k : A → Outcome B) {r : Refusal} → follow o k ≡ refused r
-    → (o ≡ refused r) ⊎ ((x : A) × (o ≡ given x) × (k x ≡ refused r))
+pub of_refused : {A B : Type 0} (o : Outcome A) (k : A → Outcome B) {r : Refusal} → follow o k ≡ Err r
+    → (o ≡ Err r) ⊎ ((x : A) × (o ≡ Ok x) × (k x ≡ Err r))
 unfolding on_outcome
-of_refused (given x) k h = inr (x, refl, h)
-of_refused (refused q) k {r} h = inl (let e : q ≡ r = cc in ap refused e)
+of_refused (Ok x) k h = inr (x, refl, h)
+of_refused (Err q) k {r} h = inl (let e : q ≡ r = cc in ap Err e)
 
 -- ---- the same of an answer's value
 
-pub valued-value : {A : Type 0} (o : Answer) (k : Float → Outcome A) {x : Float} → o ≡ Value x → valued o k ≡ k x
-unfolding on_answer
+pub valued-value : {A : Type 0} (o : Answer) (k : Float → Outcome A) {x : Float} → o ≡ Ok x → follow o k ≡ k x
+unfolding on_outcome
 valued-value o k h = rw h
 
-pub valued-refused : {A : Type 0} (o : Answer) (k : Float → Outcome A) {r : Refusal} → o ≡ Refused r → valued o k ≡ refused r
-unfolding on_answer
+pub valued-refused : {A : Type 0} (o : Answer) (k : Float → Outcome A) {r : Refusal} → o ≡ Err r → follow o k ≡ Err r
+unfolding on_outcome
 valued-refused o k h = rw h
 
 -- ---- what holds of an outcome where it is given
 
 -- P of what is given; a refusal gives nothing.
 pub data Gives {A : Type 0} (P : A → Type 0) : Outcome A → Type 0 where
-  gives : {x : A} → P x → Gives P (given x)
-  nothing : {r : Refusal} → Gives P (refused r)
+  gives : {x : A} → P x → Gives P (Ok x)
+  nothing : {r : Refusal} → Gives P (Err r)
 
 -- read off where the outcome is known
-pub given_of : {A : Type 0} {P : A → Type 0} {o : Outcome A} {x : A} → Gives P o → o ≡ given x → P x
+pub given_of : {A : Type 0} {P : A → Type 0} {o : Outcome A} {x : A} → Gives P o → o ≡ Ok x → P x
 given_of (gives {x = y} p) e = rw (← same_given e) p
 given_of nothing e = absurd (given_or_refused e refl)
 
@@ -80,20 +77,20 @@ module _ {A B : Type 0} {P : A → Type 0} {Q : B → Type 0} where
 
 module _ {B : Type 0} {Q : B → Type 0} where
   -- a part that is only known to be given
-  pub gives-known : {A : Type 0} (o : Outcome A) (k : A → Outcome B) → ((x : A) → o ≡ given x → Gives Q (k x)) → Gives Q (follow o k)
+  pub gives-known : {A : Type 0} (o : Outcome A) (k : A → Outcome B) → ((x : A) → o ≡ Ok x → Gives Q (k x)) → Gives Q (follow o k)
   unfolding on_outcome
-  gives-known (given x) k h = h x refl
-  gives-known (refused r) k h = nothing
+  gives-known (Ok x) k h = h x refl
+  gives-known (Err r) k h = nothing
 
-  pub gives-valued : (a : Answer) (k : Float → Outcome B) → ((x : Float) → Gives Q (k x)) → Gives Q (valued a k)
-  unfolding on_answer
-  gives-valued (Value x) k h = h x
-  gives-valued (Refused r) k h = nothing
+  pub gives-valued : (a : Answer) (k : Float → Outcome B) → ((x : Float) → Gives Q (k x)) → Gives Q (follow a k)
+  unfolding on_outcome
+  gives-valued (Ok x) k h = h x
+  gives-valued (Err r) k h = nothing
 
-  pub gives-finite : (x : Float) (r : Refusal) (o : Outcome B) → (T (finite x) → Gives Q o) → Gives Q (cond (not_finite x) (refused r) o)
+  pub gives-finite : (x : Float) (r : Refusal) (o : Outcome B) → (T (finite x) → Gives Q o) → Gives Q (cond (not_finite x) (Err r) o)
   gives-finite x r o h = go (finite x) h
     where
-      go : (b : Bool) → (T b → Gives Q o) → Gives Q (cond (not b) (refused r) o)
+      go : (b : Bool) → (T b → Gives Q o) → Gives Q (cond (not b) (Err r) o)
       go true h = h tt
       go false h = nothing
 

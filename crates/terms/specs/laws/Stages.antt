@@ -1,10 +1,9 @@
 -- An entry's checks are those of its groups, one after the other: in stages, as the code makes them. Assumes nothing.
-use Rattle.std.specs.Prelude.{◌≡◌, refl, List, [], ◌∷◌, ◌++◌, ℕ, ◌≤◌, Float}
+use Rattle.std.specs.Prelude.{◌≡◌, refl, List, [], ◌∷◌, ◌++◌, ℕ, ◌≤◌, Float, Ok, Err}
 use Rattle.std.proofs.Common.{sym, ap, ◌∙◌}
 use Rattle.floats.specs.declared.Refusal.{Refusal}
 use Rattle.terms.specs.declared.Settlement.{Settlement}
-use Rattle.terms.specs.declared.Check.{Check}
-use Rattle.terms.specs.declared.Check.TheVariants.{Passed, Refused}
+use Rattle.floats.specs.Answers.{Check}
 use Rattle.terms.specs.Terms.{Leg, CallSchedule, SigmaSchedule, Pillars, Bond, TimeGrid, Market}
 use Rattle.terms.specs.Checks.{put_most, on_check, first_of, any_paid}
 use Rattle.terms.specs.laws.Sequence.{passed_not_refused, all, passes_of_first, first_after, groups_of_first}
@@ -19,13 +18,13 @@ use Rattle.terms.specs.Entries.{setting_checks, grid_counts, most_checks, grid_d
 pub first_joined : (xs ys : List Check) → first_of (xs ++ ys) ≡ first_of (first_of xs ∷ ys)
 unfolding first_of on_check
 first_joined [] ys = refl
-first_joined (Passed ∷ xs) ys = first_joined xs ys
-first_joined (Refused q ∷ xs) ys = refl
+first_joined ((Ok tt) ∷ xs) ys = first_joined xs ys
+first_joined (Err q ∷ xs) ys = refl
 
 -- A refusal of the first is the answer.
-pub first_stopped : (xs ys : List Check) (q : Refusal) → first_of xs ≡ Refused q → first_of (xs ++ ys) ≡ Refused q
+pub first_stopped : (xs ys : List Check) (q : Refusal) → first_of xs ≡ Err q → first_of (xs ++ ys) ≡ Err q
 unfolding first_of on_check
-first_stopped xs ys q e = first_joined xs ys ∙ ap (λ (z : Check). on_check z Refused (first_of ys)) e
+first_stopped xs ys q e = first_joined xs ys ∙ ap (λ (z : Check). on_check z Err (first_of ys)) e
 
 abbrev each : List (List Check) → List Check
 each [] = []
@@ -34,7 +33,7 @@ each (xs ∷ xss) = first_of xs ∷ each xss
 pub in_stages : (xss : List (List Check)) → first_of (all xss) ≡ first_of (each xss)
 unfolding first_of
 in_stages [] = refl
-in_stages (xs ∷ xss) = first_joined xs (all xss) ∙ ap (on_check (first_of xs) Refused) (in_stages xss)
+in_stages (xs ∷ xss) = first_joined xs (all xss) ∙ ap (on_check (first_of xs) Err) (in_stages xss)
 
 -- ---- the grid
 
@@ -82,14 +81,14 @@ yield_in_stages limit s l x rate =
     let days = yield_days s.day l in
     let rest = any_paid s.day l ∷ rate ∷ [] in
     first_joined counts (days ++ yield_numbers limit x l ++ rest)
-    ∙ ap (on_check (first_of counts) Refused)
-    (first_joined days (yield_numbers limit x l ++ rest) ∙ ap (on_check (first_of days) Refused) (first_joined (yield_numbers limit x l) rest))
+    ∙ ap (on_check (first_of counts) Err)
+    (first_joined days (yield_numbers limit x l ++ rest) ∙ ap (on_check (first_of days) Err) (first_joined (yield_numbers limit x l) rest))
 
 -- ---- what a stage of counts tells where it is passed
 
 pub record Tells (r whole : Check) (fact : Type 0) : Type 0 where
   pub same : r ≡ whole
-  pub passed : r ≡ Passed → fact
+  pub passed : r ≡ Ok tt → fact
 
 pub grid_tells : {r : Check} (g : TimeGrid) (code : ℕ) (l : Leg) (k q : CallSchedule) → r ≡ first_of (setting_checks g code ++ grid_counts l k q) → Tells r (first_of (setting_checks g code ++ grid_counts l k q)) (LegCounted l × CallCounted k × Entries q)
 grid_tells g code l k q e =
@@ -110,7 +109,7 @@ model_tells v p e =
 
 -- The counts of the grid, then those of sigma and pillars.
 module _ {a : Check} (g : TimeGrid) (code : ℕ) (l : Leg) (k q : CallSchedule) (v : SigmaSchedule) (p : Pillars) (grid : Tells a (first_of (setting_checks g code ++ grid_counts l k q)) (LegCounted l × CallCounted k × Entries q)) where
-  pub tree_tells : {b : Check} → a ≡ Passed → Tells b (first_of (model_counts v p)) (SigmaCounted v × PillarsCounted p)
+  pub tree_tells : {b : Check} → a ≡ Ok tt → Tells b (first_of (model_counts v p)) (SigmaCounted v × PillarsCounted p)
       → Tells b (first_of (setting_checks g code ++ tree_counts l k q v p)) ((LegCounted l × CallCounted k × Entries q) × (SigmaCounted v × PillarsCounted p))
   tree_tells e model =
       let before = setting_checks g code ++ grid_counts l k q in
@@ -119,7 +118,7 @@ module _ {a : Check} (g : TimeGrid) (code : ℕ) (l : Leg) (k q : CallSchedule) 
         passed = λ t. (grid.passed e, model.passed t);
       }
 
-  pub tree-refuses : {x : Refusal} → a ≡ Refused x → Tells a (first_of (setting_checks g code ++ tree_counts l k q v p)) ((LegCounted l × CallCounted k × Entries q) × (SigmaCounted v × PillarsCounted p))
+  pub tree-refuses : {x : Refusal} → a ≡ Err x → Tells a (first_of (setting_checks g code ++ tree_counts l k q v p)) ((LegCounted l × CallCounted k × Entries q) × (SigmaCounted v × PillarsCounted p))
   tree-refuses {x} e =
       record {
         same = e ∙ sym (first_stopped (setting_checks g code ++ grid_counts l k q) (model_counts v p) x (sym grid.same ∙ e));

@@ -1,17 +1,17 @@
 -- The call-list rule and the reordering rule, proved over any curve, and of the tree value. Assumes nothing.
-use Rattle.std.specs.Prelude.{ℕ, Float}
+use Rattle.std.specs.Prelude.{ℕ, Float, Ok, Err}
 use Rattle.std.proofs.Math.Path.{◌≡◌, refl}
 use Rattle.std.proofs.Common.{sym, ap, ◌∙◌, inl, inr, arith}
 use Rattle.floats.specs.declared.Refusal.{Refusal}
-use Rattle.floats.specs.declared.Answer.{Answer}
+use Rattle.floats.specs.declared.Reason.TheVariants as reason
+use Rattle.floats.specs.Reasons.{refusal_number, reason_number}
+use Rattle.floats.specs.Answers.{Answer, Outcome, on_outcome}
 use Rattle.floats.specs.laws.Order.{not_le_of_lt}
-use Rattle.terms.specs.declared.Check.TheVariants as check
 use Rattle.terms.specs.Numbers.{million}
 use Rattle.terms.specs.Terms.{CallSchedule, Market}
 use Rattle.terms.specs.CallLists.{MadeFrom, Reordered, StrikeAbove, strike_of}
 use Rattle.terms.specs.Checks.{on_check}
 use Rattle.terms.specs.Entries.{tree_checks}
-use Rattle.terms.specs.Outcomes.{Outcome, given, refused, on_outcome}
 use Rattle.terms.specs.laws.Lockstep.{GivenOr27, is_given, is_27}
 use Rattle.terms.specs.laws.EntryChecks.{grid-calls, tree-grid}
 use Rattle.terms.specs.laws.MadeLists.{AllWithin, strikes-decided}
@@ -21,7 +21,6 @@ use Rattle.bondevents.specs.Grid.{grid_answer}
 use Rattle.bondevents.specs.laws.NoLower.{NoLowerGrid}
 use Rattle.bondevents.proofs.laws.GridAnswers.{Accepted, accepted, checked-no_lower, reordered-accepted, answer-reordered}
 use Rattle.treebasedbondpricer.specs.declared.TreeValue.{TreeValue}
-use Rattle.treebasedbondpricer.specs.declared.TreeValue.TheVariants.{Value, Refused}
 use Rattle.lattice.specs.Layers.{Room}
 use Rattle.treebasedbondpricer.specs.Tree.{lattice_value_over, tree_value_over, tree_value, curve_of, lent_after, number_of}
 use Rattle.treebasedbondpricer.specs.CallLists as rule
@@ -32,21 +31,21 @@ use Rattle.treebasedbondpricer.specs.laws.ValueRising.{Values, values, value-no_
 -- ---- the tree value put together again from its parts
 
 module _ (curve : Float → ℕ → Answer) (m : Market) (calls : CallSchedule) (room : Room) where
-  refused_by_check : (r : Refusal) → tree_checks m calls ≡ check.Refused r → tree_value_over curve m calls room ≡ Refused r
+  refused_by_check : (r : Refusal) → tree_checks m calls ≡ Err r → tree_value_over curve m calls room ≡ Err r
   unfolding on_check
-  refused_by_check r e = answer_is curve m calls room (check.Refused r) (grid_for m calls) e refl
+  refused_by_check r e = answer_is curve m calls room (Err r) (grid_for m calls) e refl
 
-  refused_by-grid : (r : Refusal) → tree_checks m calls ≡ check.Passed → grid_for m calls ≡ refused r → tree_value_over curve m calls room ≡ Refused r
+  refused_by-grid : (r : Refusal) → tree_checks m calls ≡ Ok tt → grid_for m calls ≡ Err r → tree_value_over curve m calls room ≡ Err r
   unfolding on_check on_outcome
-  refused_by-grid r e g = answer_is curve m calls room check.Passed (refused r) e g
+  refused_by-grid r e g = answer_is curve m calls room (Ok tt) (Err r) e g
 
-  of_tree : (grid : BondEventGrid) (o : Outcome TreeValue) → tree_checks m calls ≡ check.Passed → grid_for m calls ≡ given grid → lattice_value_over curve m room grid ≡ o → tree_value_over curve m calls room ≡ on_outcome o Refused (λ v. v)
+  of_tree : (grid : BondEventGrid) (o : Outcome (Outcome TreeValue)) → tree_checks m calls ≡ Ok tt → grid_for m calls ≡ Ok grid → lattice_value_over curve m room grid ≡ o → tree_value_over curve m calls room ≡ on_outcome o Err (λ v. v)
   unfolding on_check on_outcome
-  of_tree grid o e g h = answer_is curve m calls room check.Passed (given grid) e g ∙ rw h
+  of_tree grid o e g h = answer_is curve m calls room (Ok tt) (Ok grid) e g ∙ rw h
 
 -- ---- dropping, raising and reordering
 
-or_27 : (x : Float) (r : Refusal) (answer : TreeValue) → answer ≡ Refused r → r.number ≡ 27 → NoLowerOr27 x answer
+or_27 : (x : Float) (r : Refusal) (answer : Outcome TreeValue) → answer ≡ Err r → r.reason ≡ reason.NotFinite → NoLowerOr27 x answer
 or_27 x r answer e n = rw (e, n) rule.refused_27
 
 module _ (curve : Float → ℕ → Answer) (m : Market) (room : Room) (first second : CallSchedule) (x : Float) (n : ℕ) (made : MadeFrom first second) (a : Valued curve m first room x n) where
@@ -55,18 +54,18 @@ module _ (curve : Float → ℕ → Answer) (m : Market) (room : Room) (first se
   unfolding on_outcome
   within w = of_grid (checked-no_lower m.settlement m.bond first second m.controls (tree-grid m first a.checked) made a.grid a.has-grid)
     where
-      passed : tree_checks m second ≡ check.Passed
+      passed : tree_checks m second ≡ Ok tt
       passed = tree-made-passed first second made m a.checked w
 
-      of_values : (q : BondEventGrid) (v : TreeValue) → grid_for m second ≡ given q → lattice_value_over curve m room q ≡ given v → Values (Value x n) v → NoLowerOr27 x (tree_value_over curve m second room)
-      of_values q v g e (values h) = rw (of_tree curve m second room q (given v) passed g e) (rule.accepted h.no_lower)
+      of_values : (q : BondEventGrid) (v : Outcome TreeValue) → grid_for m second ≡ Ok q → lattice_value_over curve m room q ≡ Ok v → Values (Ok (record { value = x; nodes = n })) v → NoLowerOr27 x (tree_value_over curve m second room)
+      of_values q v g e (values h) = rw (of_tree curve m second room q (Ok v) passed g e) (rule.accepted h.no_lower)
 
-      of_tree-value : (q : BondEventGrid) → grid_for m second ≡ given q → GivenOr27 (Values (Value x n)) (lattice_value_over curve m room q) → NoLowerOr27 x (tree_value_over curve m second room)
+      of_tree-value : (q : BondEventGrid) → grid_for m second ≡ Ok q → GivenOr27 (Values (Ok (record { value = x; nodes = n }))) (lattice_value_over curve m room q) → NoLowerOr27 x (tree_value_over curve m second room)
       of_tree-value q g (is_given v e l) = of_values q v g e l
-      of_tree-value q g (is_27 r e t) = or_27 x r (tree_value_over curve m second room) (of_tree curve m second room q (refused r) passed g e) t
+      of_tree-value q g (is_27 r e t) = or_27 x r (tree_value_over curve m second room) (of_tree curve m second room q (Err r) passed g e) t
 
       of_grid : GivenOr27 (NoLowerGrid a.grid) (grid_for m second) → NoLowerOr27 x (tree_value_over curve m second room)
-      of_grid (is_given q g l) = of_tree-value q g (value-no_lower curve m room a.grid q l (Value x n) a.has_value)
+      of_grid (is_given q g l) = of_tree-value q g (value-no_lower curve m room a.grid q l (Ok (record { value = x; nodes = n })) a.has_value)
       of_grid (is_27 r g t) = or_27 x r (tree_value_over curve m second room) (refused_by-grid curve m second room r passed g) t
 
   -- One strike above 1,000,000, and all of them up to it: not both.
@@ -80,7 +79,7 @@ module _ (curve : Float → ℕ → Answer) (m : Market) (room : Room) (first se
             let above : StrikeAbove second = record { entry = s.index; of_list = s.below; above = s.holds } in
             let (r, e, four) = tree-made-refused first second made m a.checked s in
             let answer = refused_by_check curve m second room r e in
-            record { with_4 = ((λ _. above), (λ _. ap number_of answer ∙ four)); otherwise = λ none. absurd (none above) }
+            record { with_4 = ((λ _. above), (λ _. ap number_of answer ∙ ap reason_number four)); otherwise = λ none. absurd (none above) }
         | inr w ↦
             record {
               with_4 = ((λ four. absurd (not_4 (within w) four)), (λ s. absurd (not_both s w)));
@@ -88,11 +87,11 @@ module _ (curve : Float → ℕ → Answer) (m : Market) (room : Room) (first se
             }
       ]
     where
-      not_4 : {answer : TreeValue} → NoLowerOr27 x answer → number_of answer ≡ 4 → ⊥
+      not_4 : {answer : Outcome TreeValue} → NoLowerOr27 x answer → number_of answer ≡ 4 → ⊥
       not_4 (rule.accepted l) four = omega arith
       not_4 rule.refused_27 four = omega arith
 
-any_thinned : (curve : Float → ℕ → Answer) (m : Market) (room : Room) (first second : CallSchedule) (x : Float) (n : ℕ) → MadeFrom first second → tree_value_over curve m first room ≡ Value x n → Thinned x second (tree_value_over curve m second room)
+any_thinned : (curve : Float → ℕ → Answer) (m : Market) (room : Room) (first second : CallSchedule) (x : Float) (n : ℕ) → MadeFrom first second → tree_value_over curve m first room ≡ Ok (record { value = x; nodes = n }) → Thinned x second (tree_value_over curve m second room)
 any_thinned curve m room first second x n made h = thinned curve m room first second x n made (valued_as curve m first room x n h)
 
 -- The tree value's rule is that of the curve of its pillars.
@@ -102,7 +101,7 @@ call_list_rule m room first second x n made h = any_thinned (curve_of m) m room 
 
 -- ---- reordering alone
 
-module _ (m : Market) (first second : CallSchedule) (r : Reordered first second) (zero_number : (grid_answer m.settlement m.bond first m.controls).refusal.number ≡ 0) where
+module _ (m : Market) (first second : CallSchedule) (r : Reordered first second) (zero_number : refusal_number (grid_answer m.settlement m.bond first m.controls).refusal ≡ 0) where
   a : Accepted m.settlement m.bond first m.controls
   a = accepted m.settlement m.bond first m.controls zero_number
 

@@ -1,5 +1,6 @@
 -- The call-list rule and the reordering rule, of what the running entries answer. Assumes nothing.
 use Rattle.std.proofs.Common.{sym, ap, subst, ◌∙◌}
+use Rattle.floats.specs.Reasons.{refusal_number}
 use Rattle.bondevents.specs.declared.GridAnswer.{GridAnswer}
 use Rattle.treebasedbondpricer.specs.Tree.{tree_value, room_of, lent_after}
 use Rattle.treebasedbondpricer.specs.CallLists.{Thinned}
@@ -13,7 +14,7 @@ entry_call_list_rule m first second made x n a b lent-first lent-second left_fir
 
 pub entry_reordering_rule : EntryReorderingRule
 entry_reordering_rule m first second made g e z a b lent-first lent-second left_first left_second p q =
-    let same = reordering_rule m first second made (ap (λ (y : GridAnswer). y.refusal.number) (sym e) ∙ z) in
+    let same = reordering_rule m first second made (ap (λ (y : GridAnswer). refusal_number y.refusal) (sym e) ∙ z) in
     record {
       grid = λ h f. f ∙ same.grids ∙ sym e;
       value = λ as_long. q.value ∙ ap (tree_value m second) as_long ∙ same.values (room_of lent-first) ∙ sym p.value;

@@ -1,15 +1,13 @@
 -- How long the lists of a fitted tree are: a variance, a layer and a shift for each step, and at least one step. Assumes nothing.
-use Rattle.std.specs.Prelude.{ℕ, zero, suc, ◌<◌, ◌≡◌, refl, false, List, [], ◌∷◌, length, T, pos, Float}
+use Rattle.std.specs.Prelude.{ℕ, zero, suc, ◌<◌, ◌≡◌, refl, false, List, [], ◌∷◌, length, T, pos, Float, Ok}
 use Rattle.std.proofs.Common.{zero-lt-suc, ap, ◌∙◌}
 use Rattle.std.specs.Float.{binary64}
 use Rattle.std.specs.Float.Ieee.{div, of_int}
 use Rattle.std.specs.Float.Ieee.Scale.{finite}
-use Rattle.floats.specs.declared.Answer.{Answer}
-use Rattle.floats.specs.Answers.{plus_zero}
+use Rattle.floats.specs.Answers.{Answer, plus_zero}
 use Rattle.floats.specs.laws.Finite.{not_by_zero}
 use Rattle.terms.specs.Numbers.{float}
 use Rattle.terms.specs.Terms.{HullWhite, Market}
-use Rattle.terms.specs.Outcomes.{given}
 use Rattle.terms.specs.laws.Outcomes.{Gives, gives, given_of, gives-follow, gives-valued, gives-finite, gives-known}
 use Rattle.hullwhite.specs.Variance.{step_variance, variances_from}
 use Rattle.lattice.specs.Layers.{At, Room}
@@ -65,5 +63,5 @@ tree-ready curve m room maturity steps =
     })
 
 -- Whatever fitted tree the terms and a curve give is such a tree.
-pub ready_of_fitted : (curve : Float → ℕ → Answer) (m : Market) (room : Room) (maturity : Float) (steps : ℕ) (f : Fitted) → fitted_tree_over curve m room maturity steps ≡ given f → Ready steps f
+pub ready_of_fitted : (curve : Float → ℕ → Answer) (m : Market) (room : Room) (maturity : Float) (steps : ℕ) (f : Fitted) → fitted_tree_over curve m room maturity steps ≡ Ok f → Ready steps f
 ready_of_fitted curve m room maturity steps f e = given_of (tree-ready curve m room maturity steps) e

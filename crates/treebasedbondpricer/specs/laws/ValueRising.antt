@@ -1,18 +1,15 @@
 -- The tree's half of the call-list rule, over any curve: with calls dropped or their prices raised, and all else equal, the tree value is no lower, or is refused with 27. Assumes nothing.
-use Rattle.std.specs.Prelude.{ℕ, ◌<◌, ◌≡◌, List, [], ◌∷◌, length, ℤ, pos, Float}
+use Rattle.std.specs.Prelude.{ℕ, ◌<◌, ◌≡◌, List, [], ◌∷◌, length, ℤ, pos, Float, Ok}
 use Rattle.std.proofs.Common.{arith}
 use Rattle.std.proofs.Math.Path.{subst₃}
 use Rattle.std.specs.Float.Ieee.{of_bits}
-use Rattle.floats.specs.declared.Answer.{Answer}
-use Rattle.floats.specs.Answers.{plus_zero}
+use Rattle.floats.specs.Answers.{Answer, plus_zero, Outcome}
 use Rattle.terms.specs.Terms.{Market}
-use Rattle.terms.specs.Outcomes.{given}
 use Rattle.terms.specs.laws.Lockstep.{Follows, given_both, follows-follow, follows_same, GivenOr27, given_or_27}
 use Rattle.bondevents.specs.declared.CallStep.{CallStep}
 use Rattle.bondevents.specs.declared.BondEventGrid.{BondEventGrid}
 use Rattle.bondevents.specs.laws.NoLower.{NoLowerSteps, NoLowerGrid}
 use Rattle.treebasedbondpricer.specs.declared.TreeValue.{TreeValue}
-use Rattle.treebasedbondpricer.specs.declared.TreeValue.TheVariants.{Value}
 use Rattle.lattice.specs.Layers.{Room}
 use Rattle.lattice.specs.Lattice.{Layer}
 use Rattle.backwardinduction.specs.Walk.{walk_from}
@@ -23,8 +20,8 @@ use Rattle.backwardinduction.specs.laws.Rising.{Higher, higher-refl, Rows, at_no
 use Rattle.backwardinduction.proofs.laws.WalkRising.{walk-higher}
 
 -- Two values with the same node count, the second no lower than the first.
-pub data Values : TreeValue → TreeValue → Type 0 where
-  values : {x y : Float} {n : ℕ} → Higher x y → Values (Value x n) (Value y n)
+pub data Values : Outcome TreeValue → Outcome TreeValue → Type 0 where
+  values : {x y : Float} {n : ℕ} → Higher x y → Values (Ok (record { value = x; nodes = n })) (Ok (record { value = y; nodes = n }))
 
 -- A walk of at least one step.
 some_walk : (dt spread : Float) (cashflows : List Float) (calls calls' : List CallStep) → NoLowerSteps calls calls' → (layers : List Layer) → Proper layers → (shifts : List Float) (final : List ℤ) (steps : ℕ) → length layers ≡ steps → length shifts ≡ steps → 0 < steps → Follows (Rows Higher) (walk_from dt spread cashflows calls 0 layers shifts final) (walk_from dt spread cashflows calls' 0 layers shifts final)
@@ -53,5 +50,5 @@ grid-follows curve m room first second g =
     (value-follows curve m room first.maturity_time first.steps first.cashflows first.calls second.calls g.no_lower-steps)
 
 -- If the first grid has a value, the second has one no lower, with the same node count, or it is refused with 27.
-pub value-no_lower : (curve : Float → ℕ → Answer) (m : Market) (room : Room) (first second : BondEventGrid) → NoLowerGrid first second → (v : TreeValue) → lattice_value_over curve m room first ≡ given v → GivenOr27 (Values v) (lattice_value_over curve m room second)
+pub value-no_lower : (curve : Float → ℕ → Answer) (m : Market) (room : Room) (first second : BondEventGrid) → NoLowerGrid first second → (v : Outcome TreeValue) → lattice_value_over curve m room first ≡ Ok v → GivenOr27 (Values v) (lattice_value_over curve m room second)
 value-no_lower curve m room first second g v e = given_or_27 (grid-follows curve m room first second g) e

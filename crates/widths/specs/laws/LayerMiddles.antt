@@ -1,12 +1,11 @@
 -- The middles of a layer whose nodes rise: within their limit, never falling; the next layer rises, and is as wide as the reach counts. Assumes nothing.
-use Rattle.std.specs.Prelude.{ℕ, zero, suc, ◌+◌, ◌-◌, ◌≤◌, ◌≡◌, refl, Bool, true, false, cond, T, length, get_or, ℤ, pos, negsuc, Float}
+use Rattle.std.specs.Prelude.{ℕ, zero, suc, ◌+◌, ◌-◌, ◌≤◌, ◌≡◌, refl, Bool, true, false, cond, T, length, get_or, ℤ, pos, negsuc, Float, Ok}
 use Rattle.std.proofs.Common.{arith, sym, ap, ◌∙◌, ltb-true}
 use mathlib.Core.List.{List, [], ◌∷◌}
 use Rattle.std.proofs.Math.IntN.{pred_ℤ, suc_ℤ}
 use Rattle.std.specs.Float.Ieee.{le}
 use Rattle.floats.specs.Answers.{plus_zero}
 use Rattle.rounded.specs.laws.RootBounds.{NotBelow}
-use Rattle.terms.specs.Outcomes.{given}
 use Rattle.terms.specs.laws.Outcomes.{Gives, gives, gives-follow, given_of}
 use Rattle.lattice.specs.declared.Middle.{Middle}
 use Rattle.lattice.specs.declared.Transition.{Transition}
@@ -80,7 +79,7 @@ along-length [] no_node = refl
 along-length (m ∷ ms) (one_node f a) = ap suc (along-length ms a)
 
 -- A middle for each node.
-pub middles-length : (spacing decay new : Float) (place : ℕ) (ns ms : List ℤ) → middle_nodes spacing decay new place ns ≡ given ms → length ms ≡ length ns
+pub middles-length : (spacing decay new : Float) (place : ℕ) (ns ms : List ℤ) → middle_nodes spacing decay new place ns ≡ Ok ms → length ms ≡ length ns
 middles-length spacing decay new place ns ms e = along-length ms (given_of (middles-along (step_from spacing decay new plus_zero plus_zero place) ns) e)
 
 -- ---- the next layer
@@ -94,7 +93,7 @@ pub record Reached (ms : List ℤ) : Type 0 where
   pub within : AllWithin ms
 
 module _ (spacing decay new : Float) (place : ℕ) (u : T (le plus_zero spacing)) (v : T (le plus_zero decay)) (w : NotBelow new) where
-  pub reached : {t n : ℤ} {ns ms : List ℤ} → Climbs t (n ∷ ns) → middle_nodes spacing decay new place (n ∷ ns) ≡ given ms → Reached ms
+  pub reached : {t n : ℤ} {ns ms : List ℤ} → Climbs t (n ∷ ns) → middle_nodes spacing decay new place (n ∷ ns) ≡ Ok ms → Reached ms
   reached {t} {n} {ns} {ms} c e =
       let s = step_from spacing decay new plus_zero plus_zero place in
       let a = given_of (middles-along s (n ∷ ns)) e in

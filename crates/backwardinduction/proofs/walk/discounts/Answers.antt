@@ -25,31 +25,6 @@ module _ (n : ℕ) (h : n ≤ 64) where
     written : length (take n (ys ++ drop n zeros)) ≡ n
     written = length-take-le n (ys ++ drop n zeros) inside
 
-pub slice_bounds-exponents-end : goal.slice_bounds-exponents-end
-slice_bounds-exponents-end c = sym (room _ c.requires.0)
-
-pub exponents-requires : goal.exponents-requires
-exponents-requires c = let start = c in omega (arith, room _ start.requires.0, start.requires.1)
-
-pub slice_bounds-xs-end-2 : goal.slice_bounds-xs-end-2
-slice_bounds-xs-end-2 c = let xs = c.exponents in inside _ c.requires.0 xs.new.xs xs.ensures.kept
-
-pub slice_bounds-exp_row-end : goal.slice_bounds-exp_row-end
-slice_bounds-exp_row-end c = let xs = c.exponents in sym (written _ c.requires.0 xs.new.xs xs.ensures.kept)
-
-pub slice_bounds-exp_row-end-2 : goal.slice_bounds-exp_row-end-2
-slice_bounds-exp_row-end-2 c = sym (length-take-le _ _ (omega arith))
-
-pub slice_bounds-exp_row-end-3 : goal.slice_bounds-exp_row-end-3
-slice_bounds-exp_row-end-3 c = sym (length-take-le _ _ (omega arith))
-
-pub exp_row-requires : goal.exp_row-requires
-exp_row-requires c =
-    let xs = c.exponents in
-    let few = c.requires.0 in
-    let n = sym (written _ few xs.new.xs xs.ensures.kept) in
-    (n, room _ few ∙ n, room _ few ∙ n)
-
 pub returns : goal.returns
 returns c =
     let xs = c.exponents in

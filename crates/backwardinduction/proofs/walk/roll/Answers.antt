@@ -1,21 +1,18 @@
 -- `walk::roll` meets its contract. The invariant: what is left from node i on, over the row as it is, is the whole, and where the flag says so the factors of the part are at hand. Assumes nothing.
+use Rattle.std.specs.Prelude.{Ok, Err}
 use Prim.Native.Nat.{ℕ, ◌+◌, ◌*◌, ◌%◌, ◌≤◌, ◌<◌}
 use mathlib.Core.Path.{◌≡◌, refl, sym, ◌∙◌}
 use mathlib.Core.Bool.{Bool, true, false}
 use mathlib.Core.List.{List}
 use native.Mathlib.Omega.{arith}
+use borrow.Author.Rules.{rules}
 use mir.Syntax.{w32}
 use mir.Facts.{to_z-of_z}
 use lib.ListN.{length, get_or, set, drop, drop_of_length-le, length-set}
 use lib.IntN.{ℤ, pos}
 use lib.Ieee.{Float, nan}
 use Rattle.floats.specs.declared.Refusal.{Refusal}
-use Rattle.floats.specs.declared.Answer.{Answer}
-use Rattle.floats.specs.declared.Answer.TheVariants.{Value, Refused}
-use Rattle.floats.specs.Answers.{on_answer}
-use Rattle.terms.specs.declared.Check.{Check}
-use Rattle.terms.specs.declared.Check.TheVariants.{Passed}
-use Rattle.terms.specs.Outcomes.{Outcome, valued}
+use Rattle.floats.specs.Answers.{Answer, on_outcome, Check, Outcome, follow}
 use Rattle.bondevents.specs.declared.CallStep.{CallStep}
 use Rattle.lattice.specs.declared.reach.Reach.{Reach}
 use Rattle.backwardinduction.specs.declared.walk.Rates.{Rates}
@@ -25,7 +22,6 @@ use Rattle.lattice.specs.laws.StoredAt.{drop_two, drop_three, middles_from_lem}
 use Rattle.lattice.specs.laws.Bounds.{Within}
 use Rattle.lattice.specs.laws.Reaching.{reach, nothing_below}
 use Rattle.lattice.specs.laws.Positions.{start_of, Layered, Held, roomy_next}
-use Rattle.terms.specs.Checks.{refused_by}
 use Rattle.lattice.specs.laws.Rows.{outcome_of}
 use Rattle.lattice.specs.laws.Binds.{went_on, stopped_at}
 use Rattle.backwardinduction.specs.laws.WalkSteps.{discount_with, value_with, rolled_at}
@@ -65,7 +61,7 @@ module _ (nodes : List ℤ) (probabilities next row₀ : List Float) (flat : Boo
       abbrev value : ℕ → ℤ → Answer
       value count z = value_with rates call cashflow place flat count (node_float z) (get_or probabilities (i * 3) nan) (get_or probabilities (i * 3 + 1) nan) (get_or probabilities (i * 3 + 2) nan) next
 
-      turn : from r i row ≡ valued (value (reach r middle).count number) λ v. from (reach r middle) (i + 1) (set row i v)
+      turn : from r i row ≡ follow (value (reach r middle).count number) λ v. from (reach r middle) (i + 1) (set row i v)
       unfolding rolled_at
       turn =
           let b : i * 2 + 1 < length nodes = omega (arith, l.pairs, inside) in
@@ -76,15 +72,15 @@ module _ (nodes : List ℤ) (probabilities next row₀ : List Float) (flat : Boo
       given : Ahead known rates nodes (length row) i i es
       given = ahead_count (sym a.same) a.ahead
 
-      factor : {z : ℤ} {now : Bool} {fs : List Float} → z ≡ number → Ahead now rates nodes (length row) i (i + 1) fs → now ≡ true → discount_with rates (node_float z) place ≡ Value (get_or fs (i % 64) nan)
+      factor : {z : ℤ} {now : Bool} {fs : List Float} → z ≡ number → Ahead now rates nodes (length row) i (i + 1) fs → now ≡ true → discount_with rates (node_float z) place ≡ Ok (get_or fs (i % 64) nan)
       factor n f g = rw n (ahead_here f t place g)
 
       module _ {s : Answer} {z m : ℤ} {after : Reach} (n : z ≡ number) (g : m ≡ middle) (k : after ≡ reach r m) (w : s ≡ value after.count z) where
-        stopped : {q : Refusal} (x : List Float) {t : Check} → s ≡ Refused q → t ≡ refused_by s → outcome_of t x ≡ whole
-        unfolding on_answer outcome_of
-        stopped x v e = rw (e, v) (sym (turn ∙ stopped_at _ _ (rw (k, g, n) at w) v) ∙ a.left)
+        stopped : {q : Refusal} (x : List Float) {t : Check} → s ≡ Err q → t ≡ Err q → outcome_of t x ≡ whole
+        unfolding outcome_of
+        stopped x v e = rw e (sym (turn ∙ stopped_at _ _ (rw (k, g, n) at w) v) ∙ a.left)
 
-        stepped : {v : Float} {now : Bool} {fs : List Float} → length fs ≡ 64 → Ahead now rates nodes (length row) i (i + 1) fs → s ≡ Value v → At nodes probabilities next row₀ flat rates call cashflow place (set row i v) after fs now (i + 1)
+        stepped : {v : Float} {now : Bool} {fs : List Float} → length fs ≡ 64 → Ahead now rates nodes (length row) i (i + 1) fs → s ≡ Ok v → At nodes probabilities next row₀ flat rates call cashflow place (set row i v) after fs now (i + 1)
         stepped p f v =
             rw (k, g)
             (record {
@@ -96,60 +92,16 @@ module _ (nodes : List ℤ) (probabilities next row₀ : List Float) (flat : Boo
               ahead = ahead_next (ahead_count a.same f);
             })
 
-    done : (row : List Float) (r : Reach) (es : List Float) (known : Bool) (i : ℕ) → At nodes probabilities next row₀ flat rates call cashflow place row r es known i → length row ≤ i → outcome_of Passed row ≡ whole
+    done : (row : List Float) (r : Reach) (es : List Float) (known : Bool) (i : ℕ) → At nodes probabilities next row₀ flat rates call cashflow place row r es known i → length row ≤ i → outcome_of (Ok tt) row ≡ whole
     unfolding rolled_at
     done row r es known i a h =
         let b : length nodes ≤ i * 2 = omega (arith, l.pairs, a.same) in
         passes row ∙ rw (drop_of_length-le nodes b) at a.left
 
-pub bounds-nodes-1 : goal.bounds-nodes-1
-bounds-nodes-1 c = let s = c in omega (arith, s.requires.pairs, s.requires.threes, s.requires.some-node)
-
 pub nothing_below-r-requires : goal.nothing_below-r-requires
 nothing_below-r-requires c =
     let a = c.args in
     first a.nodes.now a.probabilities.now a.next.now a.row.now a.flat a.rates a.call a.cashflow a.place c.requires (to_z-of_z {w = w32} (record { sfits = c.nothing_below-arg-1.given }))
-
-pub loop-i-init : goal.loop-i-init
-loop-i-init c =
-    start _ _ _ _ _ _ _ _ _ c.requires _ refl (to_z-of_z {w = w32} (record { sfits = c.nothing_below-arg-1.given })) c.nothing_below-r.ensures
-
-pub slice_bounds-refill-end : goal.slice_bounds-refill-end
-slice_bounds-refill-end c = sym c.loop-i.invariant.part
-
-pub refill-known-requires : goal.refill-known-requires
-refill-known-requires c =
-    let l = c.loop-i in
-    let f = given _ _ _ _ _ _ _ _ _ c.requires _ _ _ _ _ l.invariant c.loop-i-test.true in
-    (l.invariant.part, c.loop-i-test.true, omega (arith, c.requires.pairs, l.invariant.same), f)
-
-pub overflow_mul-node : goal.overflow_mul-node
-overflow_mul-node c =
-    omega (arith, c.requires.pairs, c.requires.threes, c.loop-i.invariant.same, c.loop-i-test.true, c.well_formed)
-
-pub offset_bounds-nodes-i : goal.offset_bounds-nodes-i
-offset_bounds-nodes-i c =
-    omega (arith, c.requires.pairs, c.requires.threes, c.loop-i.invariant.same, c.loop-i-test.true, c.well_formed)
-
-pub bounds-nodes-i : goal.bounds-nodes-i
-bounds-nodes-i c =
-    omega (arith, c.requires.pairs, c.requires.threes, c.loop-i.invariant.same, c.loop-i-test.true, c.well_formed)
-
-pub overflow_mul-middle : goal.overflow_mul-middle
-overflow_mul-middle c =
-    omega (arith, c.requires.pairs, c.requires.threes, c.loop-i.invariant.same, c.loop-i-test.true, c.well_formed)
-
-pub overflow_add-middle : goal.overflow_add-middle
-overflow_add-middle c =
-    omega (arith, c.requires.pairs, c.requires.threes, c.loop-i.invariant.same, c.loop-i-test.true, c.well_formed)
-
-pub offset_bounds-nodes-i-in-loop-i : goal.offset_bounds-nodes-i-in-loop-i
-offset_bounds-nodes-i-in-loop-i c =
-    omega (arith, c.requires.pairs, c.requires.threes, c.loop-i.invariant.same, c.loop-i-test.true, c.well_formed)
-
-pub bounds-nodes-i-in-loop-i : goal.bounds-nodes-i-in-loop-i
-bounds-nodes-i-in-loop-i c =
-    omega (arith, c.requires.pairs, c.requires.threes, c.loop-i.invariant.same, c.loop-i-test.true, c.well_formed)
 
 pub reached-after-requires : goal.reached-after-requires
 reached-after-requires c =
@@ -157,93 +109,21 @@ reached-after-requires c =
     let h = held _ _ _ _ _ _ _ _ _ c.requires _ _ _ _ _ l.invariant c.loop-i-test.true (to_z-of_z {w = w32} (record { sfits = c.middle-1.given })) in
     (omega (arith, h.counted, c.well_formed), h.within)
 
-pub int_to_float-node : goal.int_to_float-node
-int_to_float-node c = tt
-
-pub overflow_mul-i : goal.overflow_mul-i
-overflow_mul-i c =
-    omega (arith, c.requires.pairs, c.requires.threes, c.loop-i.invariant.same, c.loop-i-test.true, c.well_formed)
-
-pub offset_bounds-probabilities-i : goal.offset_bounds-probabilities-i
-offset_bounds-probabilities-i c =
-    omega (arith, c.requires.pairs, c.requires.threes, c.loop-i.invariant.same, c.loop-i-test.true, c.well_formed)
-
-pub bounds-probabilities-i : goal.bounds-probabilities-i
-bounds-probabilities-i c =
-    omega (arith, c.requires.pairs, c.requires.threes, c.loop-i.invariant.same, c.loop-i-test.true, c.well_formed)
-
-pub overflow_mul-i-in-loop-i : goal.overflow_mul-i-in-loop-i
-overflow_mul-i-in-loop-i c =
-    omega (arith, c.requires.pairs, c.requires.threes, c.loop-i.invariant.same, c.loop-i-test.true, c.well_formed)
-
-pub overflow_add-i : goal.overflow_add-i
-overflow_add-i c =
-    omega (arith, c.requires.pairs, c.requires.threes, c.loop-i.invariant.same, c.loop-i-test.true, c.well_formed)
-
-pub offset_bounds-probabilities-i-in-loop-i : goal.offset_bounds-probabilities-i-in-loop-i
-offset_bounds-probabilities-i-in-loop-i c =
-    omega (arith, c.requires.pairs, c.requires.threes, c.loop-i.invariant.same, c.loop-i-test.true, c.well_formed)
-
-pub bounds-probabilities-i-in-loop-i : goal.bounds-probabilities-i-in-loop-i
-bounds-probabilities-i-in-loop-i c =
-    omega (arith, c.requires.pairs, c.requires.threes, c.loop-i.invariant.same, c.loop-i-test.true, c.well_formed)
-
-pub overflow_mul-i-in-loop-i-2 : goal.overflow_mul-i-in-loop-i-2
-overflow_mul-i-in-loop-i-2 c =
-    omega (arith, c.requires.pairs, c.requires.threes, c.loop-i.invariant.same, c.loop-i-test.true, c.well_formed)
-
-pub overflow_add-i-in-loop-i : goal.overflow_add-i-in-loop-i
-overflow_add-i-in-loop-i c =
-    omega (arith, c.requires.pairs, c.requires.threes, c.loop-i.invariant.same, c.loop-i-test.true, c.well_formed)
-
-pub offset_bounds-probabilities-i-in-loop-i-2 : goal.offset_bounds-probabilities-i-in-loop-i-2
-offset_bounds-probabilities-i-in-loop-i-2 c =
-    omega (arith, c.requires.pairs, c.requires.threes, c.loop-i.invariant.same, c.loop-i-test.true, c.well_formed)
-
-pub bounds-probabilities-i-in-loop-i-2 : goal.bounds-probabilities-i-in-loop-i-2
-bounds-probabilities-i-in-loop-i-2 c =
-    omega (arith, c.requires.pairs, c.requires.threes, c.loop-i.invariant.same, c.loop-i-test.true, c.well_formed)
-
-pub offset_bounds-es-i : goal.offset_bounds-es-i
-offset_bounds-es-i c =
-    omega (arith, c.requires.pairs, c.requires.threes, c.loop-i.invariant.same, c.loop-i-test.true, c.well_formed)
-
-pub bounds-es-i : goal.bounds-es-i
-bounds-es-i c = omega arith
-
-pub node_value-v-requires : goal.node_value-v-requires
-node_value-v-requires c =
+pub node_value-requires : goal.node_value-requires
+node_value-requires c =
     let l = c.loop-i in
     let h = held _ _ _ _ _ _ _ _ _ c.requires _ _ _ _ _ l.invariant c.loop-i-test.true (to_z-of_z {w = w32} (record { sfits = c.middle-1.given })) in
     let node = to_z-of_z {w = w32} (record { sfits = c.node-1.given }) in
     let f = factor _ _ _ _ _ _ _ _ _ c.requires _ _ _ _ _ l.invariant c.loop-i-test.true node c.refill-known.ensures in
     rw c.reached-after.ensures (h.three, h.spot, f)
 
-pub refused_by-requires : goal.refused_by-requires
-refused_by-requires c = tt
-
-pub returns-in_default : goal.returns-in_default
-returns-in_default c =
+pub returns-in_err-row : goal.returns-in_err-row
+returns-in_err-row c =
     let l = c.loop-i in
     stopped _ _ _ _ _ _ _ _ _ c.requires _ _ _ _ _ l.invariant c.loop-i-test.true
     (to_z-of_z {w = w32} (record { sfits = c.node-1.given }))
     (to_z-of_z {w = w32} (record { sfits = c.middle-1.given }))
-    c.reached-after.ensures c.node_value-v.ensures _ c.in_default.is c.refused_by.ensures
-
-pub offset_bounds-row-i : goal.offset_bounds-row-i
-offset_bounds-row-i c =
-    omega (arith, c.requires.pairs, c.requires.threes, c.loop-i.invariant.same, c.loop-i-test.true, c.well_formed)
-
-pub bounds-row-i : goal.bounds-row-i
-bounds-row-i c = search answers
-
-pub overflow_add-i-in-loop-i-2 : goal.overflow_add-i-in-loop-i-2
-overflow_add-i-in-loop-i-2 c =
-    omega (arith, c.loop-i-test.true, c.loop-i.invariant.same, c.well_formed)
-
-pub loop-i-smaller : goal.loop-i-smaller
-loop-i-smaller c =
-    omega (arith, c.requires.pairs, c.requires.threes, c.loop-i.invariant.same, c.loop-i-test.true, c.well_formed)
+    c.reached-after.ensures c.node_value.ensures _ c.in_err-row.was (search rules)
 
 pub loop-i-preserved : goal.loop-i-preserved
 loop-i-preserved c =
@@ -252,7 +132,7 @@ loop-i-preserved c =
     stepped _ _ _ _ _ _ _ _ _ c.requires _ _ _ _ _ l.invariant c.loop-i-test.true
     (to_z-of_z {w = w32} (record { sfits = c.node-1.given }))
     (to_z-of_z {w = w32} (record { sfits = c.middle-1.given }))
-    c.reached-after.ensures c.node_value-v.ensures (refilled.auto.es ∙ l.invariant.part) refilled.ensures c.in-Value.is
+    c.reached-after.ensures c.node_value.ensures (refilled.auto.es ∙ l.invariant.part) refilled.ensures c.in_ok-row.was
 
 pub returns : goal.returns
 returns c =

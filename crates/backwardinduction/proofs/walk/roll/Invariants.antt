@@ -6,7 +6,7 @@ use mathlib.Core.List.{List}
 use lib.ListN.{length, drop}
 use lib.IntN.{ℤ}
 use lib.Ieee.{Float}
-use Rattle.terms.specs.Outcomes.{Outcome}
+use Rattle.floats.specs.Answers.{Outcome}
 use Rattle.bondevents.specs.declared.CallStep.{CallStep}
 use Rattle.lattice.specs.declared.reach.Reach.{Reach}
 use Rattle.backwardinduction.specs.declared.walk.Rates.{Rates}

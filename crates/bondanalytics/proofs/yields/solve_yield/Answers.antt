@@ -6,15 +6,6 @@ use Rattle.bondanalytics.proofs.Entering.{solves}
 use Rattle.interestrate.proofs.Laws.{prices}
 use Rattle.bondanalytics.proofs.yields.solve_yield.Goals as goal
 
-pub slice_bounds-bracketed_root-end-9 : goal.slice_bounds-bracketed_root-end-9
-slice_bounds-bracketed_root-end-9 c = search prices
-
-pub slice_bounds-bracketed_root-end-10 : goal.slice_bounds-bracketed_root-end-10
-slice_bounds-bracketed_root-end-10 c = search prices
-
-pub lowest_yield-requires : goal.lowest_yield-requires
-lowest_yield-requires c = search prices
-
 pub bracketed_root-requires : goal.bracketed_root-requires
 bracketed_root-requires c = search (prices, yield-ready)
 

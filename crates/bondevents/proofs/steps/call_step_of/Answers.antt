@@ -1,27 +1,14 @@
 -- `bondevents::steps::call_step_of` meets its contract: the definition's quotient and product, through `near_to`, at the highest step that is not maturity. Assumes nothing.
 use Prim.Native.Nat.{ℕ, ◌-◌}
-use native.Mathlib.Nat.{max-eq_left, max-eq_right}
+use native.Mathlib.Nat.{max-eq_left}
 use native.Mathlib.Omega.{arith}
 use mathlib.Core.Path.{ap, sym, ◌∙◌}
 use lib.Ieee.{Float, binary64, mul, div, to_unsigned}
 use Rattle.floats.specs.Whole.{rounded}
 use Rattle.terms.specs.Numbers.{float}
 use Rattle.bondevents.specs.Parts.{axis_at}
-use Rattle.floats.proofs.Laws.{answers}
 use Rattle.bondevents.specs.Steps.{clamp, raw_step}
 use Rattle.bondevents.proofs.steps.call_step_of.Goals as goal
-
-pub time_from-requires : goal.time_from-requires
-time_from-requires c = search answers
-
-pub int_to_float-target : goal.int_to_float-target
-int_to_float-target c = search answers
-
-pub overflow_sub-steps : goal.overflow_sub-steps
-overflow_sub-steps c = search answers
-
-pub near_to-requires : goal.near_to-requires
-near_to-requires c = search answers
 
 pub returns-then-steps-gt1 : goal.returns-then-steps-gt1
 unfolding raw_step mul div
@@ -29,13 +16,3 @@ returns-then-steps-gt1 c =
     let e = max-eq_left {n = c.args.steps - 1} {m = 1} (omega arith) in
     let n = λ (t : Float). to_unsigned 64 (rounded (mul binary64 (div binary64 t c.args.maturity) (float c.args.steps))) in
     c.near_to.ensures ∙ ap (λ (t : Float). clamp 1 (c.args.steps - 1) (n t)) c.time_from.ensures ∙ ap (λ (h : ℕ). clamp 1 h (raw_step (axis_at c.args.settlement c.args.maturity c.args.steps) c.args.day)) (sym e)
-
-pub near_to-requires-2 : goal.near_to-requires-2
-near_to-requires-2 c = search answers
-
-pub returns : goal.returns
-unfolding raw_step mul div
-returns c =
-    let e = max-eq_right {n = c.args.steps - 1} {m = 1} (omega arith) in
-    let n = λ (t : Float). to_unsigned 64 (rounded (mul binary64 (div binary64 t c.args.maturity) (float c.args.steps))) in
-    c.near_to-2.ensures ∙ ap (λ (t : Float). clamp 1 (1) (n t)) c.time_from.ensures ∙ ap (λ (h : ℕ). clamp 1 h (raw_step (axis_at c.args.settlement c.args.maturity c.args.steps) c.args.day)) (sym e)

@@ -3,18 +3,8 @@ use mathlib.Core.Path.{ap, ◌∙◌}
 use lib.Ieee.{Float, binary64, mul, div, to_unsigned}
 use Rattle.floats.specs.Whole.{rounded}
 use Rattle.terms.specs.Numbers.{float}
-use Rattle.floats.proofs.Laws.{answers}
 use Rattle.bondevents.specs.Steps.{clamp, raw_step}
 use Rattle.bondevents.proofs.steps.step_of.Goals as goal
-
-pub time_from-requires : goal.time_from-requires
-time_from-requires c = search answers
-
-pub int_to_float-steps : goal.int_to_float-steps
-int_to_float-steps c = search answers
-
-pub near_to-requires : goal.near_to-requires
-near_to-requires c = search answers
 
 pub returns : goal.returns
 unfolding raw_step mul div

@@ -4,20 +4,8 @@ use Rattle.floats.specs.Whole.{ceiled, ceil_at}
 use Rattle.bondevents.proofs.Clamps.{upwards, clamped_high, clamped_low, mid-taken, mid-clamped, mid-refused}
 use Rattle.bondevents.proofs.steps.up_to.Goals as goal
 
-pub int_to_float-high : goal.int_to_float-high
-int_to_float-high c = search answers
-
 pub returns-then-target-high : goal.returns-then-target-high
 returns-then-target-high c = search (answers, clamped_high ceiled ceil_at upwards)
-
-pub ceil_at-answer-requires : goal.ceil_at-answer-requires
-ceil_at-answer-requires c = search answers
-
-pub enum_known-answer : goal.enum_known-answer
-enum_known-answer c = search answers
-
-pub enum_told-1 : goal.enum_told-1
-enum_told-1 c = search answers
 
 pub returns-in_default : goal.returns-in_default
 returns-in_default c = search (answers, mid-refused ceiled ceil_at upwards)

@@ -1,45 +1,6 @@
--- `entry_lines` meets its contract: in the loop the first n entries are stored. Assumes nothing.
-use Rattle.bondfile.proofs.Filling.{filling}
+-- `entry_lines` meets its contract. Assumes nothing.
+use Rattle.std.proofs.Common.{rules}
 use Rattle.bondfile.proofs.lists.entry_lines.Goals as goal
 
-pub loop-n-init : goal.loop-n-init
-loop-n-init c = search filling
-
-pub next_entry-requires : goal.next_entry-requires
-next_entry-requires c = search filling
-
-pub enum_told-1 : goal.enum_told-1
-enum_told-1 c = search filling
-
-pub shape_of-out-in-Nothing : goal.shape_of-out-in-Nothing
-shape_of-out-in-Nothing c = search filling
-
-pub returns-in-Nothing : goal.returns-in-Nothing
-returns-in-Nothing c = search filling
-
-pub enum_known-l : goal.enum_known-l
-enum_known-l c = search filling
-
-pub offset_bounds-out-n : goal.offset_bounds-out-n
-offset_bounds-out-n c = search filling
-
-pub bounds-out-n : goal.bounds-out-n
-bounds-out-n c = search filling
-
-pub overflow_add-n : goal.overflow_add-n
-overflow_add-n c = search filling
-
-pub overflow_add-line : goal.overflow_add-line
-overflow_add-line c = search filling
-
-pub loop-n-smaller : goal.loop-n-smaller
-loop-n-smaller c = search filling
-
-pub loop-n-preserved : goal.loop-n-preserved
-loop-n-preserved c = search filling
-
-pub shape_of-out : goal.shape_of-out
-shape_of-out c = search filling
-
 pub returns : goal.returns
-returns c = search filling
+returns c = c.store.ensures (λ e. e.line) (λ x r q. search (rules, q))

@@ -1,10 +1,8 @@
--- `span_of` meets its contract: in the loop the span is that of word i. Assumes nothing.
-use Prim.Native.Nat.{◌-◌}
-use Rattle.bondline.proofs.Spans.{Spanning}
+-- In the loop the span is that of the words passed. Assumes nothing.
+use Rattle.std.proofs.Common.{◌≡◌, ◌≤◌, length}
+use Rattle.bondline.specs.Words.{span_of}
 use Rattle.bondline.proofs.words.span_of.Given as goal
 
-abbrev pub invariant-loop-i : goal.invariant-loop-i
-invariant-loop-i l = Spanning l.line l.n l.s l.i
-
-abbrev pub decreases-loop-i : goal.decreases-loop-i
-decreases-loop-i l = l.n - l.i
+abbrev pub invariant-loop : goal.invariant-loop
+invariant-loop l =
+    (l.span ≡ span_of l.line l.counter) × (l.span.start ≤ l.span.end) × (l.span.end ≤ length l.line)

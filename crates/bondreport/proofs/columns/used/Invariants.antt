@@ -2,8 +2,5 @@
 use Rattle.bondreport.proofs.Putting.{Looking}
 use Rattle.bondreport.proofs.columns.used.Given as goal
 
-abbrev pub invariant-loop-n : goal.invariant-loop-n
-invariant-loop-n l = Looking l.line l.n
-
-abbrev pub decreases-loop-n : goal.decreases-loop-n
-decreases-loop-n l = l.n
+abbrev pub invariant-loop-column : goal.invariant-loop-column
+invariant-loop-column l = Looking l.line l.column

@@ -1,16 +1,14 @@
 -- `all_checks` meets its contract: in the loop, no bond before i is refused. Assumes nothing.
 use native.Mathlib.Omega.{arith}
-use Rattle.bookchecks.proofs.laws.Naming.{begin, turn, found, done}
+use Rattle.std.proofs.Common.{rules, ◌∙◌}
+use Rattle.bookchecks.proofs.laws.Naming.{begin, turn_at, found_at, done}
 use Rattle.bookchecks.proofs.checks.all_checks.Goals as goal
 
-pub loop-i-init : goal.loop-i-init
-loop-i-init c = begin _ _
-
-pub returns-in-Refused : goal.returns-in-Refused
-returns-in-Refused c = found _ _ _ c.loop-i.invariant (omega arith) c.bond_check-check.ensures c.in-Refused.is
+pub returns-in_err-at_bond : goal.returns-in_err-at_bond
+returns-in_err-at_bond c = search rules ∙ found_at _ _ _ c.loop-i.invariant (omega arith) c.bond_check-check.ensures c.at_bond.ensures c.in_err-at_bond.was
 
 pub loop-i-preserved : goal.loop-i-preserved
-loop-i-preserved c = turn _ _ _ c.loop-i.invariant (omega arith) c.bond_check-check.ensures c.in_default.is
+loop-i-preserved c = turn_at _ _ _ c.loop-i.invariant (omega arith) c.bond_check-check.ensures c.at_bond.ensures c.in_ok-at_bond.was
 
 pub returns : goal.returns
 returns c = done _ _ _ c.loop-i.invariant c.loop-i-test.false

@@ -1,10 +1,10 @@
--- `answer_of` meets its contract: by the case of the check. Assumes nothing.
+-- `answer_of` meets its contract: by the case of what was valued. Assumes nothing.
 use mathlib.Core.Path.{◌∙◌}
 use Rattle.bookvalue.proofs.laws.Answers.{answer-refused, answer-summed}
 use Rattle.bookvalue.proofs.answers.answer_of.Goals as goal
 
-pub returns-in-Refused : goal.returns-in-Refused
-returns-in-Refused c = c.refused_book.ensures ∙ answer-refused _ _ _ c.in-Refused.is
+pub returns-in-Err : goal.returns-in-Err
+returns-in-Err c = c.refused_book.ensures ∙ answer-refused _ _ c.in-Err.is
 
-pub returns : goal.returns
-returns c = c.summed.ensures ∙ answer-summed _ _ _ c.in_default.is
+pub returns-in-Ok : goal.returns-in-Ok
+returns-in-Ok c = c.summed.ensures ∙ answer-summed _ _ c.in-Ok.is

@@ -3,8 +3,8 @@ use mathlib.Core.Path.{◌∙◌}
 use Rattle.bookvalue.proofs.laws.Answers.{summed-sum, summed-refused}
 use Rattle.bookvalue.proofs.answers.summed.Goals as goal
 
-pub returns-in-Sum : goal.returns-in-Sum
-returns-in-Sum c = summed-sum _ _ _ _ c.sum_of-added.ensures c.in-Sum.is c.desk_counts-totals.ensures
+pub returns-in-Ok : goal.returns-in-Ok
+returns-in-Ok c = summed-sum _ _ _ _ c.sum_of.ensures c.in-Ok.is c.desk_counts.ensures
 
-pub returns-in-Refused : goal.returns-in-Refused
-returns-in-Refused c = c.refused_book.ensures ∙ summed-refused _ _ _ _ c.sum_of-added.ensures c.in-Refused.is
+pub returns-in-Err : goal.returns-in-Err
+returns-in-Err c = c.refused_book.ensures ∙ summed-refused _ _ _ _ c.sum_of.ensures c.in-Err.is

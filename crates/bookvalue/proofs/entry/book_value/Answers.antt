@@ -14,14 +14,14 @@ holdings-held-requires c = few-bonds _ c.out_of.ensures c.if-out_of.false
 pub desk_checks-of_desks-requires : goal.desk_checks-of_desks-requires
 desk_checks-of_desks-requires c = few-bonds _ c.out_of.ensures c.if-out_of.false
 
-pub returns-in-Refused : goal.returns-in-Refused
-returns-in-Refused c = entered_as c.refused_book-in-Refused.ensures (entered-desk _ _ c.out_of.ensures c.if-out_of.false c.holdings-held.ensures c.desk_checks-of_desks.ensures c.in-Refused.is)
+pub returns-in-Err : goal.returns-in-Err
+returns-in-Err c = entered_as c.refused_book-in-Err.ensures (entered-desk _ _ c.out_of.ensures c.if-out_of.false c.holdings-held.ensures c.desk_checks-of_desks.ensures c.in-Err.is)
 
 pub all_checks-check-requires : goal.all_checks-check-requires
 all_checks-check-requires c = few-bonds _ c.out_of.ensures c.if-out_of.false
 
-pub returns-in-Refused-check : goal.returns-in-Refused-check
-returns-in-Refused-check c = entered_as c.refused_book-in-Refused-check.ensures (entered-refused _ _ c.out_of.ensures c.if-out_of.false c.holdings-held.ensures c.desk_checks-of_desks.ensures c.in_default.is c.all_checks-check.ensures c.in-Refused-check.is)
+pub returns-in-Err-check : goal.returns-in-Err-check
+returns-in-Err-check c = entered_as c.refused_book-in-Err-check.ensures (entered-refused _ _ c.out_of.ensures c.if-out_of.false c.holdings-held.ensures c.desk_checks-of_desks.ensures c.in_default.is c.all_checks-check.ensures c.in-Err-check.is)
 
 pub all_values-valued-requires : goal.all_values-valued-requires
 all_values-valued-requires c = (few-bonds _ c.out_of.ensures c.if-out_of.false, sym c.all_checks-check.ensures ∙ c.in_default-check.is)

@@ -4,31 +4,13 @@ use Rattle.brackets.proofs.Laws.{left_not, taken_not}
 use Rattle.interestrate.proofs.Laws.{prices}
 use Rattle.bracketedroot.proofs.solver.settle.Goals as goal
 
-pub is_small-requires : goal.is_small-requires
-is_small-requires c = search prices
-
 pub returns-then-is_small : goal.returns-then-is_small
 unfolding settled
 returns-then-is_small c = search prices
 
-pub is_small-requires-2 : goal.is_small-requires-2
-is_small-requires-2 c = search prices
-
 pub returns-then-is_small-2 : goal.returns-then-is_small-2
 unfolding settled
 returns-then-is_small-2 c = search prices
-
-pub falls-requires : goal.falls-requires
-falls-requires c = search prices
-
-pub halved_to_root-requires : goal.halved_to_root-requires
-halved_to_root-requires c = search prices
-
-pub shape_of-first-then-falls : goal.shape_of-first-then-falls
-shape_of-first-then-falls c = search prices
-
-pub shape_of-second-then-falls : goal.shape_of-second-then-falls
-shape_of-second-then-falls c = search prices
 
 pub returns-then-falls : goal.returns-then-falls
 unfolding settled

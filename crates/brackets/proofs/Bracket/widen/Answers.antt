@@ -4,9 +4,6 @@ use Rattle.brackets.proofs.Laws.{called_no}
 use Rattle.interestrate.proofs.Laws.{prices}
 use Rattle.brackets.proofs.Bracket.widen.Goals as goal
 
-pub falls-requires : goal.falls-requires
-falls-requires c = search prices
-
 pub returns-then-falls : goal.returns-then-falls
 unfolding widen
 returns-then-falls c = search prices
@@ -14,24 +11,9 @@ returns-then-falls c = search prices
 pub lower-requires : goal.lower-requires
 lower-requires c = record { ready = c.requires.ready; evaluations_bound = c.requires.evaluations_bound; self_value = called_no _ c.falls.ensures c.if-falls.false; plus_zero_value = c.if-self.true }
 
-pub shape_of-first-then-self : goal.shape_of-first-then-self
-shape_of-first-then-self c = search prices
-
-pub shape_of-second-then-self : goal.shape_of-second-then-self
-shape_of-second-then-self c = search prices
-
 pub returns-then-self : goal.returns-then-self
 unfolding widen
 returns-then-self c = search prices
-
-pub raise-requires : goal.raise-requires
-raise-requires c = search prices
-
-pub shape_of-first : goal.shape_of-first
-shape_of-first c = search prices
-
-pub shape_of-second : goal.shape_of-second
-shape_of-second c = search prices
 
 pub returns : goal.returns
 unfolding widen

@@ -1,11 +1,9 @@
 -- `dates::month_of` meets its contract. Assumes nothing.
-use mathlib.Core.Path.{◌≡◌}
-use Rattle.calendar.specs.Calendar.{month_length}
 use Rattle.calendar.specs.laws.Search.{FromMonth}
 use Rattle.calendar.proofs.dates.month_of.Given as goal
 
-abbrev pub invariant-loop-size : goal.invariant-loop-size
-invariant-loop-size l = FromMonth l.year l.day l.month l.rest × (l.size ≡ month_length l.year l.month)
+abbrev pub invariant-loop-rest : goal.invariant-loop-rest
+invariant-loop-rest l = FromMonth l.year l.day l.month l.rest
 
-abbrev pub decreases-loop-size : goal.decreases-loop-size
-decreases-loop-size l = l.rest
+abbrev pub decreases-loop-rest : goal.decreases-loop-rest
+decreases-loop-rest l = l.rest

@@ -1,11 +1,9 @@
 -- `dates::year_of` meets its contract. Assumes nothing.
-use mathlib.Core.Path.{◌≡◌}
-use Rattle.calendar.specs.Calendar.{year_length}
 use Rattle.calendar.specs.laws.Search.{FromYear}
 use Rattle.calendar.proofs.dates.year_of.Given as goal
 
-abbrev pub invariant-loop-size : goal.invariant-loop-size
-invariant-loop-size l = FromYear l.day l.year l.rest × (l.size ≡ year_length l.year)
+abbrev pub invariant-loop-rest : goal.invariant-loop-rest
+invariant-loop-rest l = FromYear l.day l.year l.rest
 
-abbrev pub decreases-loop-size : goal.decreases-loop-size
-decreases-loop-size l = l.rest
+abbrev pub decreases-loop-rest : goal.decreases-loop-rest
+decreases-loop-rest l = l.rest

@@ -1,31 +1,14 @@
 -- `numbers::day_number` meets its contract. Assumes nothing.
-use Rattle.calendar.specs.Calendar.{dated}
-use Rattle.calendar.specs.laws.Days.{held, beyond, day_is}
-use Rattle.calendar.proofs.Laws.{calls, tests}
+use Rattle.std.proofs.Common.{ℕ, ◌<◌, ◌≤◌, ◌≡◌, ◌⊎◌, true, Err, inl, inr, sym, ◌∙◌, lt-ltb, le-ltb}
+use Rattle.calendar.specs.declared.DateError.TheVariants.{OutOfRange}
+use Rattle.calendar.specs.Calendar.{exists, number_of, last_day, dated}
+use Rattle.calendar.specs.laws.Days.{date, beyond}
 use Rattle.calendar.proofs.numbers.day_number.Goals as goal
 
-pub date_exists-there-requires : goal.date_exists-there-requires
-date_exists-there-requires c = search tests
-
-pub returns-then-year-lt1900 : goal.returns-then-year-lt1900
+outside : (y m d : ℕ) → exists (date y m d) ≡ true → (y < 1900) ⊎ ((1900 ≤ y) × (2447 < y)) → Err OutOfRange ≡ dated (date y m d)
 unfolding dated
-returns-then-year-lt1900 c = search tests
+outside y m d e (inl h) = rw (e, lt-ltb y 1900 h)
+outside y m d e (inr h) = rw (e, le-ltb y 1900 h.0, lt-ltb last_day (number_of (date y m d)) (beyond y m d h.1))
 
-pub returns-then-year-gt2447 : goal.returns-then-year-gt2447
-unfolding dated
-returns-then-year-gt2447 c = search (beyond, tests)
-
-pub number_within-number-requires : goal.number_within-number-requires
-number_within-number-requires c = search (held, tests)
-
-pub returns-then-number-gt200000 : goal.returns-then-number-gt200000
-unfolding dated
-returns-then-number-gt200000 c = search (calls, tests)
-
-pub returns-then-there : goal.returns-then-there
-unfolding dated
-returns-then-there c = search (calls, day_is, tests)
-
-pub returns : goal.returns
-unfolding dated
-returns c = search tests
+pub returns-then-year-lt-FIRST_YEAR : goal.returns-then-year-lt-FIRST_YEAR
+returns-then-year-lt-FIRST_YEAR c = outside _ _ _ (sym c.date_exists.ensures ∙ c.if-not-date_exists.false) c.then-year-lt-FIRST_YEAR.either

@@ -4,10 +4,10 @@ use Rattle.callnotices.specs.laws.Answers.{accepted, refused, passed_counted}
 use Rattle.callnotices.proofs.entry.call_list.Goals as goal
 
 pub listed-requires : goal.listed-requires
-listed-requires c = (passed_counted _ c.notice_checks-check.ensures c.in-Passed.is).parallel
+listed-requires c = (passed_counted _ c.notice_checks.ensures c.in-Ok.is).parallel
 
-pub returns-in-Passed : goal.returns-in-Passed
-returns-in-Passed c = accepted _ c.notice_checks-check.ensures c.in-Passed.is c.listed.ensures
+pub returns-in-Ok : goal.returns-in-Ok
+returns-in-Ok c = accepted _ c.notice_checks.ensures c.in-Ok.is c.listed.ensures
 
-pub returns-in-Refused : goal.returns-in-Refused
-returns-in-Refused c = search (refused, rules)
+pub returns-in-Err : goal.returns-in-Err
+returns-in-Err c = search (refused, rules)

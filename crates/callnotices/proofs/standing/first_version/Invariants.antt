@@ -1,11 +1,7 @@
 -- `first_version` meets its contract: in the loop, no notice before the index has the series and version (`Looking`). Assumes nothing.
-use Prim.Native.Nat.{◌-◌}
 use Rattle.callnotices.specs.Standing.{is_version}
 use Rattle.callnotices.proofs.Looking.{Looking}
 use Rattle.callnotices.proofs.standing.first_version.Given as goal
 
 abbrev pub invariant-loop-i : goal.invariant-loop-i
 invariant-loop-i l = Looking (is_version l.series l.versions l.s l.version) l.count l.i
-
-abbrev pub decreases-loop-i : goal.decreases-loop-i
-decreases-loop-i l = l.count - l.i

@@ -1,11 +1,6 @@
 -- `highest_version` meets its contract: in the loop, the highest version of the notices before the index is kept (`Climbing`). Assumes nothing.
-use Prim.Native.Nat.{◌-◌}
-use lib.ListN.{length}
 use Rattle.callnotices.proofs.Climbing.{Climbing}
 use Rattle.callnotices.proofs.standing.highest_version.Given as goal
 
 abbrev pub invariant-loop-i : goal.invariant-loop-i
 invariant-loop-i l = Climbing l.series l.versions l.s l.so_far l.i
-
-abbrev pub decreases-loop-i : goal.decreases-loop-i
-decreases-loop-i l = length l.series - l.i

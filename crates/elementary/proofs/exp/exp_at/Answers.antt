@@ -1,43 +1,41 @@
 -- `exp::exp_at` meets its contract: one test of the end result stands for the tests of every operation. Assumes nothing.
-use mathlib.Core.Path.{◌∙◌}
-use Rattle.elementary.specs.Exponential.{exp_at}
+use Rattle.std.specs.Prelude.{◌≡◌, cond, ℕ, Float, Ok, T}
+use Rattle.std.specs.Float.Ieee.{neg, lt}
+use Rattle.std.specs.Float.Ieee.Scale.{finite}
+use Rattle.std.proofs.Common.{rules, sym, subst, ◌∙◌}
+use Rattle.floats.specs.declared.Reason.TheVariants as reason
+use Rattle.floats.specs.Answers.{Answer, refusal, plus_zero, tested, when_finite}
+use Rattle.floats.specs.laws.Propagation.{passed_test, passed_on, stopped}
+use Rattle.elementary.specs.Exponential.{seven_hundred, exp_reduced, exp_at}
 use Rattle.elementary.specs.laws.Exponential.{exp_is}
-use Rattle.floats.specs.laws.Propagation.{tested_bad, tested-good}
 use Rattle.elementary.specs.laws.Steps.{reducible}
-use Rattle.floats.proofs.Laws.{answers, finite_by_call}
+use Rattle.floats.proofs.Laws.{left, taken}
 use Rattle.elementary.proofs.exp.exp_at.Goals as goal
 
-pub not_finite-requires : goal.not_finite-requires
-not_finite-requires c = search answers
+-- The answer for a finite number, and the definition.
+abbrev of_finite : Float → ℕ → Answer
+of_finite x place = cond (lt seven_hundred x) (refusal reason.Outside place) (cond (lt x (neg seven_hundred)) (Ok plus_zero) (exp_reduced x place))
 
-pub overflow-requires : goal.overflow-requires
-overflow-requires c = tt
-
-pub returns-then-not_finite : goal.returns-then-not_finite
+is_when : (x : Float) (place : ℕ) {a : Answer} → a ≡ when_finite x place (λ x. of_finite x place) → a ≡ exp_at x place
 unfolding exp_at
-returns-then-not_finite c = search answers
+is_when x place h = h
+
+of_passed : (x : Float) (place : ℕ) {z : Float} {a : Answer} → tested x place ≡ Ok z → (T (finite z) → a ≡ of_finite z place) → a ≡ exp_at x place
+of_passed x place t h = is_when x place (passed_on (λ x. of_finite x place) x place t h)
+
+pub returns-in_err-x : goal.returns-in_err-x
+returns-in_err-x c = is_when c.args.x c.args.place (stopped (λ x. of_finite x c.args.place) c.args.x c.args.place (sym c.tested.ensures ∙ c.in_err-x.was) (search rules))
 
 pub returns-then-x : goal.returns-then-x
-unfolding exp_at
-returns-then-x c = search answers
+returns-then-x c = of_passed c.args.x c.args.place (sym c.tested.ensures ∙ c.in_ok-x.was) (λ f. search (left, taken, rules))
 
 pub returns-then-x-2 : goal.returns-then-x-2
-unfolding exp_at
-returns-then-x-2 c = search answers
+returns-then-x-2 c = of_passed c.args.x c.args.place (sym c.tested.ensures ∙ c.in_ok-x.was) (λ f. search (left, taken, rules))
 
-pub reduced-y-requires : goal.reduced-y-requires
-reduced-y-requires c = reducible _ (finite_by_call c.args.x c.not_finite.ensures c.if-not_finite.false) c.if-x.false c.if-x-2.false
-
-pub not_finite-requires-2 : goal.not_finite-requires-2
-not_finite-requires-2 c = search answers
-
-pub overflow-requires-then-not_finite-2 : goal.overflow-requires-then-not_finite-2
-overflow-requires-then-not_finite-2 c = tt
-
-pub returns-then-not_finite-2 : goal.returns-then-not_finite-2
-unfolding exp_at
-returns-then-not_finite-2 c = c.overflow-then-not_finite-2.ensures ∙ search (exp_is, tested_bad, answers) depth 20 fits 4000
+pub reduced-requires : goal.reduced-requires
+reduced-requires c =
+    let q = passed_test c.args.x c.args.place (sym c.tested.ensures ∙ c.in_ok-x.was) in
+    reducible _ (subst (λ (v : Float). T (finite v)) (sym q.0) q.1) c.if-x.false c.if-x-2.false
 
 pub returns : goal.returns
-unfolding exp_at
-returns c = search (exp_is, tested-good, answers) depth 20 fits 4000
+returns c = of_passed c.args.x c.args.place (sym c.tested.ensures ∙ c.in_ok-x.was) (λ f. search (left, taken, exp_is, rules))

@@ -7,6 +7,3 @@ near-k-requires c = quotient-finite _ c.requires
 
 pub power_of_two-requires : goal.power_of_two-requires
 power_of_two-requires c = rw c.near-k.ensures (steps-step _ c.requires)
-
-pub returns : goal.returns
-returns c = cc

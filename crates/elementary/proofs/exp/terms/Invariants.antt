@@ -10,6 +10,3 @@ pub record At (r start : Float) (high low : ℕ) (p : Float) (n : ℕ) : Type 0 
 
 abbrev pub invariant-loop-n : goal.invariant-loop-n
 invariant-loop-n l = At l.r l.start l.high l.low l.p l.n
-
-abbrev pub decreases-loop-n : goal.decreases-loop-n
-decreases-loop-n l = l.n

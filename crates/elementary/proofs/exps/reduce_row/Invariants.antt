@@ -1,11 +1,6 @@
 -- `exps::reduce_row` meets its contract. The invariant: of the entries passed, k and r are there, and each is reducible. Assumes nothing.
-use Prim.Native.Nat.{◌-◌}
-use lib.ListN.{length}
 use Rattle.elementary.specs.laws.Rows.{Parting}
 use Rattle.elementary.proofs.exps.reduce_row.Given as goal
 
 abbrev pub invariant-loop-i : goal.invariant-loop-i
 invariant-loop-i l = Parting l.xs l.initial.ks l.initial.rs l.ks l.rs l.i
-
-abbrev pub decreases-loop-i : goal.decreases-loop-i
-decreases-loop-i l = length l.xs - l.i

@@ -1,10 +1,7 @@
 -- `exps::reduced_row` meets its contract: the loops one after the other give exp at each index. Assumes nothing.
 use mathlib.Core.Path.{sym, ◌∙◌}
-use Rattle.elementary.specs.laws.Rows.{false_not, step_row, row_is}
+use Rattle.elementary.specs.laws.Rows.{step_row, row_is}
 use Rattle.elementary.proofs.exps.reduced_row.Goals as goal
-
-pub returns-then-not-reduce_row : goal.returns-then-not-reduce_row
-returns-then-not-reduce_row c = record { values = λ h. false_not h }
 
 pub raise_row-requires : goal.raise_row-requires
 raise_row-requires c =

@@ -16,25 +16,12 @@ done z q j h = let e : 0 ≡ j = omega arith in ap (λ (k : ℕ). plain_log_seri
 
 pub loop-j-init : goal.loop-j-init
 unfolding of_int of_bits
-loop-j-init c = record { within = omega arith; left = refl }
-
-pub overflow_sub-j : goal.overflow_sub-j
-overflow_sub-j c = omega arith
-
-pub overflow_mul-q : goal.overflow_mul-q
-overflow_mul-q c = omega arith
-
-pub overflow_add-q : goal.overflow_add-q
-overflow_add-q c = omega arith
-
-pub loop-j-smaller : goal.loop-j-smaller
-loop-j-smaller c = omega arith
+loop-j-init c = record { left = refl }
 
 pub loop-j-preserved : goal.loop-j-preserved
 loop-j-preserved c =
     let l = c.loop-j in
-    let h : 0 < l.j = c.loop-j-test.true in
-    record { within = omega arith; left = sym (turn c.args.z l.q l.j h) ∙ l.invariant.left }
+    record { left = sym (turn c.args.z l.q l.j c.loop-j-test.true) ∙ l.invariant.left }
 
 pub returns : goal.returns
 returns c =

@@ -3,11 +3,7 @@ use lib.Ieee.{binary64, fits}
 use lib.Ieee.Bits.{of_bits-to_bits}
 use denote.Floats.{passes}
 use Rattle.elementary.specs.laws.Normal.{loggable-normal}
-use Rattle.floats.proofs.Laws.{finite-no_nan}
 use Rattle.elementary.proofs.ln.straight.Goals as goal
-
-pub float_to_bits-bits : goal.float_to_bits-bits
-float_to_bits-bits c = finite-no_nan c.args.x c.requires.is_finite
 
 pub fraction_of-m-requires : goal.fraction_of-m-requires
 fraction_of-m-requires c = loggable-normal c.args.x (passes (fits binary64 c.args.x) c.well_formed.0.1) c.requires

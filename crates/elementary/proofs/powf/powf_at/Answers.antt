@@ -1,34 +1,31 @@
 -- `powf::powf_at` meets its contract. Assumes nothing.
+use Rattle.std.specs.Prelude.{◌≡◌, ℕ, Float, Ok, Err}
+use Rattle.std.specs.Float.{binary64}
+use Rattle.std.specs.Float.Ieee.{mul}
+use Rattle.std.proofs.Common.{refl, rules, sym, ◌∙◌}
+use Rattle.floats.specs.declared.Refusal.{Refusal}
+use Rattle.floats.specs.Answers.{Answer, when_finite}
+use Rattle.floats.specs.laws.Propagation.{passed_on, stopped}
+use Rattle.elementary.specs.Exponential.{exp_at}
+use Rattle.elementary.specs.Logarithm.{ln_at}
 use Rattle.elementary.specs.Power.{powf_at}
-use Rattle.floats.proofs.Laws.{answers}
+use Rattle.floats.proofs.Laws.{valued, refused}
 use Rattle.elementary.proofs.powf.powf_at.Goals as goal
 
-pub ln_at-a-requires : goal.ln_at-a-requires
-ln_at-a-requires c = search answers
+module _ (b y : Float) (place : ℕ) {a : Answer} where
+  log_refused : {r : Refusal} → ln_at b place ≡ Err r → a ≡ Err r → a ≡ powf_at b y place
+  unfolding powf_at
+  log_refused t h = refused (ln_at b place) _ _ refl t h
 
-pub enum_known-a : goal.enum_known-a
-enum_known-a c = search answers
+  of_log : {l : Float} → ln_at b place ≡ Ok l → a ≡ when_finite (mul binary64 y l) place (λ t. exp_at t place) → a ≡ powf_at b y place
+  unfolding powf_at
+  of_log t h = valued (ln_at b place) _ _ refl t h
 
-pub enum_told-1 : goal.enum_told-1
-enum_told-1 c = search answers
+pub returns-in_err-ln_at : goal.returns-in_err-ln_at
+returns-in_err-ln_at c = log_refused c.args.b c.args.y c.args.place (sym c.ln_at.ensures ∙ c.in_err-ln_at.was) (search rules)
 
-pub returns-in_default : goal.returns-in_default
-unfolding powf_at
-returns-in_default c = search answers
-
-pub not_finite-requires : goal.not_finite-requires
-not_finite-requires c = search answers
-
-pub overflow-requires : goal.overflow-requires
-overflow-requires c = tt
-
-pub returns-then-not_finite : goal.returns-then-not_finite
-unfolding powf_at
-returns-then-not_finite c = search answers
-
-pub exp_at-requires : goal.exp_at-requires
-exp_at-requires c = search answers
+pub returns-in_err-t : goal.returns-in_err-t
+returns-in_err-t c = of_log c.args.b c.args.y c.args.place (sym c.ln_at.ensures ∙ c.in_ok-ln_at.was) (stopped (λ t. exp_at t c.args.place) _ _ (sym c.tested.ensures ∙ c.in_err-t.was) (search rules))
 
 pub returns : goal.returns
-unfolding powf_at
-returns c = search answers
+returns c = of_log c.args.b c.args.y c.args.place (sym c.ln_at.ensures ∙ c.in_ok-ln_at.was) (passed_on (λ t. exp_at t c.args.place) _ _ (sym c.tested.ensures ∙ c.in_ok-t.was) (λ f. c.exp_at.ensures))

@@ -1,29 +1,19 @@
--- `grid_checks` meets its contract: the stages follow one another as in the definition; what a stage requires follows from the counts, which passed before it. Assumes nothing.
-use mathlib.Core.Path.{refl}
-use native.Mathlib.Omega.{arith}
+-- `grid_checks` meets its contract: the stages follow one another as in the definition. Assumes nothing.
+use borrow.Author.Rules.{rules}
 use Rattle.terms.proofs.Laws.{passed_first, refused_first, only_one, as_grid_lem}
 use Rattle.entrychecks.proofs.entries.grid_checks.Goals as goal
 
-pub returns-in_default : goal.returns-in_default
-returns-in_default c = as_grid_lem _ _ _ _ (refused_first _ _ c.grid_counts-a.ensures.same c.in_default.is refl)
+pub returns-in_err-grid_counts : goal.returns-in_err-grid_counts
+returns-in_err-grid_counts c = as_grid_lem _ _ _ _ (refused_first _ _ c.grid_counts.ensures.same c.in_err-grid_counts.was (search rules))
 
-pub returns-in_default-b : goal.returns-in_default-b
-returns-in_default-b c = as_grid_lem _ _ _ _ (passed_first _ _ c.grid_counts-a.ensures.same c.in-Passed.is (refused_first _ _ (only_one _ c.put_most-b.ensures.same) c.in_default-b.is refl))
+pub returns-in_err-put_most : goal.returns-in_err-put_most
+returns-in_err-put_most c = as_grid_lem _ _ _ _ (passed_first _ _ c.grid_counts.ensures.same c.in_ok-grid_counts.was (refused_first _ _ (only_one _ c.put_most.ensures.same) c.in_err-put_most.was (search rules)))
 
-pub grid_days-c-requires : goal.grid_days-c-requires
-grid_days-c-requires c = let n = c.grid_counts-a.ensures.passed c.in-Passed.is in let m = c.put_most-b.ensures.passed c.in-Passed-b.is in omega arith
+pub returns-in_err-grid_days : goal.returns-in_err-grid_days
+returns-in_err-grid_days c = as_grid_lem _ _ _ _ (passed_first _ _ c.grid_counts.ensures.same c.in_ok-grid_counts.was (passed_first _ _ (only_one _ c.put_most.ensures.same) c.in_ok-put_most.was (refused_first _ _ c.grid_days.ensures c.in_err-grid_days.was (search rules))))
 
-pub returns-in_default-c : goal.returns-in_default-c
-returns-in_default-c c = as_grid_lem _ _ _ _ (passed_first _ _ c.grid_counts-a.ensures.same c.in-Passed.is (passed_first _ _ (only_one _ c.put_most-b.ensures.same) c.in-Passed-b.is (refused_first _ _ c.grid_days-c.ensures c.in_default-c.is refl)))
-
-pub grid_numbers-d-requires : goal.grid_numbers-d-requires
-grid_numbers-d-requires c = let n = c.grid_counts-a.ensures.passed c.in-Passed.is in let m = c.put_most-b.ensures.passed c.in-Passed-b.is in omega arith
-
-pub returns-in_default-d : goal.returns-in_default-d
-returns-in_default-d c = as_grid_lem _ _ _ _ (passed_first _ _ c.grid_counts-a.ensures.same c.in-Passed.is (passed_first _ _ (only_one _ c.put_most-b.ensures.same) c.in-Passed-b.is (passed_first _ _ c.grid_days-c.ensures c.in-Passed-c.is (refused_first _ _ c.grid_numbers-d.ensures c.in_default-d.is refl))))
-
-pub grid_orders-requires : goal.grid_orders-requires
-grid_orders-requires c = let n = c.grid_counts-a.ensures.passed c.in-Passed.is in let m = c.put_most-b.ensures.passed c.in-Passed-b.is in omega arith
+pub returns-in_err-grid_numbers : goal.returns-in_err-grid_numbers
+returns-in_err-grid_numbers c = as_grid_lem _ _ _ _ (passed_first _ _ c.grid_counts.ensures.same c.in_ok-grid_counts.was (passed_first _ _ (only_one _ c.put_most.ensures.same) c.in_ok-put_most.was (passed_first _ _ c.grid_days.ensures c.in_ok-grid_days.was (refused_first _ _ c.grid_numbers.ensures c.in_err-grid_numbers.was (search rules)))))
 
 pub returns : goal.returns
-returns c = as_grid_lem _ _ _ _ (passed_first _ _ c.grid_counts-a.ensures.same c.in-Passed.is (passed_first _ _ (only_one _ c.put_most-b.ensures.same) c.in-Passed-b.is (passed_first _ _ c.grid_days-c.ensures c.in-Passed-c.is (passed_first _ _ c.grid_numbers-d.ensures c.in-Passed-d.is (only_one _ c.grid_orders.ensures)))))
+returns c = as_grid_lem _ _ _ _ (passed_first _ _ c.grid_counts.ensures.same c.in_ok-grid_counts.was (passed_first _ _ (only_one _ c.put_most.ensures.same) c.in_ok-put_most.was (passed_first _ _ c.grid_days.ensures c.in_ok-grid_days.was (passed_first _ _ c.grid_numbers.ensures c.in_ok-grid_numbers.was (only_one _ c.grid_orders.ensures)))))

@@ -1,12 +1,12 @@
--- `bondevents::grid::event_grid` meets its contract: the definition's parts, put together (`Grids`). Assumes nothing.
+-- `eventgrid::grid::event_grid` meets its contract: the definition's parts, put together (`Grids`). Assumes nothing.
 use borrow.Author.Rules.{rules}
 use native.Mathlib.Nat.{lt_of_le_of_lt}
 use lib.Dec.{lit<}
 use Rattle.bondevents.proofs.Grids.{bounded, grid-refused, grid-given}
 use Rattle.eventgrid.proofs.grid.event_grid.Goals as goal
 
-pub call_steps-answer-requires : goal.call_steps-answer-requires
-call_steps-answer-requires c =
+pub call_steps-requires : goal.call_steps-requires
+call_steps-requires c =
     let start = c in
     record {
       le_steps = bounded _ _ c.steps_of-steps.ensures start.requires.le_maximum.0 start.requires.le_maximum.1;
@@ -15,9 +15,9 @@ call_steps-answer-requires c =
       put_ends_len = start.requires.put_ends_len;
     }
 
-pub returns-in_default : goal.returns-in_default
-returns-in_default c =
-    grid-refused _ _ _ _ _ _ _ _ c.epoch_of-epoch.ensures c.last_day.ensures c.time_from-maturity.ensures c.steps_of-steps.ensures c.call_steps-answer.ensures c.in_default.is c.zero_grid.ensures
+pub returns-in_err-calls : goal.returns-in_err-calls
+returns-in_err-calls c =
+    grid-refused _ _ _ _ _ _ _ _ c.epoch_of-epoch.ensures c.last_day.ensures c.time_from-maturity.ensures c.steps_of-steps.ensures c.call_steps.ensures c.in_err-calls.was (search rules)
 
 pub paid_into-cashflows-requires : goal.paid_into-cashflows-requires
 paid_into-cashflows-requires c =
@@ -34,4 +34,4 @@ overflow_cast-result c =
 
 pub returns : goal.returns
 returns c =
-    grid-given _ _ _ _ _ _ _ _ c.epoch_of-epoch.ensures c.last_day.ensures c.time_from-maturity.ensures c.steps_of-steps.ensures c.call_steps-answer.ensures (search rules) c.paid_into-cashflows.ensures
+    grid-given _ _ _ _ _ _ _ _ c.epoch_of-epoch.ensures c.last_day.ensures c.time_from-maturity.ensures c.steps_of-steps.ensures c.call_steps.ensures c.in_ok-calls.was c.paid_into-cashflows.ensures

@@ -1,61 +1,35 @@
--- `checked` meets its contract: in the loop the lines that are left give the check of the whole file. Assumes nothing.
-use native.Mathlib.Omega.{arith}
-use Rattle.bondfile.proofs.Checking.{checking, kind-below}
+-- `checked` meets its contract. Assumes nothing.
+use Rattle.std.proofs.Common.{◌≡◌, length, get_or, sym, ap, ◌∙◌, arith}
+use Rattle.std.proofs.lemmas.Result.{err_from_is_err_and}
+use Rattle.std.proofs.lemmas.Iterator.Consumers.{YieldsList-from_first, YieldsList-turn, YieldsList-end}
+use Rattle.std.proofs.lemmas.List.{length_push}
+use Rattle.bondline.specs.Forms.{Said}
+use Rattle.bondfile.specs.Entries.{kind_of}
+use Rattle.bondfile.specs.File.{entries_of}
+use Rattle.bondfile.specs.Walks.{lines_left, numbered_line}
+use Rattle.bondfile.specs.Checks.{verdict_of}
+use Rattle.filecheck.proofs.Checking.{check_more, check_stop, check_refused, check_none, check_small}
 use Rattle.filecheck.proofs.check.checked.Goals as goal
 
-pub returns-then-text-gt65536 : goal.returns-then-text-gt65536
-returns-then-text-gt65536 c = search checking
+pub returns-in-Err : goal.returns-in-Err
+returns-in-Err c =
+    let t = YieldsList-turn (YieldsList-from_first numbered_line lines_left (entries_of c.args.text.now) (cc)) c.loop-line.yielded c.loop-line.line-iterator c.loop-line.yielded_by _ c.next.new.self (c.in-Some.line, c.in-Some.said) c.in-Some.is c.next.ensures.steps in
+    check_refused c.loop-line.counts (entries_of c.args.text.now) (length c.loop-line.yielded) c.in-Some.line c.in-Err.fault (numbered_line (c.in-Some.line, c.in-Some.said)) (ap (λ (s : Said). numbered_line (c.in-Some.line, s)) c.in-Err.is) t.0 t.1 ∙ c.loop-line.invariant.2 ∙ check_small c.args.text.now c.if-text-gt-MOST_BYTES.false
 
-pub loop-at-init : goal.loop-at-init
-loop-at-init c = search checking
+pub returns-in_err-counts : goal.returns-in_err-counts
+returns-in_err-counts c =
+    let t = YieldsList-turn (YieldsList-from_first numbered_line lines_left (entries_of c.args.text.now) (cc)) c.loop-line.yielded c.loop-line.line-iterator c.loop-line.yielded_by _ c.next.new.self (c.in-Some.line, c.in-Some.said) c.in-Some.is c.next.ensures.steps in
+    let same : c.place-kind.result ≡ kind_of c.in-Some.said = c.place-kind.ensures.number ∙ c.kind_of.ensures ∙ sym (ap kind_of c.in-Ok.is) in
+    let p = err_from_is_err_and c.from_residual.result c.from_residual.ensures.1 in
+    rw (p.1, p.2) (check_stop c.loop-line.counts (entries_of c.args.text.now) (length c.loop-line.yielded) (numbered_line (c.in-Some.line, c.in-Some.said)) t.0 t.1 c.place-kind.result c.in_err-counts.field-0.0 same (ap (λ s. verdict_of s c.in-Some.line (get_or c.loop-line.counts c.place-kind.result 0)) c.in-Ok.is ∙ sym c.verdict.ensures ∙ c.in_err-counts.was) ∙ c.loop-line.invariant.2 ∙ check_small c.args.text.now c.if-text-gt-MOST_BYTES.false)
 
-pub line_entry-e-requires : goal.line_entry-e-requires
-line_entry-e-requires c = search checking
-
-pub kind_of-k-requires : goal.kind_of-k-requires
-kind_of-k-requires c = search checking
-
-pub next_line-next-requires : goal.next_line-next-requires
-next_line-next-requires c = search checking
-
-pub offset_bounds-counts-k : goal.offset_bounds-counts-k
-offset_bounds-counts-k c = omega (arith, kind-below c.line_entry-e.result c.kind_of-k.ensures)
-
-pub bounds-counts-k : goal.bounds-counts-k
-bounds-counts-k c = omega (arith, kind-below c.line_entry-e.result c.kind_of-k.ensures)
-
-pub verdict-requires : goal.verdict-requires
-verdict-requires c = search checking
-
-pub enum_known-c : goal.enum_known-c
-enum_known-c c = search checking
-
-pub returns-in-Stopped : goal.returns-in-Stopped
-returns-in-Stopped c = search checking
-
-pub enum_known-n : goal.enum_known-n
-enum_known-n c = search checking
-
-pub offset_bounds-counts-k-in-Counted : goal.offset_bounds-counts-k-in-Counted
-offset_bounds-counts-k-in-Counted c = omega (arith, kind-below c.line_entry-e.result c.kind_of-k.ensures)
-
-pub bounds-counts-k-in-Counted : goal.bounds-counts-k-in-Counted
-bounds-counts-k-in-Counted c = omega (arith, kind-below c.line_entry-e.result c.kind_of-k.ensures)
-
-pub overflow_add-line : goal.overflow_add-line
-overflow_add-line c = search checking
-
-pub loop-at-smaller : goal.loop-at-smaller
-loop-at-smaller c = search checking
-
-pub loop-at-preserved : goal.loop-at-preserved
-loop-at-preserved c = search checking
-
-pub slice_bounds-missing_field-end : goal.slice_bounds-missing_field-end
-slice_bounds-missing_field-end c = search checking
-
-pub missing_field-requires : goal.missing_field-requires
-missing_field-requires c = search checking
+pub loop-line-preserved : goal.loop-line-preserved
+loop-line-preserved c =
+    let t = YieldsList-turn (YieldsList-from_first numbered_line lines_left (entries_of c.args.text.now) (cc)) c.loop-line.yielded c.loop-line.line-iterator c.loop-line.yielded_by _ c.next.new.self (c.in-Some.line, c.in-Some.said) c.in-Some.is c.next.ensures.steps in
+    let same : c.place-kind.result ≡ kind_of c.in-Some.said = c.place-kind.ensures.number ∙ c.kind_of.ensures ∙ sym (ap kind_of c.in-Ok.is) in
+    (tt, tt, rw (length_push c.loop-line.yielded (c.in-Some.line, c.in-Some.said)) (check_more c.loop-line.counts (entries_of c.args.text.now) (length c.loop-line.yielded) (numbered_line (c.in-Some.line, c.in-Some.said)) t.0 t.1 c.place-kind.result c.in_ok-counts.field-0 same (ap (λ s. verdict_of s c.in-Some.line (get_or c.loop-line.counts c.place-kind.result 0)) c.in-Ok.is ∙ sym c.verdict.ensures ∙ c.in_ok-counts.was) ∙ c.loop-line.invariant.2))
 
 pub returns : goal.returns
-returns c = search checking
+returns c =
+    let t = YieldsList-end (YieldsList-from_first numbered_line lines_left (entries_of c.args.text.now) (cc)) c.loop-line.yielded c.loop-line.line-iterator c.loop-line.yielded_by _ c.next.new.self c.in-None.is c.next.ensures.steps in
+    c.all_there.ensures ∙ sym (check_none c.loop-line.counts (entries_of c.args.text.now) (length c.loop-line.yielded) (omega (arith))) ∙ c.loop-line.invariant.2 ∙ check_small c.args.text.now c.if-text-gt-MOST_BYTES.false

@@ -87,10 +87,10 @@ overflow_shr-digits c = search answers
 pub signed-requires : goal.signed-requires
 signed-requires c = le_trans (div-le_self _ _) (omega arith)
 
-pub returns-then-bits-ge9223372036854775808 : goal.returns-then-bits-ge9223372036854775808
-returns-then-bits-ge9223372036854775808 c =
+pub returns-then-bits-ge-SIGN_BIT : goal.returns-then-bits-ge-SIGN_BIT
+returns-then-bits-ge-SIGN_BIT c =
     c.signed.ensures
-    ∙ sym (mid c.args.x (search answers) c.requires true (le-leb _ _ c.if-bits-ge9223372036854775808.true) (omega arith) (omega arith))
+    ∙ sym (mid c.args.x (search answers) c.requires true (le-leb _ _ c.if-bits-ge-SIGN_BIT.true) (omega arith) (omega arith))
 
 pub part_up-requires : goal.part_up-requires
 part_up-requires c = search answers
@@ -101,4 +101,4 @@ signed-requires-2 c = rw c.part_up.ensures (capped _ _ (pow_pos _) (omega arith)
 pub returns : goal.returns
 returns c =
     c.signed-2.ensures ∙ ap (whole_of false) c.part_up.ensures
-    ∙ sym (mid c.args.x (search answers) c.requires false (lt-leb _ _ c.if-bits-ge9223372036854775808.false) (omega arith) (omega arith))
+    ∙ sym (mid c.args.x (search answers) c.requires false (lt-leb _ _ c.if-bits-ge-SIGN_BIT.false) (omega arith) (omega arith))

@@ -1,7 +1,6 @@
 -- `not_finite` meets its contract: a number between the two infinities is finite, and every other is not. Assumes nothing.
 use mathlib.Core.Path.{◌≡◌, refl, ap, ◌∙◌}
 use mathlib.Core.Bool.{true, false, not}
-use mathlib.Core.Logic.{⊎_elim}
 use lib.Ieee.{Float, nan, inf, fin, neg, lt, div, of_bits}
 use Rattle.floats.specs.Answers.{not_finite}
 use Rattle.floats.proofs.finite.not_finite.Goals as goal

@@ -5,14 +5,10 @@ use mathlib.Core.Bool.{false}
 use lib.Ieee.{binary64, of_int}
 use Rattle.floats.specs.laws.Cuts.{whole-nil, whole_pos}
 use Rattle.floats.specs.laws.Rounding.{round-neg}
-use Rattle.floats.proofs.Laws.{answers}
 use Rattle.floats.proofs.sign.signed.Goals as goal
 
 pub returns-then-q-eq0 : goal.returns-then-q-eq0
 returns-then-q-eq0 c = rw c.if-q-eq0.true (sym (whole-nil c.args.negative))
-
-pub int_to_float-w : goal.int_to_float-w
-int_to_float-w c = search answers
 
 pub returns-then-negative : goal.returns-then-negative
 unfolding of_int

@@ -1,21 +1,18 @@
 -- `fit::onward` meets its contract. The invariant: what is left from node i on, over the row as it is, is the whole, and the exps of the part that i stands in are kept. Assumes nothing.
+use Rattle.std.specs.Prelude.{Ok, Err}
 use Prim.Native.Nat.{ℕ, ◌+◌, ◌*◌, ◌≤◌, ◌<◌}
 use mathlib.Core.Path.{◌≡◌, refl, sym, ◌∙◌}
 use mathlib.Core.Bool.{Bool, false}
 use mathlib.Core.List.{List}
 use native.Mathlib.Omega.{arith}
+use borrow.Author.Rules.{rules}
 use mir.Syntax.{w32}
 use mir.Facts.{to_z-of_z}
 use lib.ListN.{length, get_or, drop, drop_of_length-le}
 use lib.IntN.{ℤ, pos}
 use lib.Ieee.{Float, nan}
 use Rattle.floats.specs.declared.Refusal.{Refusal}
-use Rattle.floats.specs.declared.Answer.{Answer}
-use Rattle.floats.specs.declared.Answer.TheVariants.{Value, Refused}
-use Rattle.floats.specs.Answers.{on_answer}
-use Rattle.terms.specs.declared.Check.{Check}
-use Rattle.terms.specs.declared.Check.TheVariants.{Passed, Refused}
-use Rattle.terms.specs.Outcomes.{Outcome, refused, follow, valued}
+use Rattle.floats.specs.Answers.{Answer, on_outcome, Check, Outcome, follow}
 use Rattle.lattice.specs.declared.reach.Reach.{Reach}
 use Rattle.lattice.specs.Layers.{node_float}
 use Rattle.lattice.specs.laws.Stored.{middles_in}
@@ -23,7 +20,6 @@ use Rattle.lattice.specs.laws.StoredAt.{drop_one, drop_two, drop_three, middles_
 use Rattle.lattice.specs.laws.Bounds.{Within}
 use Rattle.lattice.specs.laws.Reaching.{reach, nothing_below}
 use Rattle.lattice.specs.laws.Positions.{start_of, Layered, Held, roomy_next}
-use Rattle.terms.specs.Checks.{refused_by}
 use Rattle.lattice.specs.laws.Rows.{outcome_of}
 use Rattle.lattice.specs.laws.Binds.{went_on, stopped_at}
 use Rattle.forwardinduction.specs.laws.FitSteps.{discounted_of, add_three, onward_at}
@@ -56,7 +52,7 @@ module _ {nodes : List ℤ} {probabilities row next₀ next es : List Float} {fl
   abbrev onwards : Reach → ℕ → List Float → Outcome (List Float)
   onwards = from nodes probabilities row next₀ flat spacing dt shift place
 
-  done : length row ≤ i → outcome_of Passed next ≡ all
+  done : length row ≤ i → outcome_of (Ok tt) next ≡ all
   unfolding onward_at
   done h =
       let b : length nodes ≤ i * 2 = omega (arith, l.pairs) in
@@ -75,7 +71,7 @@ module _ {nodes : List ℤ} {probabilities row next₀ next es : List Float} {fl
     three : Float → Outcome (List Float)
     three price = add_three place flat r.count (reach r middle).count price (get_or probabilities (i * 3) nan) (get_or probabilities (i * 3 + 1) nan) (get_or probabilities (i * 3 + 2) nan) next
 
-    turn : onwards r i next ≡ valued (discounted_of spacing dt shift place (node_float number) (get_or row i nan)) λ price. follow (three price) λ out. onwards (reach r middle) (i + 1) out
+    turn : onwards r i next ≡ follow (discounted_of spacing dt shift place (node_float number) (get_or row i nan)) λ price. follow (three price) λ out. onwards (reach r middle) (i + 1) out
     unfolding onward_at three
     turn =
         let b : i * 2 + 1 < length nodes = omega (arith, l.pairs) in
@@ -83,22 +79,21 @@ module _ {nodes : List ℤ} {probabilities row next₀ next es : List Float} {fl
         rw (drop_two nodes (pos 0) i b, drop_three probabilities nan i d, drop_one row nan i h)
 
     module _ {s : Answer} {z : ℤ} (n : z ≡ number) (w : s ≡ discounted_of spacing dt shift place (node_float z) (get_or row i nan)) where
-      price-stopped : {q : Refusal} (x : List Float) {t : Check} → s ≡ Refused q → t ≡ refused_by s → outcome_of t x ≡ all
-      unfolding on_answer outcome_of
-      price-stopped x v e = rw (e, v) (sym (turn ∙ stopped_at _ _ (rw n at w) v) ∙ a.left)
+      price-stopped : {q : Refusal} (x : List Float) {t : Check} → s ≡ Err q → t ≡ Err q → outcome_of t x ≡ all
+      price-stopped x v u = refuses-call x u ∙ sym (turn ∙ stopped_at _ _ (rw n at w) v) ∙ a.left
 
-      module _ {price : Float} (v : s ≡ Value price) {m : ℤ} (g : m ≡ middle) {after : Reach} (k : after ≡ reach r m) where
+      module _ {price : Float} (v : s ≡ Ok price) {m : ℤ} (g : m ≡ middle) {after : Reach} (k : after ≡ reach r m) where
         here : onwards r i next ≡ follow (three price) λ out. onwards (reach r middle) (i + 1) out
         here = turn ∙ went_on _ _ (rw n at w) v
 
         abbrev added : Outcome (List Float)
         added = add_three place flat r.count after.count price (get_or probabilities (i * 3) nan) (get_or probabilities (i * 3 + 1) nan) (get_or probabilities (i * 3 + 2) nan) next
 
-        row-stopped : {t : Check} {q : Refusal} (x : List Float) → outcome_of t x ≡ added → t ≡ Refused q → outcome_of t x ≡ all
+        row-stopped : {t r : Check} {q : Refusal} (x : List Float) → outcome_of t x ≡ added → t ≡ Err q → r ≡ Err q → outcome_of r x ≡ all
         unfolding three
-        row-stopped x o u = refuses-call x u ∙ halted x refused _ (rw (k, g) at o) u refl ∙ sym here ∙ a.left
+        row-stopped x o u v = refuses-call x v ∙ halted x Err _ (rw (k, g) at o) u refl ∙ sym here ∙ a.left
 
-        stepped : {t : Check} {fs : List Float} {fine : Bool} (x : List Float) → outcome_of t x ≡ added → t ≡ Passed → length x ≡ length next → Kept (rate_argument spacing dt shift) nodes (length row) fine (i + 1) fs
+        stepped : {t : Check} {fs : List Float} {fine : Bool} (x : List Float) → outcome_of t x ≡ added → t ≡ Ok tt → length x ≡ length next → Kept (rate_argument spacing dt shift) nodes (length row) fine (i + 1) fs
             → At nodes probabilities row next₀ flat spacing dt shift place x fs fine after (i + 1)
         unfolding three
         stepped x o u lx ready =
@@ -108,81 +103,13 @@ module _ {nodes : List ℤ} {probabilities row next₀ next es : List Float} {fl
               same = lx ∙ a.same;
               room = (held refl).rest;
               kept = ready;
-              left = followed refused _ (rw (k, g) at o) u refl ∙ sym here ∙ a.left;
+              left = followed Err _ (rw (k, g) at o) u refl ∙ sym here ∙ a.left;
             })
-
-pub bounds-nodes-1 : goal.bounds-nodes-1
-bounds-nodes-1 c =
-    let p = c.requires in
-    omega (arith, p.pairs, p.threes, p.some-node)
 
 pub nothing_below-r-requires : goal.nothing_below-r-requires
 nothing_below-r-requires c =
     let a = c.args in
     first a.nodes.now a.probabilities.now a.row.now a.next.now a.flat a.spacing a.dt a.shift a.place c.requires (to_z-of_z {w = w32} (record { sfits = c.nothing_below-arg-1.given }))
-
-pub loop-i-init : goal.loop-i-init
-loop-i-init c =
-    let a = c.args in
-    start a.nodes.now a.probabilities.now a.row.now a.next.now a.flat a.spacing a.dt a.shift a.place c.requires _ refl (to_z-of_z {w = w32} (record { sfits = c.nothing_below-arg-1.given })) c.nothing_below-r.ensures
-
-pub slice_bounds-discounts-end : goal.slice_bounds-discounts-end
-slice_bounds-discounts-end c = sym c.loop-i.invariant.kept.full
-
-pub discounts-good-requires : goal.discounts-good-requires
-discounts-good-requires c = (c.requires.pairs, c.loop-i-test.true, c.loop-i.invariant.kept)
-
-pub overflow_mul-node : goal.overflow_mul-node
-overflow_mul-node c = search answers
-
-pub offset_bounds-nodes-i : goal.offset_bounds-nodes-i
-offset_bounds-nodes-i c = search answers
-
-pub bounds-nodes-i : goal.bounds-nodes-i
-bounds-nodes-i c = search answers
-
-pub overflow_mul-middle : goal.overflow_mul-middle
-overflow_mul-middle c = search answers
-
-pub overflow_add-middle : goal.overflow_add-middle
-overflow_add-middle c = search answers
-
-pub offset_bounds-nodes-i-in-loop-i : goal.offset_bounds-nodes-i-in-loop-i
-offset_bounds-nodes-i-in-loop-i c = search answers
-
-pub bounds-nodes-i-in-loop-i : goal.bounds-nodes-i-in-loop-i
-bounds-nodes-i-in-loop-i c = search answers
-
-pub offset_bounds-es-i : goal.offset_bounds-es-i
-offset_bounds-es-i c = search answers
-
-pub bounds-es-i : goal.bounds-es-i
-bounds-es-i c = search answers
-
-pub int_to_float-node : goal.int_to_float-node
-int_to_float-node c = tt
-
-pub offset_bounds-row-i : goal.offset_bounds-row-i
-offset_bounds-row-i c = search answers
-
-pub bounds-row-i : goal.bounds-row-i
-bounds-row-i c = search answers
-
-pub discounted-d-requires : goal.discounted-d-requires
-discounted-d-requires c =
-    let number = to_z-of_z {w = w32} (record { sfits = c.node-1.given }) in
-    let a = c.args in
-    let f = rate_argument a.spacing a.dt a.shift in
-    ready-here f a.nodes.now (length a.row.now) a.place c.discounts-good.ensures c.loop-i-test.true number
-
-pub refused_by-requires : goal.refused_by-requires
-refused_by-requires c = tt
-
-pub returns-in_default : goal.returns-in_default
-returns-in_default c =
-    let number = to_z-of_z {w = w32} (record { sfits = c.node-1.given }) in
-    let l = c.loop-i in
-    price-stopped l.invariant c.requires c.loop-i-test.true number c.discounted-d.ensures _ c.in_default.is c.refused_by.ensures
 
 pub reached-after-requires : goal.reached-after-requires
 reached-after-requires c =
@@ -190,79 +117,36 @@ reached-after-requires c =
     let h = held c.loop-i.invariant c.requires c.loop-i-test.true middle in
     (omega (arith, h.counted, c.well_formed), h.within)
 
-pub overflow_mul-i : goal.overflow_mul-i
-overflow_mul-i c = search answers
+pub returns-in_err-price : goal.returns-in_err-price
+returns-in_err-price c =
+    let number = to_z-of_z {w = w32} (record { sfits = c.node-1.given }) in
+    price-stopped c.loop-i.invariant c.requires c.loop-i-test.true number c.discounted.ensures _ c.in_err-price.was (search rules)
 
-pub offset_bounds-probabilities-i : goal.offset_bounds-probabilities-i
-offset_bounds-probabilities-i c =
-    omega (arith, c.loop-i-test.true, c.requires.threes, c.well_formed)
-
-pub bounds-probabilities-i : goal.bounds-probabilities-i
-bounds-probabilities-i c = search answers
-
-pub overflow_mul-i-in-loop-i : goal.overflow_mul-i-in-loop-i
-overflow_mul-i-in-loop-i c = search answers
-
-pub overflow_add-i : goal.overflow_add-i
-overflow_add-i c = search answers
-
-pub offset_bounds-probabilities-i-in-loop-i : goal.offset_bounds-probabilities-i-in-loop-i
-offset_bounds-probabilities-i-in-loop-i c =
-    omega (arith, c.loop-i-test.true, c.requires.threes, c.well_formed)
-
-pub bounds-probabilities-i-in-loop-i : goal.bounds-probabilities-i-in-loop-i
-bounds-probabilities-i-in-loop-i c = search answers
-
-pub overflow_mul-i-in-loop-i-2 : goal.overflow_mul-i-in-loop-i-2
-overflow_mul-i-in-loop-i-2 c = search answers
-
-pub overflow_add-i-in-loop-i : goal.overflow_add-i-in-loop-i
-overflow_add-i-in-loop-i c = search answers
-
-pub offset_bounds-probabilities-i-in-loop-i-2 : goal.offset_bounds-probabilities-i-in-loop-i-2
-offset_bounds-probabilities-i-in-loop-i-2 c =
-    omega (arith, c.loop-i-test.true, c.requires.threes, c.well_formed)
-
-pub bounds-probabilities-i-in-loop-i-2 : goal.bounds-probabilities-i-in-loop-i-2
-bounds-probabilities-i-in-loop-i-2 c = search answers
-
-pub add_three-a-requires : goal.add_three-a-requires
-add_three-a-requires c =
+pub add_three-requires : goal.add_three-requires
+add_three-requires c =
     let middle = to_z-of_z {w = w32} (record { sfits = c.middle-1.given }) in
     let l = c.loop-i in
     let h = held l.invariant c.requires c.loop-i-test.true middle in
     rw c.reached-after.ensures (h.three, rw l.invariant.same h.spot)
 
-pub returns-in_default-a : goal.returns-in_default-a
-returns-in_default-a c =
+pub returns-in_err-add_three : goal.returns-in_err-add_three
+returns-in_err-add_three c =
     let number = to_z-of_z {w = w32} (record { sfits = c.node-1.given }) in
     let middle = to_z-of_z {w = w32} (record { sfits = c.middle-1.given }) in
-    let price = c.discounted-d.ensures in
-    let value = c.in-Value.is in
-    let taken = c.loop-i-test.true in
-    let added = c.add_three-a in
-    row-stopped c.loop-i.invariant c.requires taken number price value middle c.reached-after.ensures _ added.ensures c.in_default-a.is
-
-pub overflow_add-i-in-loop-i-2 : goal.overflow_add-i-in-loop-i-2
-overflow_add-i-in-loop-i-2 c =
-    let taken = c.loop-i-test.true in
-    omega (arith, taken, c.well_formed)
-
-pub loop-i-smaller : goal.loop-i-smaller
-loop-i-smaller c = search answers
+    row-stopped c.loop-i.invariant c.requires c.loop-i-test.true number c.discounted.ensures c.in_ok-price.was middle c.reached-after.ensures _ c.add_three.ensures c.in_err-add_three.was (search rules)
 
 pub loop-i-preserved : goal.loop-i-preserved
 loop-i-preserved c =
     let number = to_z-of_z {w = w32} (record { sfits = c.node-1.given }) in
     let middle = to_z-of_z {w = w32} (record { sfits = c.middle-1.given }) in
-    let price = c.discounted-d.ensures in
-    let value = c.in-Value.is in
+    let price = c.discounted.ensures in
+    let value = c.in_ok-price.was in
     let taken = c.loop-i-test.true in
     let l = c.loop-i in
     let exps = c.discounts-good in
     let kept = kept_more _ _ _ (exps.auto.es ∙ l.invariant.kept.full) exps.ensures in
-    let added = c.add_three-a in
-    stepped l.invariant c.requires taken number price value middle c.reached-after.ensures _ added.ensures c.in-Passed.is added.auto.next kept
+    let added = c.add_three in
+    stepped l.invariant c.requires taken number price value middle c.reached-after.ensures _ added.ensures c.in_ok-add_three.was added.auto.next kept
 
 pub returns : goal.returns
 returns c =

@@ -6,8 +6,7 @@ use mathlib.Core.List.{List}
 use lib.ListN.{length}
 use lib.IntN.{ℤ}
 use lib.Ieee.{Float}
-use Rattle.floats.specs.declared.Answer.{Answer}
-use Rattle.floats.specs.Answers.{plus_zero}
+use Rattle.floats.specs.Answers.{Answer, plus_zero}
 use Rattle.forwardinduction.specs.Fit.{weighted}
 use Rattle.lattice.specs.laws.Stored.{numbers_in, row_of}
 use Rattle.lattice.specs.laws.StoredAt.{row_from}

@@ -1,11 +1,6 @@
 -- `hull_white_piecewise_variance` meets its contract: the invariant is that the pieces from entry i on give the whole. Assumes nothing.
-use Prim.Native.Nat.{◌-◌}
-use lib.ListN.{length}
 use Rattle.hullwhite.specs.laws.Pieces.{Left}
 use Rattle.hullwhite.proofs.variance.hull_white_piecewise_variance.Given as goal
 
 abbrev pub invariant-loop-i : goal.invariant-loop-i
 invariant-loop-i l = Left l.alpha l.sigma_times l.sigmas l.start l.end l.place l.total l.lower l.i
-
-abbrev pub decreases-loop-i : goal.decreases-loop-i
-decreases-loop-i l = length l.sigmas - l.i

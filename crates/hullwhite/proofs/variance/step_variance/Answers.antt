@@ -1,34 +1,26 @@
 -- `step_variance` meets its contract: the two ends of the step are tested, and the rest is the piecewise variance. Assumes nothing.
-use Rattle.floats.proofs.Laws.{answers}
-use Rattle.hullwhite.specs.Variance.{step_variance}
+use Rattle.std.specs.Prelude.{◌≡◌, ℕ, Float}
+use Rattle.std.specs.Float.{binary64}
+use Rattle.std.specs.Float.Ieee.{add, mul}
+use Rattle.std.proofs.Common.{rules}
+use Rattle.floats.specs.Answers.{Answer, on_outcome, when_finite}
+use Rattle.terms.specs.Numbers.{float}
+use Rattle.terms.specs.Terms.{HullWhite}
+use Rattle.hullwhite.specs.Variance.{piecewise_variance, step_variance}
+use Rattle.hullwhite.specs.laws.Filled.{model_of}
 use Rattle.hullwhite.proofs.variance.step_variance.Goals as goal
 
-pub int_to_float-start : goal.int_to_float-start
-int_to_float-start c = search answers
-
-pub not_finite-requires : goal.not_finite-requires
-not_finite-requires c = search answers
-
-pub overflow-requires : goal.overflow-requires
-overflow-requires c = tt
-
-pub returns-then-not_finite : goal.returns-then-not_finite
+is_step : (model : HullWhite) (dt : Float) (k : ℕ) {a : Answer}
+    → a ≡ when_finite (mul binary64 (float k) dt) k (λ start. when_finite (add binary64 start dt) k λ end. piecewise_variance model start end k)
+    → a ≡ step_variance model dt k
 unfolding step_variance
-returns-then-not_finite c = search answers
+is_step model dt k h = h
 
-pub not_finite-requires-2 : goal.not_finite-requires-2
-not_finite-requires-2 c = search answers
+pub returns-in_err-start : goal.returns-in_err-start
+returns-in_err-start c = is_step (model_of c.args.model.alpha c.args.model.sigma_times.now c.args.model.sigmas.now) c.args.time_step c.args.k (search rules)
 
-pub overflow-requires-then-not_finite-2 : goal.overflow-requires-then-not_finite-2
-overflow-requires-then-not_finite-2 c = tt
-
-pub returns-then-not_finite-2 : goal.returns-then-not_finite-2
-unfolding step_variance
-returns-then-not_finite-2 c = search answers
-
-pub hull_white_piecewise_variance-requires : goal.hull_white_piecewise_variance-requires
-hull_white_piecewise_variance-requires c = search answers
+pub returns-in_err-end : goal.returns-in_err-end
+returns-in_err-end c = is_step (model_of c.args.model.alpha c.args.model.sigma_times.now c.args.model.sigmas.now) c.args.time_step c.args.k (search rules)
 
 pub returns : goal.returns
-unfolding step_variance
-returns c = search answers
+returns c = is_step (model_of c.args.model.alpha c.args.model.sigma_times.now c.args.model.sigmas.now) c.args.time_step c.args.k (search rules)

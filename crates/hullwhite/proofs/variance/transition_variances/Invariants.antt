@@ -5,7 +5,4 @@ use Rattle.hullwhite.specs.laws.EachStep.{Reached}
 use Rattle.hullwhite.proofs.variance.transition_variances.Given as goal
 
 abbrev pub invariant-loop-k : goal.invariant-loop-k
-invariant-loop-k l = Reached (model_of l.alpha l.sigma_times l.sigmas) l.time_step l.steps l.initial.variances l.variances l.k
-
-abbrev pub decreases-loop-k : goal.decreases-loop-k
-decreases-loop-k l = l.steps - l.k
+invariant-loop-k l = Reached (model_of l.model.alpha l.model.sigma_times.now l.model.sigmas.now) l.time_step l.steps l.initial.variances l.variances l.k

@@ -1,55 +1,40 @@
 -- `with_piece` meets its contract: nothing where the piece is empty, else each operation is tested as the definition has it. Assumes nothing.
-use Rattle.floats.proofs.Laws.{answers}
-use Rattle.hullwhite.specs.Variance.{with_piece}
+use Rattle.std.specs.Prelude.{◌≡◌, ℕ, cond, Float, Ok}
+use Rattle.std.specs.Float.{binary64}
+use Rattle.std.specs.Float.Ieee.{add, mul, le}
+use Rattle.std.proofs.Common.{rules}
+use Rattle.floats.specs.Answers.{Answer, on_outcome, follow, tested, when_finite}
+use Rattle.floats.proofs.Laws.{taken, left}
+use Rattle.hullwhite.specs.Variance.{weight, with_piece}
 use Rattle.hullwhite.proofs.variance.with_piece.Goals as goal
 
-pub returns-then-upper-lower : goal.returns-then-upper-lower
-unfolding with_piece
-returns-then-upper-lower c = search answers
+module _ (alpha lower upper end sigma total : Float) (place : ℕ) where
+  abbrev more : Answer
+  more =
+      follow (weight alpha lower upper end place) λ w.
+      when_finite (mul binary64 sigma sigma) place λ square.
+      when_finite (mul binary64 square w) place λ more. tested (add binary64 total more) place
 
-pub weight-weighed-requires : goal.weight-weighed-requires
-weight-weighed-requires c = search answers
+  is_piece : {a : Answer} → a ≡ cond (le upper lower) (Ok total) more → a ≡ with_piece alpha lower upper end sigma total place
+  unfolding with_piece
+  is_piece h = h
 
-pub enum_known-weighed : goal.enum_known-weighed
-enum_known-weighed c = search answers
+pub returns-then-piece : goal.returns-then-piece
+unfolding on_outcome
+returns-then-piece c = let a = c.args in is_piece a.alpha a.piece.lower a.piece.upper a.piece.end a.sigma a.total a.place (search (taken, left, rules))
 
-pub enum_told-1 : goal.enum_told-1
-enum_told-1 c = search answers
+pub returns-in_err-w : goal.returns-in_err-w
+unfolding on_outcome
+returns-in_err-w c = let a = c.args in is_piece a.alpha a.piece.lower a.piece.upper a.piece.end a.sigma a.total a.place (search (taken, left, rules))
 
-pub returns-in_default : goal.returns-in_default
-unfolding with_piece
-returns-in_default c = search answers
+pub returns-in_err-square : goal.returns-in_err-square
+unfolding on_outcome
+returns-in_err-square c = let a = c.args in is_piece a.alpha a.piece.lower a.piece.upper a.piece.end a.sigma a.total a.place (search (taken, left, rules))
 
-pub not_finite-requires : goal.not_finite-requires
-not_finite-requires c = search answers
-
-pub overflow-requires : goal.overflow-requires
-overflow-requires c = tt
-
-pub returns-then-not_finite : goal.returns-then-not_finite
-unfolding with_piece
-returns-then-not_finite c = search answers
-
-pub not_finite-requires-2 : goal.not_finite-requires-2
-not_finite-requires-2 c = search answers
-
-pub overflow-requires-then-not_finite-2 : goal.overflow-requires-then-not_finite-2
-overflow-requires-then-not_finite-2 c = tt
-
-pub returns-then-not_finite-2 : goal.returns-then-not_finite-2
-unfolding with_piece
-returns-then-not_finite-2 c = search answers
-
-pub not_finite-requires-3 : goal.not_finite-requires-3
-not_finite-requires-3 c = search answers
-
-pub overflow-requires-then-not_finite-3 : goal.overflow-requires-then-not_finite-3
-overflow-requires-then-not_finite-3 c = tt
-
-pub returns-then-not_finite-3 : goal.returns-then-not_finite-3
-unfolding with_piece
-returns-then-not_finite-3 c = search answers
+pub returns-in_err-more : goal.returns-in_err-more
+unfolding on_outcome
+returns-in_err-more c = let a = c.args in is_piece a.alpha a.piece.lower a.piece.upper a.piece.end a.sigma a.total a.place (search (taken, left, rules))
 
 pub returns : goal.returns
-unfolding with_piece
-returns c = search answers
+unfolding on_outcome
+returns c = let a = c.args in is_piece a.alpha a.piece.lower a.piece.upper a.piece.end a.sigma a.total a.place (search (taken, left, rules))

@@ -1,82 +1,56 @@
 -- `prices::compounded` meets its contract. Assumes nothing.
-use lib.Ieee.{mul, div}
-use Rattle.interestrate.specs.Prices.{compoundly}
-use Rattle.interestrate.proofs.Laws.{prices}
+use Rattle.std.specs.Prelude.{◌≡◌, cond, Float, Ok}
+use Rattle.std.proofs.Common.{rules}
+use Rattle.std.specs.Float.{binary64}
+use Rattle.std.specs.Float.Ieee.{add, mul, div, neg, le}
+use Rattle.floats.specs.Answers.{Outcome, one, plus_zero, on_outcome}
+use Rattle.floats.specs.declared.Reason.TheVariants as reason
+use Rattle.elementary.specs.Power.{powf_at}
+use Rattle.interestrate.specs.declared.YieldPrice.{YieldPrice}
+use Rattle.interestrate.specs.Prices.{no, finitely, from_answer, compoundly}
 use Rattle.interestrate.proofs.prices.compounded.Goals as goal
 
-pub not_finite-requires : goal.not_finite-requires
-not_finite-requires c = search prices
+is_compounded : (rate time frequency : Float) {a : Outcome YieldPrice}
+    → a
+    ≡ (finitely (div binary64 rate frequency) λ part.
+    finitely (add binary64 part one) λ base.
+    cond (le base plus_zero) (no reason.YieldBase)
+    (finitely (mul binary64 (neg frequency) time) λ power.
+    from_answer (powf_at base power 0) λ discount.
+    finitely (mul binary64 (neg time) discount) λ x.
+    finitely (div binary64 x base) λ derivative. Ok (record { price = discount; derivative = derivative })))
+    → a ≡ compoundly rate time frequency
+unfolding compoundly
+is_compounded rate time frequency h = h
 
-pub refused-requires : goal.refused-requires
-refused-requires c = search prices
+pub returns-in_err-part : goal.returns-in_err-part
+unfolding on_outcome
+returns-in_err-part c = is_compounded _ _ _ (search rules)
 
-pub returns-then-not_finite : goal.returns-then-not_finite
-unfolding compoundly mul div
-returns-then-not_finite c = search prices
-
-pub not_finite-requires-2 : goal.not_finite-requires-2
-not_finite-requires-2 c = search prices
-
-pub refused-requires-then-not_finite-2 : goal.refused-requires-then-not_finite-2
-refused-requires-then-not_finite-2 c = search prices
-
-pub returns-then-not_finite-2 : goal.returns-then-not_finite-2
-unfolding compoundly mul div
-returns-then-not_finite-2 c = search prices
-
-pub refused-requires-then-base : goal.refused-requires-then-base
-refused-requires-then-base c = search prices
+pub returns-in_err-base : goal.returns-in_err-base
+unfolding on_outcome
+returns-in_err-base c = is_compounded _ _ _ (search rules)
 
 pub returns-then-base : goal.returns-then-base
-unfolding compoundly mul div
-returns-then-base c = search prices
+unfolding on_outcome
+returns-then-base c = is_compounded _ _ _ (search rules)
 
-pub not_finite-requires-3 : goal.not_finite-requires-3
-not_finite-requires-3 c = search prices
+pub returns-in_err-power : goal.returns-in_err-power
+unfolding on_outcome
+returns-in_err-power c = is_compounded _ _ _ (search rules)
 
-pub refused-requires-then-not_finite-3 : goal.refused-requires-then-not_finite-3
-refused-requires-then-not_finite-3 c = search prices
+pub returns-in_err-discount : goal.returns-in_err-discount
+unfolding on_outcome
+returns-in_err-discount c = is_compounded _ _ _ (search rules)
 
-pub returns-then-not_finite-3 : goal.returns-then-not_finite-3
-unfolding compoundly mul div
-returns-then-not_finite-3 c = search prices
+pub returns-in_err-x : goal.returns-in_err-x
+unfolding on_outcome
+returns-in_err-x c = is_compounded _ _ _ (search rules)
 
-pub powf_at-a-requires : goal.powf_at-a-requires
-powf_at-a-requires c = search prices
-
-pub enum_known-a : goal.enum_known-a
-enum_known-a c = search prices
-
-pub enum_told-1 : goal.enum_told-1
-enum_told-1 c = search prices
-
-pub refusal_of-requires : goal.refusal_of-requires
-refusal_of-requires c = search prices
-
-pub returns-in_default : goal.returns-in_default
-unfolding compoundly mul div
-returns-in_default c = search prices
-
-pub not_finite-requires-4 : goal.not_finite-requires-4
-not_finite-requires-4 c = search prices
-
-pub refused-requires-then-not_finite-4 : goal.refused-requires-then-not_finite-4
-refused-requires-then-not_finite-4 c = search prices
-
-pub returns-then-not_finite-4 : goal.returns-then-not_finite-4
-unfolding compoundly mul div
-returns-then-not_finite-4 c = search prices depth 20 fits 4000
-
-pub not_finite-requires-5 : goal.not_finite-requires-5
-not_finite-requires-5 c = search prices
-
-pub refused-requires-then-not_finite-5 : goal.refused-requires-then-not_finite-5
-refused-requires-then-not_finite-5 c = search prices
-
-pub returns-then-not_finite-5 : goal.returns-then-not_finite-5
-unfolding compoundly mul div
-returns-then-not_finite-5 c = search (prices, c.not_finite.ensures, c.if-not_finite.false, c.not_finite-2.ensures, c.if-not_finite-2.false, c.if-base.false, c.not_finite-3.ensures, c.if-not_finite-3.false, c.powf_at-a.ensures, c.in-Value.is, c.not_finite-4.ensures, c.if-not_finite-4.false, c.not_finite-5.ensures, c.if-not_finite-5.true, c.refused-then-not_finite-5.ensures) depth 30 fits 4000
+pub returns-in_err-derivative : goal.returns-in_err-derivative
+unfolding on_outcome
+returns-in_err-derivative c = is_compounded _ _ _ (search rules)
 
 pub returns : goal.returns
-unfolding compoundly mul div
-returns c = search (prices, c.not_finite.ensures, c.if-not_finite.false, c.not_finite-2.ensures, c.if-not_finite-2.false, c.if-base.false, c.not_finite-3.ensures, c.if-not_finite-3.false, c.powf_at-a.ensures, c.in-Value.is, c.not_finite-4.ensures, c.if-not_finite-4.false, c.not_finite-5.ensures, c.if-not_finite-5.false) depth 30 fits 4000
+unfolding on_outcome
+returns c = is_compounded _ _ _ (search rules)

@@ -1,45 +1,35 @@
 -- `prices::continuous` meets its contract. Assumes nothing.
-use lib.Ieee.{mul}
-use Rattle.interestrate.specs.Prices.{continuously}
-use Rattle.interestrate.proofs.Laws.{prices}
+use Rattle.std.specs.Prelude.{◌≡◌, Float, Ok}
+use Rattle.std.proofs.Common.{rules}
+use Rattle.std.specs.Float.{binary64}
+use Rattle.std.specs.Float.Ieee.{mul, neg}
+use Rattle.floats.specs.Answers.{Outcome, on_outcome}
+use Rattle.elementary.specs.Exponential.{exp_at}
+use Rattle.interestrate.specs.declared.YieldPrice.{YieldPrice}
+use Rattle.interestrate.specs.Prices.{finitely, from_answer, continuously}
 use Rattle.interestrate.proofs.prices.continuous.Goals as goal
 
-pub not_finite-requires : goal.not_finite-requires
-not_finite-requires c = search prices
+is_continuous : (rate time : Float) {a : Outcome YieldPrice}
+    → a
+    ≡ (finitely (mul binary64 (neg rate) time) λ x.
+    from_answer (exp_at x 0) λ discount.
+    finitely (mul binary64 (neg time) discount) λ derivative. Ok (record { price = discount; derivative = derivative }))
+    → a ≡ continuously rate time
+unfolding continuously
+is_continuous rate time h = h
 
-pub refused-requires : goal.refused-requires
-refused-requires c = search prices
+pub returns-in_err-x : goal.returns-in_err-x
+unfolding on_outcome
+returns-in_err-x c = is_continuous _ _ (search rules)
 
-pub returns-then-not_finite : goal.returns-then-not_finite
-unfolding continuously mul
-returns-then-not_finite c = search prices
+pub returns-in_err-discount : goal.returns-in_err-discount
+unfolding on_outcome
+returns-in_err-discount c = is_continuous _ _ (search rules)
 
-pub exp_at-a-requires : goal.exp_at-a-requires
-exp_at-a-requires c = search prices
-
-pub enum_known-a : goal.enum_known-a
-enum_known-a c = search prices
-
-pub enum_told-1 : goal.enum_told-1
-enum_told-1 c = search prices
-
-pub refusal_of-requires : goal.refusal_of-requires
-refusal_of-requires c = search prices
-
-pub returns-in_default : goal.returns-in_default
-unfolding continuously mul
-returns-in_default c = search prices
-
-pub not_finite-requires-2 : goal.not_finite-requires-2
-not_finite-requires-2 c = search prices
-
-pub refused-requires-then-not_finite-2 : goal.refused-requires-then-not_finite-2
-refused-requires-then-not_finite-2 c = search prices
-
-pub returns-then-not_finite-2 : goal.returns-then-not_finite-2
-unfolding continuously mul
-returns-then-not_finite-2 c = search prices
+pub returns-in_err-derivative : goal.returns-in_err-derivative
+unfolding on_outcome
+returns-in_err-derivative c = is_continuous _ _ (search rules)
 
 pub returns : goal.returns
-unfolding continuously mul
-returns c = search prices
+unfolding on_outcome
+returns c = is_continuous _ _ (search rules)

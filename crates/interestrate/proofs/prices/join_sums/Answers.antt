@@ -1,40 +1,29 @@
 -- `prices::join_sums` meets its contract. Assumes nothing.
+use Rattle.std.specs.Prelude.{◌≡◌, Float, Ok}
+use Rattle.std.proofs.Common.{rules}
+use Rattle.floats.specs.Answers.{Outcome, on_outcome}
+use Rattle.rounded.specs.Fused.{mul_add_at}
+use Rattle.interestrate.specs.declared.YieldPrice.{YieldPrice}
+use Rattle.interestrate.specs.Prices.{from_answer}
 use Rattle.interestrate.specs.laws.Rows.{join_sums}
-use Rattle.interestrate.proofs.Laws.{prices}
 use Rattle.interestrate.proofs.prices.join_sums.Goals as goal
 
-pub mul_add_at-p-requires : goal.mul_add_at-p-requires
-mul_add_at-p-requires c = search prices
-
-pub enum_known-p : goal.enum_known-p
-enum_known-p c = search prices
-
-pub enum_told-1 : goal.enum_told-1
-enum_told-1 c = search prices
-
-pub refusal_of-requires : goal.refusal_of-requires
-refusal_of-requires c = search prices
-
-pub returns-in_default : goal.returns-in_default
+are_joined : (amount discount slope price derivative : Float) {a : Outcome YieldPrice}
+    → a
+    ≡ (from_answer (mul_add_at amount discount price 0) λ price.
+    from_answer (mul_add_at amount slope derivative 0) λ derivative. Ok (record { price = price; derivative = derivative }))
+    → a ≡ join_sums amount discount slope price derivative
 unfolding join_sums
-returns-in_default c = search prices
+are_joined amount discount slope price derivative h = h
 
-pub mul_add_at-d-requires : goal.mul_add_at-d-requires
-mul_add_at-d-requires c = search prices
+pub returns-in_err-new_price : goal.returns-in_err-new_price
+unfolding on_outcome
+returns-in_err-new_price c = are_joined _ _ _ _ _ (search rules)
 
-pub enum_known-d : goal.enum_known-d
-enum_known-d c = search prices
-
-pub enum_told-in_default-d : goal.enum_told-in_default-d
-enum_told-in_default-d c = search prices
-
-pub refusal_of-requires-in_default-d : goal.refusal_of-requires-in_default-d
-refusal_of-requires-in_default-d c = search prices
-
-pub returns-in_default-d : goal.returns-in_default-d
-unfolding join_sums
-returns-in_default-d c = search prices
+pub returns-in_err-new_derivative : goal.returns-in_err-new_derivative
+unfolding on_outcome
+returns-in_err-new_derivative c = are_joined _ _ _ _ _ (search rules)
 
 pub returns : goal.returns
-unfolding join_sums
-returns c = search prices
+unfolding on_outcome
+returns c = are_joined _ _ _ _ _ (search rules)

@@ -1,35 +1,19 @@
 -- `prices::part_flows` meets its contract. Assumes nothing.
 use mathlib.Core.Path.{sym}
 use lib.Seq.{length-take-le}
-use Rattle.interestrate.proofs.Laws.{prices}
 use Rattle.interestrate.proofs.prices.part_flows.Goals as goal
-
-pub slice_bounds-times-end : goal.slice_bounds-times-end
-slice_bounds-times-end c = search prices
 
 pub slice_bounds-by_rows-end : goal.slice_bounds-by_rows-end
 slice_bounds-by_rows-end c = sym (length-take-le _ _ c.requires.1)
 
-pub slice_bounds-xs-end : goal.slice_bounds-xs-end
-slice_bounds-xs-end c = search prices
-
 pub slice_bounds-by_rows-end-2 : goal.slice_bounds-by_rows-end-2
 slice_bounds-by_rows-end-2 c = sym (length-take-le _ _ c.requires.1)
-
-pub slice_bounds-discounts-end : goal.slice_bounds-discounts-end
-slice_bounds-discounts-end c = search prices
 
 pub slice_bounds-by_rows-end-3 : goal.slice_bounds-by_rows-end-3
 slice_bounds-by_rows-end-3 c = sym (length-take-le _ _ c.requires.1)
 
-pub slice_bounds-slopes-end : goal.slice_bounds-slopes-end
-slice_bounds-slopes-end c = search prices
-
 pub slice_bounds-by_rows-end-4 : goal.slice_bounds-by_rows-end-4
 slice_bounds-by_rows-end-4 c = sym (length-take-le _ _ c.requires.1)
-
-pub slice_bounds-rests-end : goal.slice_bounds-rests-end
-slice_bounds-rests-end c = search prices
 
 pub slice_bounds-by_rows-end-5 : goal.slice_bounds-by_rows-end-5
 slice_bounds-by_rows-end-5 c = sym (length-take-le _ _ c.requires.1)
@@ -46,6 +30,3 @@ by_rows-requires c =
         rests-fit = length-take-le _ _ p.1;
       },
     )
-
-pub returns : goal.returns
-returns c = search prices

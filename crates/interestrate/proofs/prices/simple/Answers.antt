@@ -1,62 +1,60 @@
 -- `prices::simple` meets its contract. Assumes nothing.
-use lib.Ieee.{div}
-use Rattle.interestrate.specs.Prices.{simply}
-use Rattle.interestrate.proofs.Laws.{prices}
+use Rattle.std.specs.Prelude.{◌≡◌, cond, Float, Ok}
+use Rattle.std.proofs.Common.{rules, sym, ◌∙◌}
+use Rattle.std.specs.Float.{binary64}
+use Rattle.std.specs.Float.Ieee.{mul, div, neg, le}
+use Rattle.floats.specs.Answers.{Outcome, one, plus_zero, on_outcome}
+use Rattle.floats.specs.declared.Reason.TheVariants as reason
+use Rattle.rounded.specs.Fused.{mul_add_at}
+use Rattle.interestrate.specs.declared.YieldPrice.{YieldPrice}
+use Rattle.interestrate.specs.Prices.{no, finitely, from_answer, simply}
+use Rattle.floats.specs.laws.Propagation.{passed_on, stopped}
+use Rattle.floats.proofs.Laws.{valued, left_atmost}
 use Rattle.interestrate.proofs.prices.simple.Goals as goal
 
-pub mul_add_at-a-requires : goal.mul_add_at-a-requires
-mul_add_at-a-requires c = search prices
+is_simple : (rate time : Float) {a : Outcome YieldPrice}
+    → a
+    ≡ (from_answer (mul_add_at rate time one 0) λ compound.
+    cond (le compound plus_zero) (no reason.YieldBase)
+    (finitely (div binary64 one compound) λ discount.
+    finitely (mul binary64 compound compound) λ square.
+    finitely (div binary64 (neg time) square) λ derivative. Ok (record { price = discount; derivative = derivative })))
+    → a ≡ simply rate time
+unfolding simply
+is_simple rate time h = h
 
-pub enum_known-a : goal.enum_known-a
-enum_known-a c = search prices
-
-pub enum_told-1 : goal.enum_told-1
-enum_told-1 c = search prices
-
-pub refusal_of-requires : goal.refusal_of-requires
-refusal_of-requires c = search prices
-
-pub returns-in_default : goal.returns-in_default
-unfolding simply div
-returns-in_default c = search prices
-
-pub refused-requires : goal.refused-requires
-refused-requires c = search prices
+pub returns-in_err-compound : goal.returns-in_err-compound
+unfolding on_outcome
+returns-in_err-compound c = is_simple _ _ (search rules)
 
 pub returns-then-compound : goal.returns-then-compound
-unfolding simply div
-returns-then-compound c = search prices
+unfolding on_outcome
+returns-then-compound c = is_simple _ _ (search rules)
 
-pub not_finite-requires : goal.not_finite-requires
-not_finite-requires c = search prices
+pub returns-in_err-discount : goal.returns-in_err-discount
+unfolding on_outcome
+returns-in_err-discount c = is_simple _ _ (search rules)
 
-pub refused-requires-then-not_finite : goal.refused-requires-then-not_finite
-refused-requires-then-not_finite c = search prices
+pub returns-in_err-square : goal.returns-in_err-square
+unfolding on_outcome
+returns-in_err-square c = is_simple _ _ (search rules)
 
-pub returns-then-not_finite : goal.returns-then-not_finite
-unfolding simply div
-returns-then-not_finite c = search prices
+-- The definition from the square on, and from the discount on.
+abbrev of_square : Float → Float → Float → Outcome YieldPrice
+of_square time discount square = finitely (div binary64 (neg time) square) λ derivative. Ok (record { price = discount; derivative = derivative })
 
-pub not_finite-requires-2 : goal.not_finite-requires-2
-not_finite-requires-2 c = search prices
+abbrev of_discount : Float → Float → Float → Outcome YieldPrice
+of_discount time compound discount = finitely (mul binary64 compound compound) λ square. of_square time discount square
 
-pub refused-requires-then-not_finite-2 : goal.refused-requires-then-not_finite-2
-refused-requires-then-not_finite-2 c = search prices
-
-pub returns-then-not_finite-2 : goal.returns-then-not_finite-2
-unfolding simply div
-returns-then-not_finite-2 c = search prices
-
-pub not_finite-requires-3 : goal.not_finite-requires-3
-not_finite-requires-3 c = search prices
-
-pub refused-requires-then-not_finite-3 : goal.refused-requires-then-not_finite-3
-refused-requires-then-not_finite-3 c = search prices
-
-pub returns-then-not_finite-3 : goal.returns-then-not_finite-3
-unfolding simply div
-returns-then-not_finite-3 c = search prices
+pub returns-in_err-slope : goal.returns-in_err-slope
+returns-in_err-slope c =
+    is_simple _ _
+    (valued _ _ _ c.mul_add_at.ensures c.in_ok-compound.was
+    (left_atmost _ _ _ _ c.if-compound.false
+    (passed_on (of_discount c.args.time c.in_ok-compound.compound) _ _ (sym c.tested.ensures ∙ c.in_ok-discount.was) λ f.
+    passed_on (of_square c.args.time c.in_ok-discount.discount) _ _ (sym c.tested-2.ensures ∙ c.in_ok-square.was) λ g.
+    stopped (λ d. Ok (record { price = c.in_ok-discount.discount; derivative = d })) _ _ (sym c.tested-3.ensures ∙ c.in_err-slope.was) (search rules))))
 
 pub returns : goal.returns
-unfolding simply div
-returns c = search prices
+unfolding on_outcome
+returns c = is_simple _ _ (search rules)

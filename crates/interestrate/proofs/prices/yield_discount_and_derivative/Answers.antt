@@ -4,58 +4,13 @@ use Rattle.floats.proofs.Laws.{taken, left}
 use Rattle.interestrate.proofs.Laws.{prices}
 use Rattle.interestrate.proofs.prices.yield_discount_and_derivative.Goals as goal
 
-pub enum_told-1 : goal.enum_told-1
-enum_told-1 c = search prices
-
-pub simple-requires : goal.simple-requires
-simple-requires c = search prices
-
-pub enum_known-compounding : goal.enum_known-compounding
-enum_known-compounding c = search prices
-
-pub frequency_value-requires : goal.frequency_value-requires
-frequency_value-requires c = search prices
-
-pub compounded-requires : goal.compounded-requires
-compounded-requires c = search prices
-
-pub enum_told-in-Continuous : goal.enum_told-in-Continuous
-enum_told-in-Continuous c = search prices
-
-pub continuous-requires : goal.continuous-requires
-continuous-requires c = search prices
-
-pub enum_known-compounding-in-SimpleThenCompounded-1 : goal.enum_known-compounding-in-SimpleThenCompounded-1
-enum_known-compounding-in-SimpleThenCompounded-1 c = search prices
-
-pub frequency_value-frequency-requires : goal.frequency_value-frequency-requires
-frequency_value-frequency-requires c = search prices
-
-pub simple-requires-then-time-frequency : goal.simple-requires-then-time-frequency
-simple-requires-then-time-frequency c = search prices
-
 pub returns-then-time-frequency : goal.returns-then-time-frequency
 unfolding discount_and_derivative
 returns-then-time-frequency c = rw (c.in-SimpleThenCompounded.is, ← c.frequency_value-frequency.ensures) (taken _ _ _ c.if-time-frequency.true c.simple-then-time-frequency.ensures)
 
-pub compounded-requires-in-SimpleThenCompounded : goal.compounded-requires-in-SimpleThenCompounded
-compounded-requires-in-SimpleThenCompounded c = search prices
-
-pub enum_known-compounding-in-CompoundedThenSimple-1 : goal.enum_known-compounding-in-CompoundedThenSimple-1
-enum_known-compounding-in-CompoundedThenSimple-1 c = search prices
-
-pub frequency_value-frequency-requires-in-CompoundedThenSimple : goal.frequency_value-frequency-requires-in-CompoundedThenSimple
-frequency_value-frequency-requires-in-CompoundedThenSimple c = search prices
-
-pub simple-requires-then-time-frequency-2 : goal.simple-requires-then-time-frequency-2
-simple-requires-then-time-frequency-2 c = search prices
-
 pub returns-then-time-frequency-2 : goal.returns-then-time-frequency-2
 unfolding discount_and_derivative
 returns-then-time-frequency-2 c = rw (c.in-CompoundedThenSimple.is, ← c.frequency_value-frequency-in-CompoundedThenSimple.ensures) (search prices)
-
-pub compounded-requires-in-CompoundedThenSimple : goal.compounded-requires-in-CompoundedThenSimple
-compounded-requires-in-CompoundedThenSimple c = search prices
 
 pub returns-in-Simple : goal.returns-in-Simple
 unfolding discount_and_derivative

@@ -4,8 +4,5 @@ use Rattle.lattice.proofs.Signed.{back-numbered}
 use Rattle.lattice.proofs.Fused.{centred-fused}
 use Rattle.lattice.proofs.node.centred.Goals as goal
 
-pub probabilities-requires : goal.probabilities-requires
-probabilities-requires c = rw (back-numbered (within-numbered c.requires)) c.requires
-
 pub returns : goal.returns
-returns c = rw (centred-fused) (rw (back-numbered (within-numbered c.requires)) at c.probabilities.ensures)
+returns c = rw centred-fused (rw (back-numbered (within-numbered c.requires)) at c.probabilities.ensures)

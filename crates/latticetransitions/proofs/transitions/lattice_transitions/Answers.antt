@@ -17,9 +17,6 @@ lattice-curved : (room : Room) (alpha dt : Float) (variances : List Float) → a
 unfolding lattice
 lattice-curved room alpha dt variances e = rw e
 
-pub all_flat-requires : goal.all_flat-requires
-all_flat-requires c = tt
-
 pub shape_of-counts-then-all_flat : goal.shape_of-counts-then-all_flat
 shape_of-counts-then-all_flat c = c.flat_tree.auto.counts
 

@@ -1,4 +1,5 @@
 -- `grow_by` meets its contract: the layer is filled, or a node's refusal is handed up; then the next one is laid in the part behind. Assumes nothing.
+use Rattle.std.specs.Prelude.{◌≡◌, Err}
 use Prim.Native.Nat.{◌*◌}
 use native.Mathlib.Omega.{arith}
 use mathlib.Core.Path.{refl}
@@ -11,27 +12,28 @@ use Rattle.layers.specs.laws.Behind.{front-room, grown-behind}
 use borrow.Author.Rules.{rules}
 use Rattle.layers.proofs.grow.grow_by.Goals as goal
 
-pub fill-filled-requires : goal.fill-filled-requires
-fill-filled-requires c =
+pub fill-requires : goal.fill-requires
+fill-requires c =
     let p = c.requires in
     let a = c.args in
     let h = front-room a.before a.nodes.now a.probabilities.now p.front.0 in
     record { count_in_bounds = (h.0, h.1, p.known_le_before.0); known = p.known_le_before.1 }
 
-pub shape_of-nodes-in-Refused : goal.shape_of-nodes-in-Refused
-shape_of-nodes-in-Refused c = c.fill-filled.ensures.behind.kept
+pub shape_of-nodes-in_err-fill : goal.shape_of-nodes-in_err-fill
+shape_of-nodes-in_err-fill c = c.fill.ensures.behind.kept
 
-pub shape_of-probabilities-in-Refused : goal.shape_of-probabilities-in-Refused
-shape_of-probabilities-in-Refused c = c.fill-filled.ensures.behind.kept_too
+pub shape_of-probabilities-in_err-fill : goal.shape_of-probabilities-in_err-fill
+shape_of-probabilities-in_err-fill c = c.fill.ensures.behind.kept_too
 
-pub returns-in-Refused : goal.returns-in-Refused
-returns-in-Refused c =
+pub returns-in_err-fill : goal.returns-in_err-fill
+returns-in_err-fill c =
     let p = c.requires.front in
-    let e = c.fill-filled.ensures in
+    let e = c.fill.ensures in
     let a = c.args in
     let d = drop (a.before * 2) a.nodes.now in
     let q = drop (a.before * 3) a.probabilities.now in
-    record { grown = grown-stopped (room_left d q a.one a.two) p.0 (rw c.in-Refused.is at e.filled); behind = e.behind }
+    let x : c.from_residual.result ≡ Err c.in_err-fill.field-0.0 = search rules in
+    rw x (record { grown = grown-stopped (room_left d q a.one a.two) p.0 (rw c.in_err-fill.was at e.filled); behind = e.behind })
 
 pub overflow_mul-pairs : goal.overflow_mul-pairs
 overflow_mul-pairs c = let a = c.args in let h = front-room a.before a.nodes.now a.probabilities.now c.requires.front.0 in let p = h.0 in let q = h.1 in search rules
@@ -40,30 +42,30 @@ pub overflow_mul-threes : goal.overflow_mul-threes
 overflow_mul-threes c = let a = c.args in let h = front-room a.before a.nodes.now a.probabilities.now c.requires.front.0 in let p = h.0 in let q = h.1 in search rules
 
 pub overflow_sub-threes : goal.overflow_sub-threes
-overflow_sub-threes c = let a = c.args in let h = front-room a.before a.nodes.now a.probabilities.now c.requires.front.0 in let p = h.0 in let q = h.1 in let k = c.fill-filled.ensures.behind in let l = k.kept in let n = k.kept_too in search rules
+overflow_sub-threes c = let a = c.args in let h = front-room a.before a.nodes.now a.probabilities.now c.requires.front.0 in let p = h.0 in let q = h.1 in let k = c.fill.ensures.behind in let l = k.kept in let n = k.kept_too in search rules
 
 pub offset_bounds-nodes-pairs : goal.offset_bounds-nodes-pairs
 offset_bounds-nodes-pairs c = let a = c.args in let h = front-room a.before a.nodes.now a.probabilities.now c.requires.front.0 in let p = h.0 in let q = h.1 in search rules
 
 pub slice_bounds-lay_next-count : goal.slice_bounds-lay_next-count
-slice_bounds-lay_next-count c = let a = c.args in let h = front-room a.before a.nodes.now a.probabilities.now c.requires.front.0 in let p = h.0 in let q = h.1 in let k = c.fill-filled.ensures.behind in let l = k.kept in let n = k.kept_too in search rules
+slice_bounds-lay_next-count c = let a = c.args in let h = front-room a.before a.nodes.now a.probabilities.now c.requires.front.0 in let p = h.0 in let q = h.1 in let k = c.fill.ensures.behind in let l = k.kept in let n = k.kept_too in search rules
 
 pub slice_bounds-lay_next-start : goal.slice_bounds-lay_next-start
-slice_bounds-lay_next-start c = let a = c.args in let h = front-room a.before a.nodes.now a.probabilities.now c.requires.front.0 in let p = h.0 in let q = h.1 in let k = c.fill-filled.ensures.behind in let l = k.kept in let n = k.kept_too in search rules
+slice_bounds-lay_next-start c = let a = c.args in let h = front-room a.before a.nodes.now a.probabilities.now c.requires.front.0 in let p = h.0 in let q = h.1 in let k = c.fill.ensures.behind in let l = k.kept in let n = k.kept_too in search rules
 
 pub lay_next-requires : goal.lay_next-requires
 lay_next-requires c =
     let p = c.requires.front in
-    let e = c.fill-filled.ensures in
-    let f = filled-front p.0 p.1 (rw c.in_default.is at e.filled) in
+    let e = c.fill.ensures in
+    let f = filled-front p.0 p.1 (rw c.in_ok-fill.was at e.filled) in
     let a = c.args in
-    rw (part_from_lem (a.before * 2) c.fill-filled.new.nodes) (f.some-node, f.pairs, f.within, p.2)
+    rw (part_from_lem (a.before * 2) c.fill.new.nodes) (f.some-node, f.pairs, f.within, p.2)
 
 pub returns : goal.returns
 returns c =
     let p = c.requires.front in
-    let e = c.fill-filled.ensures in
-    let f = filled-front p.0 p.1 (rw c.in_default.is at e.filled) in
+    let e = c.fill.ensures in
+    let f = filled-front p.0 p.1 (rw c.in_ok-fill.was at e.filled) in
     let a = c.args in
     let h = front-room a.before a.nodes.now a.probabilities.now p.0 in
     grown-behind a.one a.two _ (omega (arith, h.0, e.behind.kept)) refl f e.behind c.lay_next.ensures

@@ -1,26 +1,22 @@
 -- `step_of` meets its contract: by the test, then by the case of the spacing. Assumes nothing.
-use mathlib.Core.Path.{sym, ◌∙◌}
-use Rattle.floats.specs.Answers.{on_answer}
+use Rattle.std.specs.Prelude.{◌≡◌, Err}
+use Rattle.std.proofs.Common.{rules, sym, ◌∙◌}
+use Rattle.floats.specs.Answers.{on_outcome}
 use Rattle.lattice.specs.laws.MadeSteps.{step_is}
 use Rattle.layers.proofs.grow.step_of.Goals as goal
 
 pub returns-then-variance : goal.returns-then-variance
 returns-then-variance c = record { step = λ spacing decay. rw (← step_is spacing decay c.args.variance c.args.place, c.if-variance.true) }
 
-pub spacing_of-found-requires : goal.spacing_of-found-requires
-spacing_of-found-requires c = tt
-
-pub refusal_of-requires : goal.refusal_of-requires
-refusal_of-requires c = tt
-
-pub returns-in_default : goal.returns-in_default
-unfolding on_answer
-returns-in_default c = record { step = λ spacing decay. rw (c.refusal_of.ensures, c.in_default.is, ← step_is spacing decay c.args.variance c.args.place, c.if-variance.false, sym c.spacing_of-found.ensures ∙ c.in_default.is) }
-
-pub divisors-requires : goal.divisors-requires
-divisors-requires c = tt
+pub returns-in_err-new_spacing : goal.returns-in_err-new_spacing
+unfolding on_outcome
+returns-in_err-new_spacing c =
+    let e : c.from_residual.result ≡ Err c.in_err-new_spacing.field-0.0 = search rules in
+    record {
+      step = λ spacing decay. rw (e, ← step_is spacing decay c.args.variance c.args.place, c.if-variance.false, sym c.spacing_of.ensures ∙ c.in_err-new_spacing.was);
+    }
 
 pub returns : goal.returns
-unfolding on_answer
+unfolding on_outcome
 returns c =
-    record { step = λ spacing decay. rw (← step_is spacing decay c.args.variance c.args.place, c.if-variance.false, sym c.spacing_of-found.ensures ∙ c.in-Value.is) (c.divisors.ensures.step spacing decay) }
+    record { step = λ spacing decay. rw (← step_is spacing decay c.args.variance c.args.place, c.if-variance.false, sym c.spacing_of.ensures ∙ c.in_ok-new_spacing.was) (c.divisors.ensures.step spacing decay) }

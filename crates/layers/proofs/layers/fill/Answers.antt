@@ -1,4 +1,5 @@
 -- `fill` meets its contract: the invariant is that the first i nodes behind are filled, the rest gives the whole, and the nodes in front are as they were. Assumes nothing.
+use Rattle.std.specs.Prelude.{◌≡◌, Err}
 use native.Mathlib.Omega.{arith}
 use borrow.Author.Rules.{rules}
 use lib.ListN.{length-set}
@@ -27,24 +28,22 @@ slice_copy_out-node c = let g = c in let f = g.loop-i.invariant in let p = pairs
 pub not_below-j-requires : goal.not_below-j-requires
 not_below-j-requires c = (still_known c.loop-i.invariant).pairs
 
-pub known_or_made-made-requires : goal.known_or_made-made-requires
-known_or_made-made-requires c = still_known c.loop-i.invariant
+pub known_or_made-requires : goal.known_or_made-requires
+known_or_made-requires c = still_known c.loop-i.invariant
 
-pub unmade-requires : goal.unmade-requires
-unmade-requires c = tt
+pub shape_of-nodes-in_err-t : goal.shape_of-nodes-in_err-t
+shape_of-nodes-in_err-t c = c.loop-i.invariant.behind.kept
 
-pub shape_of-nodes-in_default : goal.shape_of-nodes-in_default
-shape_of-nodes-in_default c = c.loop-i.invariant.behind.kept
+pub shape_of-probabilities-in_err-t : goal.shape_of-probabilities-in_err-t
+shape_of-probabilities-in_err-t c = c.loop-i.invariant.behind.kept_too
 
-pub shape_of-probabilities-in_default : goal.shape_of-probabilities-in_default
-shape_of-probabilities-in_default c = c.loop-i.invariant.behind.kept_too
-
-pub returns-in_default : goal.returns-in_default
-returns-in_default c =
+pub returns-in_err-t : goal.returns-in_err-t
+returns-in_err-t c =
     let g = c in
-    let m = c.known_or_made-made in
+    let m = c.known_or_made in
     let read = to_z-of_z {w = w32} (record { sfits = c.node-1.given }) in
-    behind-stopped g.loop-i.invariant m.result g.loop-i-test.true read m.ensures c.in_default.is c.unmade.ensures
+    let e : c.from_residual.result ≡ Err c.in_err-t.field-0.0 = search rules in
+    rw e (behind-stopped g.loop-i.invariant m.result g.loop-i-test.true read m.ensures c.in_err-t.was)
 
 pub overflow_mul-middle : goal.overflow_mul-middle
 overflow_mul-middle c = let g = c in let f = g.loop-i.invariant in let p = pairs-there f g.loop-i-test.true in let q = threes-there f g.loop-i-test.true in let k = f.behind.kept in let l = f.behind.kept_too in search rules
@@ -100,8 +99,8 @@ loop-i-smaller c = let g = c in let f = g.loop-i.invariant in let p = pairs-ther
 pub loop-i-preserved : goal.loop-i-preserved
 loop-i-preserved c =
     let g = c in
-    let m = c.known_or_made-made in
-    let e = c.in-Made.is in
+    let m = c.known_or_made in
+    let e = c.in_ok-t.was in
     let read = to_z-of_z {w = w32} (record { sfits = c.node-1.given }) in
     let within = behind-within g.loop-i.invariant m.result g.loop-i-test.true read m.ensures e in
     behind-stored g.loop-i.invariant m.result g.loop-i-test.true read m.ensures e (back-numbered (within-numbered within))

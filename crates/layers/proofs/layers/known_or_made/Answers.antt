@@ -21,8 +21,5 @@ returns-then-stands_at c =
     let t = c.if-stands_at.true in
     rw c.known_at.ensures (known_is (k.each _ (s.inside t)) (s.number t ∙ to_z-of_z c.ranges.node))
 
-pub transition_of-requires : goal.transition_of-requires
-transition_of-requires c = tt
-
 pub returns : goal.returns
 returns c = rw (to_z-of_z c.ranges.node) at c.transition_of.ensures

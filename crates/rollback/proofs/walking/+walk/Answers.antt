@@ -3,6 +3,7 @@ use Prim.Native.Nat.{◌+◌, ◌<◌}
 use mathlib.Core.Path.{◌≡◌, sym}
 use native.Mathlib.Nat.{le_refl}
 use native.Mathlib.Omega.{arith}
+use borrow.Author.Rules.{rules}
 use lib.ListN.{length}
 use lib.Seq.{length-take-le}
 use Rattle.lattice.specs.laws.Parts.{part_from, part_length}
@@ -17,8 +18,8 @@ returns-then-spacings-eq0 t c =
     let a = c.args in
     walk_last a.dt a.spread a.cashflows.now (calls_of a.marks.now a.prices.now) a.step (omega (arith, c.requires.shifts_len.1)) c.requires.laid a.shifts.now c.if-spacings-eq0.true (record { first = c.final_row.new.first; second = c.final_row.new.second }) c.final_row.ensures
 
-pub walk-behind-requires : goal.walk-behind-requires
-walk-behind-requires t c =
+pub walk-requires : goal.walk-requires
+walk-requires t c =
     let some = c.if-spacings-eq0.false in
     let lens = c.requires.shifts_len in
     let some_spacing : 0 < length c.args.spacings.now = omega (arith, some) in
@@ -26,11 +27,11 @@ walk-behind-requires t c =
     let f : length (part_from 1 c.args.shifts.now) + 1 ≡ length c.args.shifts.now = omega (arith, part_length 1 c.args.shifts.now, some_spacing, lens.0) in
     (omega (arith, e), (laid-parts (behind_of c.requires.laid some), ((omega (arith, e, f, lens.0), omega (arith, e, lens.1), lens.2), c.requires.marks_len)))
 
-pub returns-in_default : goal.returns-in_default
-returns-in_default t c =
+pub returns-in_err-walk : goal.returns-in_err-walk
+returns-in_err-walk t c =
     let a = c.args in
-    let rows = c.walk-behind.new in
-    walk-stopped a.dt a.spread a.cashflows.now (calls_of a.marks.now a.prices.now) a.step (omega (arith, c.requires.shifts_len.1)) c.requires.laid a.shifts.now c.if-spacings-eq0.false c.requires.shifts_len.0 (record { first = rows.first; second = rows.second }) (record { first = rows.first; second = rows.second }) c.in_default.is c.walk-behind.ensures
+    let rows = c.walk.new in
+    walk-stopped a.dt a.spread a.cashflows.now (calls_of a.marks.now a.prices.now) a.step (omega (arith, c.requires.shifts_len.1)) c.requires.laid a.shifts.now c.if-spacings-eq0.false c.requires.shifts_len.0 (record { first = rows.first; second = rows.second }) (record { first = rows.first; second = rows.second }) c.in_err-walk.was (search rules) c.walk.ensures
 
 pub slice_bounds-roll_step-end : goal.slice_bounds-roll_step-end
 slice_bounds-roll_step-end t c = sym (length-take-le _ _ (fronted c.requires.laid).pairs)
@@ -41,7 +42,7 @@ slice_bounds-roll_step-end-2 t c = sym (length-take-le _ _ (behind_of c.requires
 pub roll_step-requires-clause-count_in_bounds : goal.roll_step-requires-clause-count_in_bounds
 roll_step-requires-clause-count_in_bounds t c =
     let s = (behind_of c.requires.laid c.if-spacings-eq0.false).stepped in
-    rw (c.walk-behind.auto.first, c.walk-behind.auto.second) (s.first_room, s.second-room, s.next_first, s.next_second)
+    rw (c.walk.auto.first, c.walk.auto.second) (s.first_room, s.second-room, s.next_first, s.next_second)
 
 pub roll_step-requires-clause-layered : goal.roll_step-requires-clause-layered
 roll_step-requires-clause-layered t c = layered_of (behind_of c.requires.laid c.if-spacings-eq0.false).stepped _ (le_refl _)
@@ -49,6 +50,6 @@ roll_step-requires-clause-layered t c = layered_of (behind_of c.requires.laid c.
 pub returns : goal.returns
 returns t c =
     let a = c.args in
-    let rows = c.walk-behind in
+    let rows = c.walk in
     let here = c.roll_step in
-    walk_step a.dt a.spread a.cashflows.now (calls_of a.marks.now a.prices.now) a.step (omega (arith, c.requires.shifts_len.1)) c.requires.laid a.shifts.now c.if-spacings-eq0.false c.requires.shifts_len.0 here.result (record { first = rows.new.first; second = rows.new.second }) (record { first = here.new.first; second = here.new.second }) rows.auto.first rows.auto.second c.in-Passed.is rows.ensures c.call_at-call.ensures here.ensures
+    walk_step a.dt a.spread a.cashflows.now (calls_of a.marks.now a.prices.now) a.step (omega (arith, c.requires.shifts_len.1)) c.requires.laid a.shifts.now c.if-spacings-eq0.false c.requires.shifts_len.0 here.result (record { first = rows.new.first; second = rows.new.second }) (record { first = here.new.first; second = here.new.second }) rows.auto.first rows.auto.second c.in_ok-walk.was rows.ensures c.call_at-call.ensures here.ensures

@@ -2,14 +2,11 @@
 -- Assumes nothing.
 use Prim.Native.Nat.{◌-◌, ◌/◌}
 use native.Mathlib.Omega.{arith}
-use Rattle.rounded.proofs.guess.Patterns.{number-bits, less_number}
+use Rattle.rounded.proofs.guess.Patterns.{number-bits}
 use Rattle.rounded.proofs.guess.guess.Goals as goal
 
 pub float_from_bits-a : goal.float_from_bits-a
 float_from_bits-a c = number-bits c.args.bits (omega arith)
 
-pub float_from_bits-first : goal.float_from_bits-first
-float_from_bits-first c = number-bits (6910469410427058089 - c.args.bits / 2) (omega arith)
-
-pub float_to_bits-result : goal.float_to_bits-result
-float_to_bits-result c = less_number _ _ c.if-s.true
+pub float_from_bits-inverse : goal.float_from_bits-inverse
+float_from_bits-inverse c = number-bits (6910469410427058089 - c.args.bits / 2) (omega arith)

@@ -1,18 +1,17 @@
 -- `join` meets its contract: the sum can't tell the part that was moved down from what it was.
-use Prim.Native.Nat.{◌+◌, ◌*◌}
 use Rattle.rounded.proofs.mul_add.Aligning.{addend_down, product_down}
 use Rattle.rounded.proofs.mul_add.join.Goals as goal
 
-pub returns-then-e-e2 : goal.returns-then-e-e2
-returns-then-e-e2 c =
-    let a = c.args in
-    let w = c.shift-w.result in
-    addend_down a.high a.low a.top c.requires.joinable c.ranges.low.fits a.neg a.neg2 a.e a.e2 (w.high * 18446744073709551616 + w.low) c.if-e-e2.true c.shift-w.ensures.0
-    c.combine.ensures
+pub returns-then-x-y : goal.returns-then-x-y
+returns-then-x-y c =
+    let x = c.args.x in
+    let y = c.args.y in
+    let l = c.lowered.ensures in
+    addend_down x.digits y.digits c.requires.joinable x.neg y.neg x.place y.place c.lowered.result.digits c.if-x-y.true l.odd (rw (l.sign, l.place) at c.combine.ensures)
 
-pub returns : goal.returns
-returns c =
-    let a = c.args in
-    let w = c.shift-w-2.result in
-    product_down a.high a.low a.top c.requires.joinable c.ranges.low.fits a.neg a.neg2 a.e a.e2 (w.high * 18446744073709551616 + w.low) c.if-e-e2.false c.shift-w-2.ensures.0
-    c.combine-2.ensures
+pub returns-else-x-y : goal.returns-else-x-y
+returns-else-x-y c =
+    let x = c.args.x in
+    let y = c.args.y in
+    let l = c.lowered-else-x-y.ensures in
+    product_down x.digits y.digits c.requires.joinable x.neg y.neg x.place y.place c.lowered-else-x-y.result.digits c.if-x-y.false l.odd (rw (l.sign, l.place) at c.combine-else-x-y.ensures)

@@ -1,19 +1,26 @@
--- `pack_wide` meets its contract: `round` can't tell the two words from their 64 leading digits, rounded to odd.
-use mathlib.Core.Path.{ap, ◌∙◌}
-use Prim.Native.Nat.{ℕ, ◌+◌, ◌-◌, ◌*◌, ◌^◌}
-use lib.Ieee.{binary64, round}
-use Rattle.rounded.specs.laws.Packing.{scale}
-use Rattle.rounded.proofs.pack.Places.{only-low, shortened}
+-- `pack_wide` meets its contract: `round` can't tell a number from its 64 leading digits, rounded to odd.
+use mathlib.Core.Path.{◌∙◌}
+use Prim.Native.Nat.{◌-◌}
+use native.Mathlib.Omega.{arith}
+use lib.Count.{count_leading_zeros}
+use Rattle.rounded.proofs.pack.Numbers.{few-digits, some_digit, leading}
+use Rattle.rounded.proofs.pack.Places.{shortened}
 use Rattle.rounded.proofs.pack.pack_wide.Goals as goal
 
-pub returns-then-high-eq0 : goal.returns-then-high-eq0
-returns-then-high-eq0 c =
-    let a = c.args in
-    c.pack.ensures ∙ ap (λ (x : ℕ). round binary64 a.neg (x * 2 ^ a.e) (2 ^ scale)) (only-low a.high a.low c.if-high-eq0.true)
+pub overflow_cast-w : goal.overflow_cast-w
+overflow_cast-w c = record { fits = few-digits c.args.w c.ranges.w.fits c.if-zeros-ge64.true }
+
+pub shift-requires : goal.shift-requires
+shift-requires c = some_digit c.args.w c.if-zeros-ge64.false
+
+pub overflow_cast-shift : goal.overflow_cast-shift
+overflow_cast-shift c = record { fits = (leading c.args.w c.shift.result c.ranges.w.fits c.if-zeros-ge64.false c.shift.ensures.odd).1 }
+
+pub pack_normal-requires : goal.pack_normal-requires
+pack_normal-requires c = ((leading c.args.w c.shift.result c.ranges.w.fits c.if-zeros-ge64.false c.shift.ensures.odd).0, omega arith)
 
 pub returns : goal.returns
 returns c =
-    let a = c.args in
-    let p = 64 - c.lift-places.result in
-    let o = c.leading.ensures in
-    c.pack_normal.ensures ∙ shortened a.neg (a.high * 18446744073709551616 + a.low) c.leading.result p a.e o.0 o.1
+    c.pack_normal.ensures
+    ∙ shortened c.args.neg c.args.w c.shift.result (64 - count_leading_zeros 128 c.args.w) c.args.e c.shift.ensures.odd
+    (leading c.args.w c.shift.result c.ranges.w.fits c.if-zeros-ge64.false c.shift.ensures.odd).0

@@ -8,8 +8,8 @@ float_from_bits-result c = signed-number c.args.q c.args.k c.requires
 pub returns-then-neg : goal.returns-then-neg
 returns-then-neg c = rw c.if-neg.true (signed-bits c.args.q c.args.k c.requires)
 
-pub float_from_bits-result-2 : goal.float_from_bits-result-2
-float_from_bits-result-2 c = plain_number c.args.q c.args.k c.requires
+pub float_from_bits-result-else-neg : goal.float_from_bits-result-else-neg
+float_from_bits-result-else-neg c = plain_number c.args.q c.args.k c.requires
 
-pub returns : goal.returns
-returns c = rw c.if-neg.false (plain_bits c.args.q c.args.k c.requires)
+pub returns-else-neg : goal.returns-else-neg
+returns-else-neg c = rw c.if-neg.false (plain_bits c.args.q c.args.k c.requires)

@@ -23,5 +23,5 @@ returns-then-tail-gt0 c =
     let e = c.raised-then-tail-gt0.ensures in
     low_parts c.args.x (subst T (sym c.well_formed.0.1) tt) c.requires r.neg r.digits r.place c.if-field-gt0.false e.0 e.1 e.2
 
-pub returns : goal.returns
-returns c = zero-parts c.args.x (subst T (sym c.well_formed.0.1) tt) c.requires c.if-field-gt0.false c.if-tail-gt0.false
+pub returns-else-tail-gt0 : goal.returns-else-tail-gt0
+returns-else-tail-gt0 c = zero-parts c.args.x (subst T (sym c.well_formed.0.1) tt) c.requires c.if-field-gt0.false c.if-tail-gt0.false

@@ -1,21 +1,12 @@
--- `sqrt::doubled` meets its contract: the square is at most the number, and less in one word or equal in both.
+-- `sqrt::doubled` meets its contract: the square is less than the number, or it is the number.
 -- Assumes nothing.
+use mathlib.Core.Path.{refl}
 use native.Mathlib.Omega.{arith}
-use Rattle.rounded.proofs.digits.Squares.{root-small}
-use Rattle.rounded.proofs.sqrt.Words.{cut_high, cut_low, cut-nothing}
+use Rattle.rounded.specs.laws.RootValue.{whole, cut}
 use Rattle.rounded.proofs.sqrt.doubled.Goals as goal
 
-pub overflow_mul-twice : goal.overflow_mul-twice
-overflow_mul-twice c = omega (arith, root-small _ c.args.high _ c.mended-r.ensures.within c.requires c.ranges.low.fits)
+pub returns-then-product-n : goal.returns-then-product-n
+returns-then-product-n c = record { r = c.mended-r.result; root = c.mended-r.ensures; twice = cut (omega arith) refl }
 
-pub overflow_add-odd : goal.overflow_add-odd
-overflow_add-odd c = omega (arith, root-small _ c.args.high _ c.mended-r.ensures.within c.requires c.ranges.low.fits)
-
-pub returns-then-top-high : goal.returns-then-top-high
-returns-then-top-high c = cut_high _ _ _ _ _ c.product-p.ensures c.mended-r.ensures (omega (arith, c.product-p.type_inv)) c.if-top-high.true
-
-pub returns-then-rest-low : goal.returns-then-rest-low
-returns-then-rest-low c = cut_low _ _ _ _ _ c.product-p.ensures c.mended-r.ensures c.ranges.low.fits c.if-top-high.false c.if-rest-low.true
-
-pub returns : goal.returns
-returns c = cut-nothing _ _ _ _ _ c.product-p.ensures c.mended-r.ensures c.if-top-high.false c.if-rest-low.false
+pub returns-else-product-n : goal.returns-else-product-n
+returns-else-product-n c = record { r = c.mended-r.result; root = c.mended-r.ensures; twice = let h = c.mended-r.ensures.within in whole (omega arith) refl }

@@ -1,24 +1,13 @@
 -- `objectives::at_yield` meets its contract. Assumes nothing.
+use Rattle.std.proofs.Common.{rules}
 use Rattle.sought.specs.Objectives.{objective}
-use Rattle.interestrate.proofs.Laws.{prices}
+use Rattle.interestrate.proofs.Laws.{priced, no_price}
 use Rattle.sought.proofs.objectives.at_yield.Goals as goal
 
-pub yield_price_and_derivative-requires : goal.yield_price_and_derivative-requires
-yield_price_and_derivative-requires c = search prices
-
-pub enum_known-p : goal.enum_known-p
-enum_known-p c = search prices
-
-pub above_target-requires : goal.above_target-requires
-above_target-requires c = search prices
-
-pub enum_known-q : goal.enum_known-q
-enum_known-q c = search prices
-
-pub returns-in-Price : goal.returns-in-Price
+pub returns-in_err-at_y : goal.returns-in_err-at_y
 unfolding objective
-returns-in-Price c = search prices
+returns-in_err-at_y c = no_price _ _ _ c.yield_price_and_derivative.ensures c.in_err-at_y.was (search rules)
 
-pub returns-in-Refused : goal.returns-in-Refused
+pub returns : goal.returns
 unfolding objective
-returns-in-Refused c = search prices
+returns c = priced _ _ _ c.yield_price_and_derivative.ensures c.in_ok-at_y.was c.above_target.ensures

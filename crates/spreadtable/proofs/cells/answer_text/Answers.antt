@@ -3,8 +3,8 @@ use Rattle.floats.proofs.Laws.{answers}
 use Rattle.spreadtable.proofs.Texts.{of_value_lem, of_refusal}
 use Rattle.spreadtable.proofs.cells.answer_text.Goals as goal
 
-pub returns-in-Value : goal.returns-in-Value
-returns-in-Value c = search (of_value_lem, answers)
+pub returns-in-Ok : goal.returns-in-Ok
+returns-in-Ok c = search (of_value_lem, answers)
 
-pub returns-in-Refused : goal.returns-in-Refused
-returns-in-Refused c = search (of_refusal, answers)
+pub returns-in-Err : goal.returns-in-Err
+returns-in-Err c = search (of_refusal, answers)

@@ -3,8 +3,8 @@ use Rattle.floats.proofs.Laws.{answers}
 use Rattle.spreadtable.proofs.Texts.{of_passed, of_refused}
 use Rattle.spreadtable.proofs.checks.check_text.Goals as goal
 
-pub returns-in-Passed : goal.returns-in-Passed
-returns-in-Passed c = search (of_passed, answers)
+pub returns-in-Ok : goal.returns-in-Ok
+returns-in-Ok c = search (of_passed, answers)
 
-pub returns-in-Refused : goal.returns-in-Refused
-returns-in-Refused c = search (of_refused, answers)
+pub returns-in-Err : goal.returns-in-Err
+returns-in-Err c = search (of_refused, answers)

@@ -16,7 +16,7 @@ returns-in_default c =
 pub checked_row-requires : goal.checked_row-requires
 checked_row-requires c =
     let p = c.requires in
-    let all = sym c.tree_checks-check.ensures ∙ c.in-Passed.is in
+    let all = sym c.tree_checks-check.ensures ∙ c.in-Ok.is in
     let passed = sym (tree-grid _ _ all) in
     let steps = settled _ _ _ _ passed refl in
     let leg = leg-sized _ _ _ _ passed refl in
@@ -34,4 +34,4 @@ checked_row-requires c =
 pub returns : goal.returns
 returns c =
     let a = c.args in
-    row-checked (terms_of a.settlement a.days.now a.kinds.now a.amounts.now a.units (calls_of_lem a.put_starts.now a.put_ends.now a.put_strikes.now) a.yearly a.maximum a.alpha a.times.now a.sigmas.now a.pillars.now a.factors.now) (calls_of_lem a.starts.now a.ends.now a.strikes.now) a.w a.spreads.now (room_of (lent_of a.nodes.now a.probabilities.now a.first.now a.second.now)) c.tree_checks-check.ensures c.in-Passed.is c.checked_row.ensures
+    row-checked (terms_of a.settlement a.days.now a.kinds.now a.amounts.now a.units (calls_of_lem a.put_starts.now a.put_ends.now a.put_strikes.now) a.yearly a.maximum a.alpha a.times.now a.sigmas.now a.pillars.now a.factors.now) (calls_of_lem a.starts.now a.ends.now a.strikes.now) a.w a.spreads.now (room_of (lent_of a.nodes.now a.probabilities.now a.first.now a.second.now)) c.tree_checks-check.ensures c.in-Ok.is c.checked_row.ensures

@@ -6,15 +6,15 @@ use Rattle.spreadtable.proofs.fits.checked_row.Goals as goal
 pub event_grid-answer-requires : goal.event_grid-answer-requires
 event_grid-answer-requires c = let p = c.requires in record { le_maximum = p.le_maximum; days_len_bound = p.days_len_bound; ends_len = p.ends_len; put_ends_len = p.put_ends_len }
 
-pub returns-in-Refused : goal.returns-in-Refused
-returns-in-Refused c = grid-stopped _ _ _ c.args.w c.args.spreads.now c.event_grid-answer.ensures c.in-Refused.is c.stopped_row.ensures
+pub returns-in-Err : goal.returns-in-Err
+returns-in-Err c = grid-stopped _ _ _ c.args.w c.args.spreads.now c.event_grid-answer.ensures c.in-Err.is c.stopped_row.ensures
 
 pub row_on-requires : goal.row_on-requires
 row_on-requires c =
     let p = c.requires in
-    record { spreads_bound = p.spreads_bound; steps_nonzero = steps_of-grid _ _ _ _ c.event_grid-answer.ensures c.in_default.is p.le_maximum.0 p.le_maximum.1 }
+    record { spreads_bound = p.spreads_bound; steps_nonzero = steps_of-grid _ _ _ _ c.event_grid-answer.ensures c.in-Ok.is p.le_maximum.0 p.le_maximum.1 }
 
-pub returns : goal.returns
-returns c =
+pub returns-in-Ok : goal.returns-in-Ok
+returns-in-Ok c =
     let start = c in
-    grid-walked _ _ _ start.args.w start.args.spreads.now c.event_grid-answer.ensures start.requires.curve_times_value c.in_default.is c.row_on.ensures
+    grid-walked _ _ _ start.args.w start.args.spreads.now c.event_grid-answer.ensures start.requires.curve_times_value c.in-Ok.is c.row_on.ensures

@@ -9,13 +9,13 @@ use Rattle.spreadtable.proofs.fits.row_over.Goals as goal
 pub stopped_row-requires : goal.stopped_row-requires
 stopped_row-requires c = c.requires.spreads_bound
 
-pub returns-in_default : goal.returns-in_default
-returns-in_default c = row-stopped c.fitted_tree-f.ensures c.args.w c.args.spreads.now _ _ c.in_default.is c.refusal.ensures c.stopped_row.ensures
+pub returns-in-Err : goal.returns-in-Err
+returns-in-Err c = row-stopped c.fitted_tree-fitted.ensures c.args.w c.args.spreads.now _ _ c.in-Err.is c.stopped_row.ensures
 
 pub walked_row-requires : goal.walked_row-requires
 walked_row-requires c =
-    let s = standing c.fitted_tree-f.ensures c.in-Fitted.is in
-    let kept = c.fitted_tree-f.auto in
+    let s = standing c.fitted_tree-fitted.ensures c.in-Ok.is in
+    let kept = c.fitted_tree-fitted.auto in
     let d = kept.spacings in
     let e = kept.shifts in
     let p = c.requires in
@@ -27,5 +27,5 @@ walked_row-requires c =
       marks_len = (omega arith, omega arith);
     }
 
-pub returns : goal.returns
-returns c = row_walked c.fitted_tree-f.ensures c.args.w c.args.spreads.now _ _ c.in-Fitted.is c.walked_row.ensures
+pub returns-in-Ok : goal.returns-in-Ok
+returns-in-Ok c = row_walked c.fitted_tree-fitted.ensures c.args.w c.args.spreads.now _ _ c.in-Ok.is c.walked_row.ensures

@@ -2,6 +2,8 @@
 use mathlib.Core.Path.{sym}
 use native.Mathlib.Omega.{arith}
 use lib.Seq.{length-take-le}
+use Rattle.std.proofs.Common.{ap, ◌∙◌}
+use Rattle.spreadtable.specs.Cells.{hash_cell}
 use Rattle.spreadtable.specs.laws.Refusing.{terms_of, calls_of_lem}
 use Rattle.spreadtable.proofs.laws.Refusing.{row-outside, row-unread, row-shifted}
 use Rattle.treebasedbondpricer.specs.Tree.{room_of}
@@ -11,7 +13,7 @@ use Rattle.spreadtable.proofs.shifts.shifted_row.Goals as goal
 pub returns-then-any_outside : goal.returns-then-any_outside
 returns-then-any_outside c =
     let a = c.args in
-    row-outside (terms_of a.settlement a.days.now a.kinds.now a.amounts.now a.units (calls_of_lem a.put_starts.now a.put_ends.now a.put_strikes.now) a.yearly a.maximum a.alpha a.times.now a.sigmas.now a.pillars.now a.factors.now) (calls_of_lem a.starts.now a.ends.now a.strikes.now) (room_of (lent_of a.nodes.now a.probabilities.now a.first.now a.second.now)) a.shift a.w a.spreads.now c.any_outside.ensures c.if-any_outside.true c.hash_cell-cell.ensures c.same_row.ensures
+    row-outside (terms_of a.settlement a.days.now a.kinds.now a.amounts.now a.units (calls_of_lem a.put_starts.now a.put_ends.now a.put_strikes.now) a.yearly a.maximum a.alpha a.times.now a.sigmas.now a.pillars.now a.factors.now) (calls_of_lem a.starts.now a.ends.now a.strikes.now) (room_of (lent_of a.nodes.now a.probabilities.now a.first.now a.second.now)) a.shift a.w a.spreads.now c.any_outside.ensures c.if-any_outside.true (c.hash_cell-cell.ensures ∙ ap hash_cell c.number.ensures) c.same_row.ensures
 
 pub returns-then-sigmas-gt-MOST : goal.returns-then-sigmas-gt-MOST
 returns-then-sigmas-gt-MOST c =

@@ -6,6 +6,3 @@ use Rattle.terms.proofs.curve.curve_at.Given as goal
 
 abbrev pub invariant-loop-i : goal.invariant-loop-i
 invariant-loop-i l = Curving l.t l.place l.times l.factors l.i
-
-abbrev pub decreases-loop-i : goal.decreases-loop-i
-decreases-loop-i l = length l.times - l.i

@@ -7,6 +7,3 @@ use Rattle.terms.proofs.curve.pillar_times.Given as goal
 
 abbrev pub invariant-loop-i : goal.invariant-loop-i
 invariant-loop-i l = Timed (time_from l.epoch) l.days 256 l.times l.i
-
-abbrev pub decreases-loop-i : goal.decreases-loop-i
-decreases-loop-i l = length l.days - l.i

@@ -3,9 +3,6 @@ use lib.Ieee.{of_int, of_bits}
 use Rattle.terms.proofs.Laws.{tests}
 use Rattle.terms.proofs.fields.alpha_range.Goals as goal
 
-pub within-requires : goal.within-requires
-within-requires c = search tests
-
 pub returns : goal.returns
 unfolding of_int of_bits
 returns c = c.within.ensures

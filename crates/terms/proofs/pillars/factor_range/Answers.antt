@@ -1,10 +1,6 @@
 -- `factor_range` meets its contract: the limit in the code is the definition's. Assumes nothing.
 use lib.Ieee.{of_int, of_bits}
-use Rattle.terms.proofs.Laws.{tests}
 use Rattle.terms.proofs.pillars.factor_range.Goals as goal
-
-pub all_within-requires : goal.all_within-requires
-all_within-requires c = search tests
 
 pub returns : goal.returns
 unfolding of_int of_bits

@@ -8,6 +8,6 @@ pub returns-then-code-eq0 : goal.returns-then-code-eq0
 unfolding of_int of_bits
 returns-then-code-eq0 c = rw c.if-code-eq0.true refl
 
-pub returns : goal.returns
+pub returns-else-code-eq0 : goal.returns-else-code-eq0
 unfolding of_int of_bits
-returns c = rw (ne_eqb _ _ c.if-code-eq0.false) refl
+returns-else-code-eq0 c = rw (ne_eqb _ _ c.if-code-eq0.false) refl

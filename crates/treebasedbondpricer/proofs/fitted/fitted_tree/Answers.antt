@@ -1,30 +1,23 @@
 -- `fitted_tree` meets its contract: time_step, then the tree (`FittedIn`). Assumes nothing.
-use mathlib.Core.Path.{sym, ◌∙◌}
-use native.Mathlib.Omega.{arith}
-use lib.Seq.{length-take-le}
-use Rattle.treebasedbondpricer.specs.laws.FittedIn.{refuses, fits_as}
+use Rattle.std.specs.Prelude.{Float, length}
+use Rattle.std.proofs.Common.{refl, rules, sym, ◌∙◌}
+use Rattle.floats.specs.Answers.{Outcome}
+use Rattle.floats.specs.laws.Propagation.{passed_on, stopped}
+use Rattle.terms.specs.Curve.{curve_over}
+use Rattle.hullwhite.specs.laws.Filled.{model_of}
+use Rattle.lattice.specs.laws.Growing.{room_left}
+use Rattle.treebasedbondpricer.specs.Tree.{Fitted}
+use Rattle.treebasedbondpricer.specs.laws.FittedIn.{fitted_over, refused_as, fits_as}
 use Rattle.treebasedbondpricer.proofs.fitted.fitted_tree.Goals as goal
 
-pub int_to_float-dt : goal.int_to_float-dt
-int_to_float-dt c = tt
-
-pub not_finite-requires : goal.not_finite-requires
-not_finite-requires c = tt
-
-pub overflow_refusal-requires : goal.overflow_refusal-requires
-overflow_refusal-requires c = tt
-
-pub returns-then-not_finite : goal.returns-then-not_finite
-returns-then-not_finite c = rw c.overflow_refusal.ensures (refuses {q = record { number = 27; place = 0 }} (rw (sym c.not_finite.ensures ∙ c.if-not_finite.true)))
-
-pub slice_bounds-variances-end : goal.slice_bounds-variances-end
-slice_bounds-variances-end c = omega (arith, c.requires)
-
-pub slice_bounds-fitted_over-end : goal.slice_bounds-fitted_over-end
-slice_bounds-fitted_over-end c = sym (length-take-le _ _ (omega arith))
-
-pub fitted_over-requires : goal.fitted_over-requires
-fitted_over-requires c = record { steps_nonzero = (c.requires.steps_nonzero.0, c.requires.steps_nonzero.1, length-take-le _ _ (omega (arith, c.requires.steps_nonzero.1))); counts_len = c.requires.counts_len }
+pub returns-in_err-dt : goal.returns-in_err-dt
+returns-in_err-dt c =
+    let a = c.args in
+    let over : Float → Outcome Fitted = fitted_over (curve_over a.curve_times.now a.factors.now) (model_of a.alpha a.times.now a.sigmas.now) (room_left a.nodes.now a.probabilities.now (length a.first.now) (length a.second.now)) a.steps in
+    refused_as (search rules) (sym (stopped over _ _ (sym c.tested.ensures ∙ c.in_err-dt.was) refl))
 
 pub returns : goal.returns
-returns c = fits_as (rw (sym c.not_finite.ensures ∙ c.if-not_finite.false)) c.fitted_over.ensures
+returns c =
+    let a = c.args in
+    let over : Float → Outcome Fitted = fitted_over (curve_over a.curve_times.now a.factors.now) (model_of a.alpha a.times.now a.sigmas.now) (room_left a.nodes.now a.probabilities.now (length a.first.now) (length a.second.now)) a.steps in
+    fits_as (sym (passed_on over _ _ (sym c.tested.ensures ∙ c.in_ok-dt.was) (λ f. refl))) c.fitted_over.ensures

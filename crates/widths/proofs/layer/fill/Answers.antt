@@ -1,4 +1,5 @@
 -- `fill` meets its contract: the invariant is that the first i middles are there and the rest gives the whole. Assumes nothing.
+use Rattle.std.specs.Prelude.{◌≡◌, Err}
 use native.Mathlib.Omega.{arith}
 use borrow.Author.Rules.{rules}
 use mir.Syntax.{w32}
@@ -17,23 +18,18 @@ offset_bounds-nodes-i c = let r = c.loop-i.invariant.room in let k = c.loop-i.in
 pub slice_copy_out-node : goal.slice_copy_out-node
 slice_copy_out-node c = let r = c.loop-i.invariant.room in let k = c.loop-i.invariant.kept in search rules
 
-pub middle_of-made-requires : goal.middle_of-made-requires
-middle_of-made-requires c = tt
+pub shape_of-nodes-in_err-nodes : goal.shape_of-nodes-in_err-nodes
+shape_of-nodes-in_err-nodes c = c.loop-i.invariant.kept
 
-pub unmade-requires : goal.unmade-requires
-unmade-requires c = tt
-
-pub shape_of-nodes-in_default : goal.shape_of-nodes-in_default
-shape_of-nodes-in_default c = c.loop-i.invariant.kept
-
-pub returns-in_default : goal.returns-in_default
-returns-in_default c =
+pub returns-in_err-nodes : goal.returns-in_err-nodes
+returns-in_err-nodes c =
     let a = c.args in
     let l = c.loop-i in
-    in_place_stopped a.spacing a.decay a.new_spacing a.place a.count a.nodes.now l.nodes l.i l.invariant c.middle_of-made.result c.loop-i-test.true
-    (rw (to_z-of_z {w = w32} (record { sfits = c.node-1.given })) at c.middle_of-made.ensures)
-    c.in_default.is
-    c.unmade.ensures
+    let x : c.from_residual.result ≡ Err c.in_err-nodes.field-0.0 = search rules in
+    rw x
+    (in_place_stopped a.spacing a.decay a.new_spacing a.place a.count a.nodes.now l.nodes l.i l.invariant c.middle_of.result c.loop-i-test.true
+    (rw (to_z-of_z {w = w32} (record { sfits = c.node-1.given })) at c.middle_of.ensures)
+    c.in_err-nodes.was)
 
 pub offset_bounds-nodes-i-in-loop-i : goal.offset_bounds-nodes-i-in-loop-i
 offset_bounds-nodes-i-in-loop-i c = let r = c.loop-i.invariant.room in let k = c.loop-i.invariant.kept in search rules
@@ -45,12 +41,12 @@ pub loop-i-preserved : goal.loop-i-preserved
 loop-i-preserved c =
     let a = c.args in
     let l = c.loop-i in
-    let e = rw (to_z-of_z {w = w32} (record { sfits = c.node-1.given })) at c.middle_of-made.ensures in
-    let m = c.middle_of-made.result in
-    let z = c.in-Made.m in
-    let w = in_place_held a.spacing a.decay a.new_spacing a.place a.count a.nodes.now l.nodes l.i l.invariant m z e c.in-Made.is in
+    let e = rw (to_z-of_z {w = w32} (record { sfits = c.node-1.given })) at c.middle_of.ensures in
+    let m = c.middle_of.result in
+    let z = c.in_ok-nodes.field-0 in
+    let w = in_place_held a.spacing a.decay a.new_spacing a.place a.count a.nodes.now l.nodes l.i l.invariant m z e c.in_ok-nodes.was in
     rw (back-numbered (within-numbered w))
-    (in_place_one a.spacing a.decay a.new_spacing a.place a.count a.nodes.now l.nodes l.i l.invariant m z c.loop-i-test.true e c.in-Made.is)
+    (in_place_one a.spacing a.decay a.new_spacing a.place a.count a.nodes.now l.nodes l.i l.invariant m z c.loop-i-test.true e c.in_ok-nodes.was)
 
 pub shape_of-nodes : goal.shape_of-nodes
 shape_of-nodes c = c.loop-i.invariant.kept

@@ -1,4 +1,6 @@
 -- `layers` meets its contract: the invariant is that the layers from the i-th on, with the sums so far, give the whole. Assumes nothing.
+use Rattle.std.specs.Prelude.{◌≡◌, Err}
+use Rattle.std.proofs.Common.{rules}
 use native.Mathlib.Omega.{arith}
 use mathlib.Core.Path.{◌∙◌}
 use Rattle.widths.specs.laws.Summing.{summing_begun}
@@ -11,27 +13,22 @@ loop-i-init c = let a = c.args in let p = c.requires in summing_begun a.decay a.
 pub overflow_add-total : goal.overflow_add-total
 overflow_add-total c = let s = c.loop-i.invariant in let b = s.bound in let f = s.few in let w = s.within in record { fits = omega (arith, c.requires.2) }
 
-pub greatest-widest-requires : goal.greatest-widest-requires
-greatest-widest-requires c = tt
-
 pub overflow_cast-i : goal.overflow_cast-i
 overflow_cast-i c = let t = c.loop-i-test.true in record { fits = omega (arith, c.requires.2) }
 
-pub widen-next-requires : goal.widen-next-requires
-widen-next-requires c = let t = c.loop-i-test.true in (c.loop-i.invariant.fore, omega (arith, c.requires.2))
+pub widen-requires : goal.widen-requires
+widen-requires c = let t = c.loop-i-test.true in (c.loop-i.invariant.fore, omega (arith, c.requires.2))
 
-pub refusal-requires : goal.refusal-requires
-refusal-requires c = tt
+pub shape_of-nodes-in_err-next : goal.shape_of-nodes-in_err-next
+shape_of-nodes-in_err-next c = c.widen.ensures.kept ∙ c.loop-i.invariant.kept
 
-pub shape_of-nodes-in_default : goal.shape_of-nodes-in_default
-shape_of-nodes-in_default c = c.widen-next.ensures.kept ∙ c.loop-i.invariant.kept
-
-pub returns-in_default : goal.returns-in_default
-returns-in_default c =
+pub returns-in_err-next : goal.returns-in_err-next
+returns-in_err-next c =
     let a = c.args in
     let l = c.loop-i in
-    rw (c.refusal.ensures, c.in_default.is)
-    (summing_stopped a.decay a.first a.variances.now a.nodes.now l.nodes l.spacing l.count l.total l.widest l.i l.invariant c.loop-i-test.true (rw c.in_default.is at c.widen-next.ensures))
+    let x : c.from_residual.result ≡ Err c.in_err-next.field-0.0 = search rules in
+    rw x
+    (summing_stopped a.decay a.first a.variances.now a.nodes.now l.nodes l.spacing l.count l.total l.widest l.i l.invariant c.loop-i-test.true (rw c.in_err-next.was at c.widen.ensures))
 
 pub loop-i-smaller : goal.loop-i-smaller
 loop-i-smaller c = let t = c.loop-i-test.true in omega arith
@@ -41,13 +38,10 @@ loop-i-preserved c =
     let a = c.args in
     let l = c.loop-i in
     rw c.greatest-widest.ensures
-    (summing_one a.decay a.first a.variances.now a.nodes.now l.nodes l.spacing l.count l.total l.widest l.i l.invariant c.loop-i-test.true (rw c.in-Laid.is at c.widen-next.ensures))
+    (summing_one a.decay a.first a.variances.now a.nodes.now l.nodes l.spacing l.count l.total l.widest l.i l.invariant c.loop-i-test.true (rw c.in_ok-next.was at c.widen.ensures))
 
 pub overflow_add-result : goal.overflow_add-result
 overflow_add-result c = let s = c.loop-i.invariant in let b = s.bound in let f = s.few in let w = s.within in record { fits = omega (arith, c.requires.2) }
-
-pub greatest-requires : goal.greatest-requires
-greatest-requires c = tt
 
 pub shape_of-nodes : goal.shape_of-nodes
 shape_of-nodes c = c.loop-i.invariant.kept

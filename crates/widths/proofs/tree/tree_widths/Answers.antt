@@ -3,9 +3,6 @@ use mathlib.Core.Path.{sym, ◌∙◌}
 use Rattle.widths.specs.Widths.{widths}
 use Rattle.widths.proofs.tree.tree_widths.Goals as goal
 
-pub all_flat-requires : goal.all_flat-requires
-all_flat-requires c = tt
-
 pub returns-then-all_flat : goal.returns-then-all_flat
 unfolding widths
 returns-then-all_flat c = rw (sym c.all_flat.ensures ∙ c.if-all_flat.true) c.flat_widths.ensures

@@ -1,6 +1,0 @@
--- `figures::decimals_left` meets its contract. Assumes nothing.
-
-use Rattle.bondreport.proofs.figures.decimals_left.Goals as goal
-
-pub returns : goal.returns
-returns c = cc

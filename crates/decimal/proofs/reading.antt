@@ -1,0 +1,2 @@
+-- What the proofs of the reading functions use.
+mod Steps

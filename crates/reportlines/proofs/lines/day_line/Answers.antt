@@ -1,6 +1,0 @@
--- `lines::day_line` meets its contract. Assumes nothing.
-
-use Rattle.reportlines.proofs.lines.day_line.Goals as goal
-
-pub returns : goal.returns
-returns c = cc

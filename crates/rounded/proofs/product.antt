@@ -1,2 +1,0 @@
--- What the proof of `product` uses: laws on plain numbers.
-mod Columns
