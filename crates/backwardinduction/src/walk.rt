@@ -8,13 +8,14 @@ ghost use Rattle.elementary.specs.laws.Rows.{Filled};
 ghost use Rattle.backwardinduction.specs.laws.Discounts.{exponent_of, exponents_from, Discounts, Ahead};
 ghost use Rattle.backwardinduction.specs.laws.WalkSteps.{sum_of, discount_with, worth_of, value_with, rolled_at};
 
-use bondevents::{CallStep, Exercise};
+use bondevents::CallStep;
 use elementary::exp::exp_at;
 use elementary::exps::exp_row;
 use floats::Refusal;
 use floats::finite::tested;
 use floats::max::greater;
 use floats::min::lesser;
+use forwardinduction::exps::arguments;
 use forwardinduction::fit::spot;
 use lattice::reach::{nothing_below, reached};
 
@@ -25,6 +26,16 @@ pub struct Rates {
     pub dt: f64,
     pub shift: f64,
     pub spread: f64,
+}
+
+// What a step of the walk reads beside the next row, the same at all nodes: the short rate's parts, the step's call and put, and its cashflow; whether the tree is flat, and the place of a refusal.
+#[derive(Clone, Copy)]
+pub struct Reads {
+    pub rates: Rates,
+    pub call: CallStep,
+    pub cashflow: f64,
+    pub flat: bool,
+    pub place: u32,
 }
 
 // From 0, down, middle, up: each value × its probability.
@@ -55,12 +66,8 @@ fn exponents(rates: Rates, nodes: &[i32], from: usize, xs: &mut [f64])
     requires { (from + length xs.old) * 2 ≤ length nodes.now }
     ensures { Filled (exponents_from rates nodes.now from) xs.old xs.new (length xs.old) }
 {
-    let mut i = 0;
-    while i < xs.len() {
-        let node = nodes[(from + i) * 2];
-        xs[i] = exponent(rates, node as f64);
-        i += 1;
-    }
+    let n = xs.len();
+    arguments(nodes, from, n, |node| exponent(rates, node), xs);
 }
 
 // The discount factors of the nodes from `from` on, at most 64, side by side. Where it says false, nothing is said of es.
@@ -91,7 +98,8 @@ fn refill(known: bool, rates: Rates, nodes: &[i32], count: usize, i: usize, es: 
     discounts(rates, nodes, i, es)
 }
 
-// exp(short rate × −time_step), or the factor where it is known.
+// exp(short rate × −time_step), or the factor where it is known. The flag is a part's: an Option for each node would be made of it
+// and at once taken apart.
 #[tactic(auto, using(crate::specs::laws::Discounts::discount_is), unfolding(floats::specs::Answers::on_outcome))]
 fn discount(rates: Rates, node: f64, place: u32, known: bool, factor: f64) -> Result<f64, Refusal>
     requires { known ≡ true → discount_with rates node place ≡ Ok factor }
@@ -105,13 +113,13 @@ fn discount(rates: Rates, node: f64, place: u32, known: bool, factor: f64) -> Re
 
 // The lower of continuation and call price.
 #[tactic(auto, unfolding(floats::specs::Answers::on_outcome, floats::specs::Extremes::min_of))]
-fn lower(call: Exercise, continuation: f64) -> f64
+fn lower(call: Option<f64>, continuation: f64) -> f64
     ensures { result ≡ Walk.called call continuation }
 {
-    if call.marked {
-        return lesser(continuation, call.price);
+    match call {
+        Some(price) => lesser(continuation, price),
+        None => continuation,
     }
-    continuation
 }
 
 // The lower of continuation and call price, then the higher of that and the put price.
@@ -119,38 +127,28 @@ fn lower(call: Exercise, continuation: f64) -> f64
 fn exercised(step: CallStep, continuation: f64) -> f64
     ensures { result ≡ Walk.exercised step continuation }
 {
-    let put = step.put;
     let held = lower(step.call, continuation);
-    if put.marked {
-        return greater(held, put.price);
+    match step.put {
+        Some(price) => greater(held, price),
+        None => held,
     }
-    held
 }
 
 // Continuation, what is exercised, then the cashflow.
 #[tactic(auto, unfolding(floats::specs::Answers::on_outcome, crate::specs::laws::WalkSteps::worth_of))]
-fn worth(
-    call: CallStep,
-    cashflow: f64,
-    place: u32,
-    expected: f64,
-    factor: f64,
-) -> Result<f64, Refusal>
-    ensures { result ≡ worth_of call cashflow place expected factor }
+fn worth(reads: Reads, expected: f64, factor: f64) -> Result<f64, Refusal>
+    ensures { result ≡ worth_of reads.call reads.cashflow reads.place expected factor }
 {
-    let continuation = tested(expected * factor, place)?;
-    let held = exercised(call, continuation);
-    tested(held + cashflow, place)
+    let continuation = tested(expected * factor, reads.place)?;
+    let held = exercised(reads.call, continuation);
+    tested(held + reads.cashflow, reads.place)
 }
 
-// A node's value from the next row, whose nodes reached are counted with this node's.
+// A node's value from the next row, whose nodes reached are counted with this node's. Nine parameters: those behind `count` are
+// one node's, taken from the slices as they are read, and nobody else has them together.
 #[tactic(auto, unfolding(floats::specs::Answers::on_outcome, crate::specs::laws::WalkSteps::value_with))]
 fn node_value(
-    rates: Rates,
-    call: CallStep,
-    cashflow: f64,
-    place: u32,
-    flat: bool,
+    reads: Reads,
     count: usize,
     node: f64,
     down: f64,
@@ -160,15 +158,23 @@ fn node_value(
     factor: f64,
     next: &[f64],
 ) -> Result<f64, Refusal>
-    requires { (3 ≤ count) × (spot_at flat count 1 < length next.now) × (known ≡ true → discount_with rates node place ≡ Ok factor) }
-    ensures { result ≡ value_with rates call cashflow place flat count node down middle up next.now }
+    requires { (3 ≤ count) × (spot_at reads.flat count 1 < length next.now) × (known ≡ true → discount_with reads.rates node reads.place ≡ Ok factor) }
+    ensures { result ≡ value_with reads.rates reads.call reads.cashflow reads.place reads.flat count node down middle up next.now }
 {
-    let low = spot(flat, count, 3);
-    let mid = spot(flat, count, 2);
-    let high = spot(flat, count, 1);
-    let expected = summed(next[low], down, next[mid], middle, next[high], up, place)?;
-    let factor = discount(rates, node, place, known, factor)?;
-    worth(call, cashflow, place, expected, factor)
+    let low = spot(reads.flat, count, 3);
+    let mid = spot(reads.flat, count, 2);
+    let high = spot(reads.flat, count, 1);
+    let expected = summed(
+        next[low],
+        down,
+        next[mid],
+        middle,
+        next[high],
+        up,
+        reads.place,
+    )?;
+    let factor = discount(reads.rates, node, reads.place, known, factor)?;
+    worth(reads, expected, factor)
 }
 
 // A layer's values from the next row, nodes rising.
@@ -177,31 +183,22 @@ pub fn roll(
     probabilities: &[f64],
     next: &[f64],
     row: &mut [f64],
-    flat: bool,
-    rates: Rates,
-    call: CallStep,
-    cashflow: f64,
-    place: u32,
+    reads: Reads,
 ) -> Result<(), Refusal>
-    requires { Layered flat (length next.now) nodes.now probabilities.now (length row.old) }
-    ensures { outcome_of result row.new ≡ rolled_at rates call cashflow place flat next.now (start_of nodes.now) 0 nodes.now probabilities.now row.old }
+    requires { Layered reads.flat (length next.now) nodes.now probabilities.now (length row.old) }
+    ensures { outcome_of result row.new ≡ rolled_at reads.rates reads.call reads.cashflow reads.place reads.flat next.now (start_of nodes.now) 0 nodes.now probabilities.now row.old }
 {
     let mut r = nothing_below(nodes[1]);
     let mut es = [0.0; 64];
     let mut known = false;
-    let mut i = 0;
-    while i < row.len() {
-        known = refill(known, rates, nodes, row.len(), i, &mut es);
+    for i in 0..row.len() {
+        known = refill(known, reads.rates, nodes, row.len(), i, &mut es);
         let node = nodes[i * 2];
         let middle = nodes[i * 2 + 1];
         let after = reached(r, middle);
         let count = after.count;
         row[i] = node_value(
-            rates,
-            call,
-            cashflow,
-            place,
-            flat,
+            reads,
             count,
             node as f64,
             probabilities[i * 3],
@@ -212,7 +209,6 @@ pub fn roll(
             next,
         )?;
         r = after;
-        i += 1;
     }
     Ok(())
 }

@@ -2,7 +2,6 @@
 use Rattle.std.specs.Prelude.{Ok, Err}
 use Prim.Native.Nat.{ℕ}
 use mathlib.Core.Path.{◌≡◌, sym, ap, ◌∙◌}
-use mathlib.Core.List.{List, []}
 use lib.Ieee.{Float}
 use lib.ListN.{length}
 use Rattle.floats.specs.declared.Refusal.{Refusal}
@@ -15,19 +14,14 @@ use Rattle.terms.specs.Times.{epoch_of}
 use Rattle.terms.specs.Checks.{on_check}
 use Rattle.terms.specs.Entries.{yield_checks, price_checks, target_checks}
 use Rattle.terms.specs.laws.TermChecks.{leg-counted}
-use Rattle.terms.specs.laws.EntryChecks.{yield-terms}
+use Rattle.terms.specs.laws.YieldChecks.{yield-terms}
 use Rattle.interestrate.specs.declared.RateDefinition.{RateDefinition}
 use Rattle.interestrate.specs.declared.YieldPrice.{YieldPrice}
 use Rattle.brackets.specs.declared.Root.{Root}
-use Rattle.interestrate.specs.Rates.{rate_of, rate_check, lowest_yield}
+use Rattle.interestrate.specs.Rates.{rate_of, rate_check}
 use Rattle.interestrate.specs.Prices.{flows, price_and_derivative}
 use Rattle.bondanalytics.specs.Yields.{price_from_yield, solve_yield, yield_from_price}
-use Rattle.sought.specs.Objectives.{objective, first_lower, first_upper}
-use Rattle.brackets.specs.Brackets.{Searched, no_root, bracketed_root}
-use Rattle.sought.specs.declared.Priced.TheVariants.{Yield}
-use Rattle.sought.specs.declared.Sought.{Sought}
-use Rattle.sought.specs.laws.Sought.{TreeParts, sought_at}
-use Rattle.brackets.specs.laws.SoughtRoots.{sought-yield}
+use Rattle.brackets.specs.Brackets.{Searched, no_root}
 use Rattle.interestrate.specs.laws.Found.{found_check, found_check_lem}
 
 module _ (limit x : Float) (settlement : Settlement) (leg : Leg) (compounding code : ℕ) (f : Outcome RateDefinition) {w s : Check} (e : f ≡ rate_of compounding code) (k : w ≡ found_check f) (h : s ≡ yield_checks limit settlement leg x w) where
@@ -83,18 +77,6 @@ module _ (settlement : Settlement) (leg : Leg) (compounding code : ℕ) (x : Flo
     unfolding yield_from_price
     yield-unknown v g p = p ∙ unknown target_limit x settlement leg compounding code f e k h (λ r. no_root r 0) (λ rate. solve_yield (epoch_of settlement) leg rate x) v g
 
-    -- The kinds play no part.
-    pub yield-given : {d : RateDefinition} {r : Searched Root} {t : Epoch} → t ≡ epoch_of settlement → s ≡ Ok tt → f ≡ Ok d → r ≡ solve_yield t (record { days = leg.days; kinds = []; amounts = leg.amounts }) d x → r ≡ yield_from_price settlement leg compounding code x
-    unfolding yield_from_price objective
-    yield-given {d = d} t v g p = p ∙ ap (λ (z : Epoch). solve_yield z (record { days = leg.days; kinds = []; amounts = leg.amounts }) d x) t ∙ given target_limit x settlement leg compounding code f e k h (λ r. no_root r 0) (λ rate. solve_yield (epoch_of settlement) leg rate x) v g
-
--- The solver's call, with the lowest yield that it is given. The tree plays no part.
-pub solves : (s : Sought) (days : List ℕ) (amounts : List Float) (t : TreeParts) {l : Float} {r : Searched Root}
-    → s.priced ≡ Yield
-    → r ≡ bracketed_root (sought_at s days amounts t) first_lower first_upper l
-    → l ≡ lowest_yield s.rate.compounding
-    → r ≡ solve_yield s.settlement (record { days = days; kinds = []; amounts = amounts }) s.rate s.target
-solves s days amounts t {l} e p m =
-    p
-    ∙ sought-yield s (record { days = days; kinds = []; amounts = amounts }) t first_lower first_upper l e
-    ∙ ap (bracketed_root (objective s.settlement (record { days = days; kinds = []; amounts = amounts }) s.rate s.target) first_lower first_upper) m
+    pub yield-given : {d : RateDefinition} {r : Searched Root} {t : Epoch} → t ≡ epoch_of settlement → s ≡ Ok tt → f ≡ Ok d → r ≡ solve_yield t leg d x → r ≡ yield_from_price settlement leg compounding code x
+    unfolding yield_from_price
+    yield-given {d = d} t v g p = p ∙ ap (λ (z : Epoch). solve_yield z leg d x) t ∙ given target_limit x settlement leg compounding code f e k h (λ r. no_root r 0) (λ rate. solve_yield (epoch_of settlement) leg rate x) v g

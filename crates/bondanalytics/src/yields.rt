@@ -1,7 +1,6 @@
 // The entries: price from yield, and yield from price.
-ghost use Rattle.std.specs.Prelude.{◌≡◌, [], length};
-ghost use Rattle.terms.specs.Terms.{Leg};
-ghost use Rattle.terms.specs.Slices.{leg_in};
+ghost use Rattle.std.specs.Prelude.{◌≡◌, length};
+ghost use Rattle.terms.specs.Market.{leg_in};
 ghost use Rattle.bondanalytics.specs.Yields.{price_from_yield, yield_from_price, solve_yield};
 
 use bracketedroot::solver::bracketed_root;
@@ -13,97 +12,66 @@ use interestrate::prices::yield_price_and_derivative;
 use interestrate::rates::{lowest_yield, rate_check, rate_of};
 use interestrate::{RateDefinition, YieldPrice};
 use sought::{Priced, Sought};
+use terms::market::Leg;
 use terms::time::epoch_of;
 use terms::{Epoch, Settlement};
 
 // The price of the cashflows at a yield, and its derivative.
 pub fn price_from_yield(
     settlement: Settlement,
-    cashflow_days: &[u32],
-    cashflow_kinds: &[u8],
-    cashflow_amounts: &[f64],
+    leg: Leg<'_>,
     compounding: u32,
     frequency: u32,
     y: f64,
 ) -> Result<YieldPrice, Refusal>
-    ensures { result ≡ price_from_yield settlement (leg_in cashflow_days cashflow_kinds cashflow_amounts) compounding frequency y }
+    ensures { result ≡ price_from_yield settlement (leg_in leg) compounding frequency y }
 {
     let found = rate_of(compounding, frequency);
-    price_checks(
-        settlement,
-        cashflow_days,
-        cashflow_kinds,
-        cashflow_amounts,
-        y,
-        rate_check(found),
-    )?;
+    price_checks(settlement, leg, y, rate_check(found))?;
     let rate = found?;
     let epoch = epoch_of(settlement);
-    yield_price_and_derivative(epoch, cashflow_days, cashflow_amounts, rate, y)
+    yield_price_and_derivative(epoch, leg, rate, y)
 }
 
 // The yield at which the cashflows are worth the target.
 fn solve_yield(
     settlement: Epoch,
-    days: &[u32],
-    amounts: &[f64],
+    leg: Leg<'_>,
     rate: RateDefinition,
     target: f64,
 ) -> Result<Root, NoRoot>
-    requires { length amounts.now ≡ length days.now }
-    ensures { result ≡ solve_yield settlement (record { days = days.now; kinds = []; amounts = amounts.now }) rate target }
+    requires { length leg.amounts.now ≡ length leg.days.now }
+    ensures { result ≡ solve_yield settlement (leg_in leg) rate target }
 {
     let sought = Sought {
-        priced: Priced::Yield,
-        rate,
-        settlement,
+        priced: Priced::Cashflows(settlement, leg, rate),
         target,
-        dt: 0.0,
-        flat: false,
     };
+    let lowest = lowest_yield(rate.compounding);
     bracketed_root(
         sought,
-        days,
-        amounts,
-        &[],
-        &[],
-        &[],
-        &[],
-        &[],
-        &[],
-        &[],
-        &[],
         &mut [],
         &mut [],
         Sought::LOWER,
         Sought::UPPER,
-        lowest_yield(rate.compounding),
+        lowest,
     )
 }
 
 // The yield at which the cashflows are worth the target, and the evaluations made.
 pub fn yield_from_price(
     settlement: Settlement,
-    cashflow_days: &[u32],
-    cashflow_kinds: &[u8],
-    cashflow_amounts: &[f64],
+    leg: Leg<'_>,
     compounding: u32,
     frequency: u32,
     target: f64,
 ) -> Result<Root, NoRoot>
-    ensures { result ≡ yield_from_price settlement (leg_in cashflow_days cashflow_kinds cashflow_amounts) compounding frequency target }
+    ensures { result ≡ yield_from_price settlement (leg_in leg) compounding frequency target }
 {
     let found = rate_of(compounding, frequency);
-    let checked = target_checks(
-        settlement,
-        cashflow_days,
-        cashflow_kinds,
-        cashflow_amounts,
-        target,
-        rate_check(found),
-    );
+    let checked = target_checks(settlement, leg, target, rate_check(found));
     counted(checked, 0)?;
     let rate = counted(found, 0)?;
     let epoch = epoch_of(settlement);
-    solve_yield(epoch, cashflow_days, cashflow_amounts, rate, target)
+    solve_yield(epoch, leg, rate, target)
 }

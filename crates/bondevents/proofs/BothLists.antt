@@ -12,7 +12,7 @@ use Rattle.terms.specs.Terms.{Bond, CallSchedule, no_entries, bond_with_puts}
 use Rattle.terms.specs.Checks.{on_check, lowest}
 use Rattle.bondevents.specs.declared.Side.{Side}
 use Rattle.bondevents.specs.declared.Side.TheVariants.{Call, Put}
-use Rattle.bondevents.specs.declared.Exercise.{Exercise}
+use Rattle.bondevents.specs.Exercises.{Exercise}
 use Rattle.bondevents.specs.declared.CallStep.{CallStep}
 use Rattle.bondevents.specs.Steps.{Axis}
 use Rattle.bondevents.specs.Calls.{none, new_step, over_entries, exercises, joined, put_above, puts_below, call_steps}

@@ -13,7 +13,7 @@ use Rattle.floats.specs.declared.Refusal.{Refusal}
 use Rattle.terms.specs.Terms.{Bond}
 use Rattle.floats.specs.Answers.{Outcome, follow, on_outcome}
 use Rattle.bondevents.specs.declared.Side.{Side}
-use Rattle.bondevents.specs.declared.Exercise.{Exercise}
+use Rattle.bondevents.specs.Exercises.{Exercise}
 use Rattle.bondevents.specs.Steps.{Axis}
 use Rattle.bondevents.specs.Calls.{with_entry, over_entries}
 use Rattle.bondevents.specs.Parts.{entry_of}

@@ -16,7 +16,7 @@ use Rattle.terms.specs.Checks.{on_check, last_day}
 use Rattle.terms.specs.Entries.{grid_checks}
 use Rattle.terms.specs.laws.TermChecks.{StepsInRange, settings-passed, LegCounted, leg-counted}
 use Rattle.terms.specs.laws.CallChecks.{CallCounted, call-counted}
-use Rattle.terms.specs.laws.EntryChecks.{grid-terms, grid-calls}
+use Rattle.terms.specs.laws.GridChecks.{grid-terms, grid-calls}
 use Rattle.bondevents.specs.declared.CallStep.{CallStep}
 use Rattle.bondevents.specs.declared.BondEventGrid.{BondEventGrid}
 use Rattle.bondevents.specs.Steps.{Axis, steps_of, paid_into, step_cashflows}

@@ -13,7 +13,7 @@ use lib.Ieee.{Float}
 use Rattle.floats.specs.declared.Refusal.{Refusal}
 use Rattle.floats.specs.Answers.{Answer, on_outcome, Outcome, follow}
 use Rattle.bondevents.specs.declared.Side.{Side}
-use Rattle.bondevents.specs.declared.Exercise.{Exercise}
+use Rattle.bondevents.specs.Exercises.{Exercise}
 use Rattle.bondevents.specs.Calls.{none, keep}
 use Rattle.bondevents.specs.Parts.{over_prices}
 use Rattle.bondevents.proofs.Outcomes.{follow-given, follow-follow, follow_same}

@@ -10,9 +10,10 @@ use Rattle.terms.specs.Numbers.{tolerance}
 use Rattle.terms.specs.declared.Settlement.{Settlement}
 use Rattle.terms.specs.Terms.{Leg, CallSchedule, Bond, TimeGrid, no_entries}
 use Rattle.terms.specs.Entries.{grid_checks}
+use Rattle.bondevents.specs.declared.axis.Axis.{Axis as LentAxis}
 use Rattle.bondevents.specs.declared.Side.{Side}
 use Rattle.bondevents.specs.declared.Side.TheVariants.{Call, Put}
-use Rattle.bondevents.specs.declared.Exercise.{Exercise}
+use Rattle.bondevents.specs.Exercises.{Exercise, marked, price_of}
 use Rattle.bondevents.specs.declared.CallStep.{CallStep}
 use Rattle.bondevents.specs.declared.BondEventGrid.{BondEventGrid}
 use Rattle.bondevents.specs.Steps.{Axis}
@@ -25,13 +26,12 @@ abbrev pub axis_at : Epoch → Float → ℕ → Axis
 axis_at settlement maturity steps =
     record { settlement = settlement.day; time = time_from settlement; maturity = maturity; steps = steps }
 
--- For what doesn't look at settlement.
-abbrev pub no_epoch : Epoch
-no_epoch = record { day = 0; code = 0; count = 0 }
+abbrev pub axis_in : LentAxis → Axis
+axis_in axis = axis_at axis.settlement axis.maturity axis.steps
 
 -- Prices don't read the puts of the bond.
-abbrev pub bond_of : List ℕ → List ℕ → List Float → Float → Bond
-bond_of days kinds amounts units = record { leg = record { days = days; kinds = kinds; amounts = amounts }; units = units; puts = no_entries }
+abbrev pub without_puts : Leg → Float → Bond
+without_puts leg units = record { leg = leg; units = units; puts = no_entries }
 
 abbrev pub entry_of : ℕ → ℕ → Float → Entry
 entry_of start end strike = record { start = start; end = end; strike = strike }
@@ -84,7 +84,7 @@ no_grid = zero_grid
 
 -- A mark is 1 where a price stands.
 abbrev pub mark_of : Exercise → ℕ
-mark_of c = cond c.marked 1 0
+mark_of c = cond (marked c) 1 0
 
 -- A step's call, or its put.
 unfoldable pub side_of : Side → CallStep → Exercise
@@ -97,13 +97,13 @@ side_mark side step = mark_of (side_of side step)
 
 unfoldable pub side_price : Side → CallStep → Float
 unfolding side_of
-side_price side step = (side_of side step).price
+side_price side step = price_of (side_of side step)
 
 -- A step's mark for the walk: 0 nothing, 1 a call, 2 a put, 3 both.
 abbrev pub step_mark : CallStep → ℕ
-step_mark s = cond s.call.marked (cond s.put.marked 3 1) (cond s.put.marked 2 0)
+step_mark s = cond (marked s.call) (cond (marked s.put) 3 1) (cond (marked s.put) 2 0)
 
 -- The prices of all steps for the walk: call and put of each step side by side.
 unfoldable pub step_prices : List CallStep → List Float
-step_prices (s ∷ steps) = s.call.price ∷ s.put.price ∷ step_prices steps
+step_prices (s ∷ steps) = price_of s.call ∷ price_of s.put ∷ step_prices steps
 step_prices [] = []

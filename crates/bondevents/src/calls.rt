@@ -4,14 +4,16 @@ ghost use Rattle.std.specs.Prelude.{◌≡◌, List, ℕ, ◌≤◌, ◌<◌, le
 ghost use Rattle.std.specs.Float.{nan};
 ghost use Rattle.floats.specs.Answers.{follow};
 ghost use Rattle.bondevents.specs.Calls.{none, keep, over_steps, with_entry};
-ghost use Rattle.bondevents.specs.Parts.{axis_at, no_epoch, bond_of, entry_of, priced, in_window, over_prices, Principals};
+ghost use Rattle.bondevents.specs.Parts.{axis_in, without_puts, entry_of, priced, in_window, over_prices, Principals};
+ghost use Rattle.terms.specs.Market.{leg_in, leg_of};
 
+use crate::axis::Axis;
 use crate::principal::call_principal;
 use crate::steps::call_step_of;
-use crate::{Exercise, Side};
+use crate::{Entry, Side};
 use floats::finite::tested;
 use floats::{Reason, Refusal};
-use terms::Epoch;
+use terms::market::Leg;
 use terms::refusing::refused_at;
 use terms::time::time_from;
 
@@ -27,11 +29,11 @@ fn call_price(strike: f64, principal: f64, units: f64) -> Result<f64, Refusal>
 }
 
 // Whether the step's time lies within the two times, with the tolerance.
-fn in_window(maturity: f64, steps: usize, from: f64, to: f64, step: usize) -> bool
-    requires { (steps ≤ 512) × (step ≤ 512) }
-    ensures { result ≡ in_window (axis_at no_epoch maturity steps) from to step }
+fn in_window(axis: Axis, from: f64, to: f64, step: usize) -> bool
+    requires { step ≤ 512 }
+    ensures { result ≡ in_window (axis_in axis) from to step }
 {
-    let time = maturity * step as f64 / steps as f64;
+    let time = axis.maturity * step as f64 / axis.steps as f64;
     if time + 1.0e-12 >= from {
         return time <= to + 1.0e-12;
     }
@@ -42,28 +44,23 @@ fn in_window(maturity: f64, steps: usize, from: f64, to: f64, step: usize) -> bo
 #[tactic(auto, using(crate::proofs::Scanning::scanning))]
 fn over_window(
     side: Side,
-    maturity: f64,
-    steps: usize,
+    axis: Axis,
     from: f64,
     to: f64,
     strike: f64,
     units: f64,
     principals: &[f64; 513],
-    row: [Exercise; 513],
-) -> Result<[Exercise; 513], Refusal>
-    requires { steps ≤ 512 }
-    ensures { result ≡ over_prices side (in_window (axis_at no_epoch maturity steps) from to) (λ step. priced strike (get_or principals.now step nan) units) steps 0 row }
+    row: [Option<f64>; 513],
+) -> Result<[Option<f64>; 513], Refusal>
+    ensures { result ≡ over_prices side (in_window (axis_in axis) from to) (λ step. priced strike (get_or principals.now step nan) units) axis.steps 0 row }
 {
     let mut kept = row;
-    let mut i = 0;
-    while i < steps {
-        let step = i;
-        i += 1;
-        if in_window(maturity, steps, from, to, step) {
-            let price = call_price(strike, principals[step], units)?;
-            let exercise = kept[step];
-            kept[step] = exercise.keep(side, price);
+    for step in 0..axis.steps {
+        if !in_window(axis, from, to, step) {
+            continue;
         }
+        let price = call_price(strike, principals[step], units)?;
+        kept[step] = side.keep(kept[step], price);
     }
     Ok(kept)
 }
@@ -75,42 +72,36 @@ fn at_step(
     strike: f64,
     principal: f64,
     units: f64,
-    row: [Exercise; 513],
-) -> Result<[Exercise; 513], Refusal>
+    row: [Option<f64>; 513],
+) -> Result<[Option<f64>; 513], Refusal>
     requires { step ≤ 512 }
     ensures { result ≡ follow (priced strike principal units) λ x. Ok (set row step (keep side (get_or row step none) x)) }
 {
     let price = call_price(strike, principal, units)?;
     let mut kept = row;
-    let exercise = kept[step];
-    kept[step] = exercise.keep(side, price);
+    kept[step] = side.keep(kept[step], price);
     Ok(kept)
 }
 
 // A discrete call or put: on settlement step 0, otherwise the day's step, where that is tried.
 fn with_call(
     side: Side,
-    settlement: Epoch,
-    maturity: f64,
-    steps: usize,
-    days: &[u32],
-    kinds: &[u8],
-    amounts: &[f64],
+    axis: Axis,
+    leg: Leg<'_>,
     units: f64,
     date: u32,
     strike: f64,
-    row: [Exercise; 513],
-) -> Result<[Exercise; 513], Refusal>
-    requires le_steps { (1 ≤ steps) × (steps ≤ 512) }
-    requires kinds_len { (length kinds.now ≡ length days.now) × (length amounts.now ≡ length days.now) }
-    ensures { result ≡ over_steps side (axis_at settlement maturity steps) (bond_of days.now kinds.now amounts.now units) (entry_of date date strike) steps 0 row }
+    row: [Option<f64>; 513],
+) -> Result<[Option<f64>; 513], Refusal>
+    requires { (length leg.kinds.now ≡ length leg.days.now) × (length leg.amounts.now ≡ length leg.days.now) }
+    ensures { result ≡ over_steps side (axis_in axis) (without_puts (leg_in leg) units) (entry_of date date strike) axis.steps 0 row }
 {
-    let principal = call_principal(days, kinds, amounts, date);
-    if date == settlement.day {
+    let principal = call_principal(leg, date);
+    if date == axis.settlement.day {
         return at_step(side, 0, strike, principal, units, row);
     }
-    let step = call_step_of(settlement, maturity, steps, date);
-    if step < steps {
+    let step = call_step_of(axis, date);
+    if step < axis.steps {
         return at_step(side, step, strike, principal, units, row);
     }
     Ok(row)
@@ -120,35 +111,24 @@ fn with_call(
 #[tactic(auto, using(crate::proofs::Discrete::entries))]
 pub fn with_entry(
     side: Side,
-    settlement: Epoch,
-    maturity: f64,
-    steps: usize,
-    days: &[u32],
-    kinds: &[u8],
-    amounts: &[f64],
+    axis: Axis,
+    leg: Leg<'_>,
     units: f64,
-    start: u32,
-    end: u32,
-    strike: f64,
+    entry: Entry,
     principals: &[f64; 513],
-    row: [Exercise; 513],
-) -> Result<[Exercise; 513], Refusal>
-    requires le_steps { (1 ≤ steps) × (steps ≤ 512) }
-    requires kinds_len { (length kinds.now ≡ length days.now) × (length amounts.now ≡ length days.now) }
-    requires principals { (start ≡ end → ⊥) → Principals (axis_at settlement maturity steps) (bond_of days.now kinds.now amounts.now units).leg steps principals.now }
-    ensures { result ≡ with_entry side (axis_at settlement maturity steps) (bond_of days.now kinds.now amounts.now units) (entry_of start end strike) row }
+    row: [Option<f64>; 513],
+) -> Result<[Option<f64>; 513], Refusal>
+    requires kinds_len { (length leg.kinds.now ≡ length leg.days.now) × (length leg.amounts.now ≡ length leg.days.now) }
+    requires principals { (entry.start ≡ entry.end → ⊥) → Principals (axis_in axis) (leg_of leg) axis.steps principals.now }
+    ensures { result ≡ with_entry side (axis_in axis) (without_puts (leg_in leg) units) (entry_of entry.start entry.end entry.strike) row }
 {
-    if end < settlement.day {
+    if entry.end < axis.settlement.day {
         return Ok(row);
     }
-    if start == end {
-        return with_call(
-            side, settlement, maturity, steps, days, kinds, amounts, units, start, strike, row,
-        );
+    if entry.start == entry.end {
+        return with_call(side, axis, leg, units, entry.start, entry.strike, row);
     }
-    let from = time_from(settlement, start);
-    let to = time_from(settlement, end);
-    over_window(
-        side, maturity, steps, from, to, strike, units, principals, row,
-    )
+    let from = time_from(axis.settlement, entry.start);
+    let to = time_from(axis.settlement, entry.end);
+    over_window(side, axis, from, to, entry.strike, units, principals, row)
 }

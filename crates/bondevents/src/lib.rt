@@ -1,17 +1,26 @@
 // Contractual cashflows, the issuer's calls and the holder's puts on a uniform time grid.
 #![tactic(auto, unfolding(floats::specs::Answers::on_outcome))]
 
+pub mod axis;
 pub mod calls;
 pub mod marks;
 pub mod principal;
 pub mod steps;
 
 ghost use Rattle.std.specs.Prelude.{◌≡◌};
-ghost use Rattle.bondevents.specs.Calls.{none, new_step, kept, keep};
+ghost use Rattle.bondevents.specs.Calls.{new_step, kept, keep};
 
 use floats::Refusal;
 use floats::max::greater;
 use floats::min::lesser;
+
+// One call or put entry: a window where its days differ.
+#[derive(Clone, Copy)]
+pub struct Entry {
+    pub start: u32,
+    pub end: u32,
+    pub strike: f64,
+}
 
 // Who exercises: the issuer calls, the holder puts.
 #[derive(Clone, Copy)]
@@ -20,56 +29,34 @@ pub enum Side {
     Put,
 }
 
-// Whether a price stands at a step, and the price, 0 without one.
-#[derive(Clone, Copy)]
-pub struct Exercise {
-    pub marked: bool,
-    pub price: f64,
-}
-
-// Of calls the lower of two prices, of puts the higher.
-fn kept_of(side: Side, x: f64, y: f64) -> f64
-    ensures { result ≡ kept side x y }
-{
-    match side {
-        Side::Call => lesser(x, y),
-        Side::Put => greater(x, y),
-    }
-}
-
-impl Exercise {
-    // No price.
-    pub fn none() -> Self
-        ensures { result ≡ none }
+impl Side {
+    // Of calls the lower of two prices, of puts the higher.
+    #[tactic(auto, unfolding(crate::specs::Calls::kept))]
+    fn kept(self, x: f64, y: f64) -> f64
+        ensures { result ≡ kept self x y }
     {
-        Exercise {
-            marked: false,
-            price: 0.0,
+        match self {
+            Side::Call => lesser(x, y),
+            Side::Put => greater(x, y),
         }
     }
 
-    // Of calls the lowest price is kept, of puts the highest.
-    pub fn keep(self, side: Side, price: f64) -> Self
-        ensures { result ≡ keep side self price }
+    // A step's price with one more: of calls the lowest is kept, of puts the highest.
+    pub fn keep(self, held: Option<f64>, price: f64) -> Option<f64>
+        ensures { result ≡ keep self held price }
     {
-        if self.marked {
-            return Exercise {
-                marked: true,
-                price: kept_of(side, self.price, price),
-            };
-        }
-        Exercise {
-            marked: true,
-            price,
+        match held {
+            Some(before) => Some(self.kept(before, price)),
+            None => Some(price),
         }
     }
 }
 
-// One step of the grid: its call and its put.
+// One step of the grid: its call price and its put price, where it has them.
 #[derive(Clone, Copy)]
 pub struct CallStep {
-    pub call: Exercise,
-    pub put: Exercise,
+    pub call: Option<f64>,
+    pub put: Option<f64>,
 }
 
 impl CallStep {
@@ -78,13 +65,13 @@ impl CallStep {
         ensures { result ≡ new_step }
     {
         CallStep {
-            call: Exercise::none(),
-            put: Exercise::none(),
+            call: None,
+            put: None,
         }
     }
 }
 
-// The grid; places past the last step are zero and unmarked.
+// The grid; places past the last step are zero and have no price.
 #[derive(Clone, Copy)]
 pub struct BondEventGrid {
     pub maturity_time: f64,

@@ -3,10 +3,11 @@
 ghost use Rattle.std.specs.Prelude.{◌≡◌, map};
 ghost use Rattle.bondevents.specs.Parts.{mark_of, side_of, side_mark, side_price, step_mark, step_prices};
 
-use crate::{CallStep, Exercise, Side};
+use crate::{CallStep, Side};
 
-// A step's call, or its put.
-fn side_of(side: Side, step: CallStep) -> Exercise
+// A step's call price, or its put price.
+#[tactic(auto, unfolding(crate::specs::Parts::side_of))]
+fn side_of(side: Side, step: CallStep) -> Option<f64>
     ensures { result ≡ side_of side step }
 {
     match side {
@@ -16,90 +17,72 @@ fn side_of(side: Side, step: CallStep) -> Exercise
 }
 
 // 1 where a price stands.
-fn mark_of(exercise: Exercise) -> u8
-    ensures { result ≡ mark_of exercise }
+fn side_mark(side: Side, step: CallStep) -> u8
+    ensures { result ≡ side_mark side step }
 {
-    let marked = exercise.marked;
-    if marked { 1 } else { 0 }
+    side_of(side, step).is_some() as u8
+}
+
+// The price, 0 without one.
+fn side_price(side: Side, step: CallStep) -> f64
+    ensures { result ≡ side_price side step }
+{
+    side_of(side, step).unwrap_or(0.0)
+}
+
+// What is read of each step.
+fn each_step<T: Copy, F: Fn(CallStep) -> T>(steps: [CallStep; 513], unread: T, read: F) -> [T; 513]
+    requires { (step : CallStep) → F.pre read step }
+    ensures { (reading : CallStep → T) → ((step : CallStep) (r : T) → F.post read step r → r ≡ reading step) → result ≡ map reading steps }
+{
+    let mut row = [unread; 513];
+    for i in 0..513 {
+        row[i] = read(steps[i]);
+    }
+    row
 }
 
 // The marks of one side.
 pub fn marks_of(side: Side, steps: [CallStep; 513]) -> [u8; 513]
     ensures { result ≡ map (side_mark side) steps }
 {
-    let mut marks = [0u8; 513];
-    let mut i: usize = 0;
-    while i < 513 {
-        let step = steps[i];
-        let exercise = side_of(side, step);
-        let mark = mark_of(exercise);
-        marks[i] = mark;
-        i += 1;
-    }
-    marks
+    each_step(steps, 0, |step| side_mark(side, step))
 }
 
 // The prices of one side.
 pub fn prices_of(side: Side, steps: [CallStep; 513]) -> [f64; 513]
     ensures { result ≡ map (side_price side) steps }
 {
-    let mut prices = [0.0; 513];
-    let mut i: usize = 0;
-    while i < 513 {
-        let step = steps[i];
-        let exercise = side_of(side, step);
-        let price = exercise.price;
-        prices[i] = price;
-        i += 1;
-    }
-    prices
+    each_step(steps, 0.0, |step| side_price(side, step))
 }
 
 // For the walk: 0 nothing, 1 a call, 2 a put, 3 both.
 fn step_mark(step: CallStep) -> u8
     ensures { result ≡ step_mark step }
 {
-    let call = step.call;
-    let put = step.put;
-    if call.marked {
-        if put.marked {
-            return 3;
-        }
-        return 1;
+    match (step.call, step.put) {
+        (Some(_), Some(_)) => 3,
+        (Some(_), None) => 1,
+        (None, Some(_)) => 2,
+        (None, None) => 0,
     }
-    if put.marked {
-        return 2;
-    }
-    0
 }
 
 pub fn step_marks(steps: [CallStep; 513]) -> [u8; 513]
     ensures { result ≡ map step_mark steps }
 {
-    let mut marks = [0u8; 513];
-    let mut i: usize = 0;
-    while i < 513 {
-        let step = steps[i];
-        let mark = step_mark(step);
-        marks[i] = mark;
-        i += 1;
-    }
-    marks
+    each_step(steps, 0, |step| step_mark(step))
 }
 
-// For the walk: call and put price of each step side by side.
+// For the walk: call and put price of each step side by side, 0 without one.
 pub fn step_prices(steps: [CallStep; 513]) -> [f64; 1026]
     ensures { result ≡ step_prices steps }
 {
     let mut prices = [0.0; 1026];
-    let mut i: usize = 0;
-    while i < 513 {
+    for i in 0..513 {
         let step = steps[i];
-        let call = step.call;
-        let put = step.put;
-        prices[i * 2] = call.price;
-        prices[i * 2 + 1] = put.price;
-        i += 1;
+        prices[i * 2] = side_price(Side::Call, step);
+        prices[i * 2 + 1] = side_price(Side::Put, step);
     }
     prices
 }

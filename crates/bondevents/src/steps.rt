@@ -3,12 +3,12 @@
 ghost use Rattle.std.specs.Prelude.{◌≡◌, ◌≤◌};
 ghost use Rattle.std.specs.Float.Ieee.{to_unsigned};
 ghost use Rattle.floats.specs.Whole.{rounded, ceiled};
-ghost use Rattle.bondevents.specs.Parts.{axis_at};
+ghost use Rattle.bondevents.specs.Parts.{axis_in};
 ghost use Rattle.bondevents.specs.Steps.{clamp, steps_of, step_of, call_step_of};
 
+use crate::axis::Axis;
 use floats::ceil::ceil_at;
 use floats::round::round_at;
-use terms::Epoch;
 use terms::time::time_from;
 
 // ceil, clamped to 1..high.
@@ -29,7 +29,7 @@ fn up_to(target: f64, high: usize) -> usize
     1
 }
 
-// round, clamped to 1..high.
+// round, clamped to 1..high. Apart from `up_to`: one function for both is no plainer, since it would have to ask what each way gives between 1 and high.
 fn near_to(target: f64, high: usize) -> usize
     requires { (1 ≤ high) × (high ≤ 512) }
     ensures { result ≡ clamp 1 high (to_unsigned 64 (rounded target)) }
@@ -48,6 +48,7 @@ fn near_to(target: f64, high: usize) -> usize
 }
 
 // ceil(T × steps per year), clamped to 1..maximum.
+#[tactic(auto, using(floats::proofs::Laws::answers), unfolding(crate::specs::Steps::steps_of))]
 pub fn steps_of(maturity: f64, per_year: u32, maximum: u32) -> usize
     requires { (1 ≤ maximum) × (maximum ≤ 512) }
     ensures { result ≡ steps_of maturity (record { per_year = per_year; maximum = maximum }) }
@@ -56,21 +57,22 @@ pub fn steps_of(maturity: f64, per_year: u32, maximum: u32) -> usize
 }
 
 // A day's step: round(time/T × steps), clamped to 1..steps.
-pub fn step_of(settlement: Epoch, maturity: f64, steps: usize, day: u32) -> usize
-    requires { (1 ≤ steps) × (steps ≤ 512) }
-    ensures { result ≡ step_of (axis_at settlement maturity steps) day }
+pub fn step_of(axis: Axis, day: u32) -> usize
+    ensures { result ≡ step_of (axis_in axis) day }
 {
-    near_to(time_from(settlement, day) / maturity * steps as f64, steps)
+    near_to(
+        time_from(axis.settlement, day) / axis.maturity * axis.steps as f64,
+        axis.steps,
+    )
 }
 
 // A call day's step, clamped to 1..max(steps−1, 1).
-pub fn call_step_of(settlement: Epoch, maturity: f64, steps: usize, day: u32) -> usize
-    requires { (1 ≤ steps) × (steps ≤ 512) }
-    ensures { result ≡ call_step_of (axis_at settlement maturity steps) day }
+pub fn call_step_of(axis: Axis, day: u32) -> usize
+    ensures { result ≡ call_step_of (axis_in axis) day }
 {
-    let target = time_from(settlement, day) / maturity * steps as f64;
-    if steps > 1 {
-        return near_to(target, steps - 1);
+    let target = time_from(axis.settlement, day) / axis.maturity * axis.steps as f64;
+    if axis.steps > 1 {
+        return near_to(target, axis.steps - 1);
     }
     near_to(target, 1)
 }

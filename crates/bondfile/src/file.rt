@@ -88,6 +88,7 @@ impl<'a> Iterator for OfKind<'a> {
 
     #[tactic(auto, unfolding(crate::specs::File::of_kind))]
     fn next(&mut self) -> Option<Found> {
+        // `for` would hold the field through the loop, and the proof has to see it at each turn.
         while let Some((line, said)) = self.lines.next() {
             if let Ok(entry) = said
                 && kind_of(entry) == self.kind

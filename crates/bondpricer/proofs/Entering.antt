@@ -2,7 +2,7 @@
 use Rattle.std.specs.Prelude.{Ok, Err}
 use Prim.Native.Nat.{◌≤◌}
 use mathlib.Core.Path.{◌≡◌, sym, ap, ◌∙◌}
-use mathlib.Core.List.{List, []}
+use mathlib.Core.List.{List}
 use lib.Ieee.{Float}
 use lib.ListN.{length}
 use Rattle.floats.specs.declared.Refusal.{Refusal}
@@ -15,7 +15,7 @@ use Rattle.terms.specs.Curve.{CurveTimes, curve_at, curve_over}
 use Rattle.terms.specs.Checks.{on_check}
 use Rattle.terms.specs.Entries.{straight_checks}
 use Rattle.terms.specs.laws.TermChecks.{leg-counted, pillars-counted}
-use Rattle.terms.specs.laws.EntryChecks.{straight-terms}
+use Rattle.terms.specs.laws.StraightChecks.{straight-terms}
 use Rattle.bondpricer.specs.Straight.{discounted_value, straight_value}
 
 module _ (settlement : Settlement) (leg : Leg) (spread : Float) (pillars : Pillars) {s : Check} (h : s ≡ straight_checks settlement leg spread pillars) where
@@ -30,7 +30,6 @@ module _ (settlement : Settlement) (leg : Leg) (spread : Float) (pillars : Pilla
   unfolding straight_value on_check
   straight-refused v p = p ∙ ap (λ (z : Check). on_check z Err (discounted_value (curve_at settlement pillars) (epoch_of settlement) leg spread)) (sym v ∙ h)
 
-  -- The kinds play no part.
-  pub straight-given : {times : List Float} {e : Epoch} {r : Answer} → CurveTimes settlement pillars.days times → e ≡ epoch_of settlement → s ≡ Ok tt → r ≡ discounted_value (curve_over times pillars.factors) e (record { days = leg.days; kinds = []; amounts = leg.amounts }) spread → r ≡ straight_value settlement leg spread pillars
-  unfolding straight_value discounted_value on_check
+  pub straight-given : {times : List Float} {e : Epoch} {r : Answer} → CurveTimes settlement pillars.days times → e ≡ epoch_of settlement → s ≡ Ok tt → r ≡ discounted_value (curve_over times pillars.factors) e leg spread → r ≡ straight_value settlement leg spread pillars
+  unfolding straight_value on_check
   straight-given {times} t d v p = p ∙ ap (λ (e : Epoch). discounted_value (curve_over times pillars.factors) e leg spread) d ∙ ap (λ (times : List Float). discounted_value (curve_over times pillars.factors) (epoch_of settlement) leg spread) (t.timed (few-pillars v)) ∙ ap (λ (z : Check). on_check z Err (discounted_value (curve_at settlement pillars) (epoch_of settlement) leg spread)) (sym v ∙ h)

@@ -1,4 +1,5 @@
 pub mod Book
 pub mod Checks
+pub mod Lent
 pub mod Slices
 pub mod laws

@@ -1,167 +1,96 @@
 // What the book's fields say of each bond.
 
-ghost use Rattle.std.specs.Prelude.{◌≡◌, not, ◌||◌, ◌≤◌, ◌<◌, ltb, length};
-ghost use Rattle.bookchecks.specs.Book.{amiss, fields_amiss, holding_at};
-ghost use Rattle.bookchecks.specs.Slices.{fields_in};
-ghost use Rattle.bookchecks.specs.laws.Holdings.{Held};
+ghost use Rattle.std.specs.Prelude.{◌≡◌, ◌<◌, length};
+ghost use Rattle.terms.specs.Market as lent;
+ghost use Rattle.bookchecks.specs.Book.{unset, is_last, fields_amiss, holding_at, market_of, calls_of};
+ghost use Rattle.bookchecks.specs.Lent.{fields_in, book_in};
 
-use crate::fields::{amiss, count_at, float_at, part_of};
-use crate::{Book, Holding, Part};
+use crate::cut::{cut_entries, cut_leg};
+use crate::parts::{amiss, field_at, part_of};
+use crate::{Book, Fields, Holding};
+use terms::Settlement;
+use terms::market::{Bond, CallSchedule, Market, TimeGrid};
 
-// The code or a step setting is missing.
-fn unset(codes: usize, yearly: usize, maximum: usize, i: usize) -> bool
-    ensures { result ≡ (not (ltb i codes) || (not (ltb i yearly) || not (ltb i maximum))) }
-{
-    if codes <= i {
-        return true;
+impl Fields<'_> {
+    // The size of the book.
+    pub fn size(self) -> usize
+        ensures { result ≡ length self.entry.cashflows.now }
+    {
+        self.cashflows.len()
     }
-    if yearly <= i {
-        return true;
-    }
-    if maximum <= i {
-        return true;
-    }
-    false
-}
 
-// One of four lists doesn't add up.
-fn four_amiss(last: bool, needed: usize, a: usize, b: usize, c: usize, d: usize) -> bool
-    ensures { result ≡ (amiss last needed a || (amiss last needed b || (amiss last needed c || amiss last needed d))) }
-{
-    if amiss(last, needed, a) {
-        return true;
+    // The code or a step setting is missing.
+    fn unset(self, i: usize) -> bool
+        ensures { result ≡ unset (fields_in self) i }
+    {
+        self.codes.len() <= i || (self.per_year.len() <= i || self.maximum.len() <= i)
     }
-    if amiss(last, needed, b) {
-        return true;
-    }
-    if amiss(last, needed, c) {
-        return true;
-    }
-    amiss(last, needed, d)
-}
 
-// A field of the bond is missing, or one is left over behind the last bond.
-fn fields_amiss(
-    last: bool,
-    needed: usize,
-    codes: &[u32],
-    units: &[f64],
-    calls: &[u32],
-    puts: &[u32],
-    yearly: &[u32],
-    maximum: &[u32],
-    spreads: &[f64],
-    desks: &[u32],
-) -> bool
-    ensures { result ≡ fields_amiss last needed (fields_in codes codes units calls puts yearly maximum spreads desks) }
-{
-    if four_amiss(
-        last,
-        needed,
-        codes.len(),
-        units.len(),
-        calls.len(),
-        puts.len(),
-    ) {
-        return true;
+    // A field of the bond is missing, or one is left over behind the last bond.
+    fn amiss(self, last: bool, needed: usize) -> bool
+        ensures { result ≡ fields_amiss last needed (fields_in self) }
+    {
+        (amiss(last, needed, self.codes.len())
+            || (amiss(last, needed, self.units.len())
+                || (amiss(last, needed, self.calls.len()) || amiss(last, needed, self.puts.len()))))
+            || (amiss(last, needed, self.per_year.len())
+                || (amiss(last, needed, self.maximum.len())
+                    || (amiss(last, needed, self.spreads.len())
+                        || amiss(last, needed, self.desks.len()))))
     }
-    four_amiss(
-        last,
-        needed,
-        yearly.len(),
-        maximum.len(),
-        spreads.len(),
-        desks.len(),
-    )
-}
 
-// What the fields say of one bond.
-fn holding_at(
-    codes: &[u32],
-    cashflows: &[u32],
-    units: &[f64],
-    calls: &[u32],
-    puts: &[u32],
-    yearly: &[u32],
-    maximum: &[u32],
-    spreads: &[f64],
-    desks: &[u32],
-    i: usize,
-) -> Holding
-    requires { i < 32 }
-    ensures { result ≡ holding_at (fields_in codes cashflows units calls puts yearly maximum spreads desks) i }
-{
-    let last = i + 1 == cashflows.len();
-    let missing = unset(codes.len(), yearly.len(), maximum.len(), i);
-    let wrong = fields_amiss(
-        last,
-        i + 1,
-        codes,
-        units,
-        calls,
-        puts,
-        yearly,
-        maximum,
-        spreads,
-        desks,
-    );
-    let flows = part_of(cashflows, i);
-    let called = part_of(calls, i);
-    let put = part_of(puts, i);
-    Holding {
-        code: count_at(codes, i),
-        units: float_at(units, i),
-        yearly: count_at(yearly, i),
-        maximum: count_at(maximum, i),
-        spread: float_at(spreads, i),
-        desk: count_at(desks, i),
-        cashflows: flows,
-        calls: called,
-        puts: put,
-        last,
-        unset: missing,
-        amiss: wrong,
+    // What the fields say of one bond.
+    pub fn holding_at(self, i: usize) -> Holding
+        requires { i < 32 }
+        ensures { result ≡ holding_at (fields_in self) i }
+    {
+        let last = i + 1 == self.cashflows.len();
+        Holding {
+            code: field_at(self.codes, i, 0),
+            units: field_at(self.units, i, 0.0),
+            yearly: field_at(self.per_year, i, 0),
+            maximum: field_at(self.maximum, i, 0),
+            spread: field_at(self.spreads, i, 0.0),
+            desk: field_at(self.desks, i, 0),
+            cashflows: part_of(self.cashflows, i),
+            calls: part_of(self.calls, i),
+            puts: part_of(self.puts, i),
+            last,
+            unset: self.unset(i),
+            amiss: self.amiss(last, i + 1),
+        }
     }
 }
 
-// What the fields say of each bond of the book; past its size nothing is said.
-pub fn holdings(
-    codes: &[u32],
-    cashflows: &[u32],
-    units: &[f64],
-    calls: &[u32],
-    puts: &[u32],
-    yearly: &[u32],
-    maximum: &[u32],
-    spreads: &[f64],
-    desks: &[u32],
-) -> [Holding; 32]
-    requires { length cashflows.now ≤ 32 }
-    ensures { Held (fields_in codes cashflows units calls puts yearly maximum spreads desks) result }
-{
-    let nothing = Part { from: 0, count: 0 };
-    let none = Holding {
-        code: 0,
-        units: 0.0,
-        yearly: 0,
-        maximum: 0,
-        spread: 0.0,
-        desk: 0,
-        cashflows: nothing,
-        calls: nothing,
-        puts: nothing,
-        last: false,
-        unset: false,
-        amiss: false,
-    };
-    let mut table = [none; 32];
-    let mut i: usize = 0;
-    while i < cashflows.len() {
-        let held = holding_at(
-            codes, cashflows, units, calls, puts, yearly, maximum, spreads, desks, i,
-        );
-        table[i] = held;
-        i += 1;
+impl<'a> Book<'a> {
+    // What the tree value takes of the bond alone, but for its calls.
+    pub fn market_of(self, held: Holding) -> Market<'a>
+        ensures { lent.market_of result ≡ market_of (book_in self).shared (book_in self).lists held }
+    {
+        Market {
+            settlement: Settlement {
+                day: self.shared.day,
+                code: held.code,
+            },
+            bond: Bond {
+                leg: cut_leg(held.cashflows, self.lists.leg),
+                units: held.units,
+                puts: cut_entries(held.puts, self.lists.puts),
+            },
+            controls: TimeGrid {
+                per_year: held.yearly,
+                maximum: held.maximum,
+            },
+            model: self.shared.model,
+            spread: held.spread,
+            pillars: self.shared.pillars,
+        }
     }
-    table
+
+    // The bond's calls.
+    pub fn calls_of(self, held: Holding) -> CallSchedule<'a>
+        ensures { lent.calls_of result ≡ calls_of (book_in self).lists held }
+    {
+        cut_entries(held.calls, self.lists.calls)
+    }
 }

@@ -1,14 +1,13 @@
 // The book's answer from the values of its bonds.
 
 ghost use Rattle.std.specs.Prelude.{◌≡◌, ◌≤◌, get_or};
-ghost use Rattle.bookchecks.specs.laws.Holdings.{past_end};
 ghost use Rattle.bookvalue.specs.Values.{refused_book, summed_book};
 ghost use Rattle.bookvalue.specs.laws.Answers.{FewNodes, FewCounted, sum_of, answer_of};
 
 use crate::desks::desk_counts;
 use crate::{BookAnswer, Valued};
+use bookchecks::RefusedBond;
 use bookchecks::naming::at_bond;
-use bookchecks::{Holding, RefusedBond};
 use floats::finite::tested;
 
 // A refused bond, and no values.
@@ -30,18 +29,16 @@ fn sum_of(values: [f64; 32], size: usize) -> Result<f64, RefusedBond>
     ensures { result ≡ sum_of values size }
 {
     let mut sum = 0.0;
-    let mut i: usize = 0;
-    while i < size {
+    for i in 0..size {
         sum = at_bond(i as u32, tested(sum + values[i], 0))?;
-        i += 1;
     }
     Ok(sum)
 }
 
 // All values with their sum and counts, or the sum's refusal.
-fn summed(values: [f64; 32], counts: [u64; 32], held: [Holding; 32], size: usize) -> BookAnswer
+fn summed(values: [f64; 32], counts: [u64; 32], desks: &[u32], size: usize) -> BookAnswer
     requires { (size ≤ 32) × FewNodes counts }
-    ensures { result ≡ summed_book values (λ i. (get_or held i past_end).desk) counts size }
+    ensures { result ≡ summed_book values (λ i. get_or desks.now i 0) counts size }
 {
     match sum_of(values, size) {
         Ok(sum) => BookAnswer {
@@ -49,26 +46,22 @@ fn summed(values: [f64; 32], counts: [u64; 32], held: [Holding; 32], size: usize
             bond: 0,
             values,
             sum,
-            counts: desk_counts(counts, held, size),
+            counts: desk_counts(counts, desks, size),
         },
         Err(refused) => refused_book(refused),
     }
 }
 
 // The first refused bond, or all values.
-pub fn answer_of(
-    valued: Result<Valued, RefusedBond>,
-    held: [Holding; 32],
-    size: usize,
-) -> BookAnswer
+pub fn answer_of(valued: Result<Valued, RefusedBond>, desks: &[u32], size: usize) -> BookAnswer
     requires { (size ≤ 32) × FewCounted valued }
-    ensures { result ≡ answer_of valued (λ i. (get_or held i past_end).desk) size }
+    ensures { result ≡ answer_of valued (λ i. get_or desks.now i 0) size }
 {
     match valued {
         Ok(valued) => {
             let values = valued.values;
             let counts = valued.counts;
-            summed(values, counts, held, size)
+            summed(values, counts, desks, size)
         }
         Err(refused) => refused_book(refused),
     }

@@ -8,7 +8,7 @@ pub mod desks;
 pub mod entry;
 pub mod values;
 
-// Each bond's value and node count in its place, zero past the size.
+// Each bond's value and node count in its place, zero past the size: two arrays, as C takes the values.
 #[derive(Drop)]
 pub struct Valued {
     pub values: [f64; 32],
@@ -16,6 +16,7 @@ pub struct Valued {
 }
 
 // The answer: each value, their sum in book order and each desk's node count, with bond 0; or the refused bond with its refusal, and no values.
+// It is handed to C whole, with zeros beside a refusal.
 #[derive(Drop)]
 pub struct BookAnswer {
     pub refusal: Option<Refusal>,

@@ -3,7 +3,7 @@ ghost use Rattle.std.specs.Prelude.{◌≡◌, true, false, ◌<◌, length};
 ghost use Rattle.std.specs.Float.Ieee.{lt};
 ghost use Rattle.floats.specs.Answers.{plus_zero};
 ghost use Rattle.brackets.specs.Brackets.{counted, small, bracketed, raised, widen, halve};
-ghost use Rattle.sought.specs.laws.Sought.{tree_parts, sought_at, Ready};
+ghost use Rattle.sought.specs.laws.Sought.{sought_at, Ready};
 
 use crate::{Bracket, Halved, NoRoot, Root, Widened};
 use floats::Refusal;
@@ -26,13 +26,10 @@ pub fn is_small(limit: f64, x: f64) -> bool
 pub fn counted<T>(worked: Result<T, Refusal>, evaluations: u32) -> Result<T, NoRoot>
     ensures { result ≡ counted worked evaluations }
 {
-    match worked {
-        Ok(x) => Ok(x),
-        Err(refusal) => Err(NoRoot {
-            refusal,
-            evaluations,
-        }),
-    }
+    worked.map_err(|refusal| NoRoot {
+        refusal,
+        evaluations,
+    })
 }
 
 impl Bracket {
@@ -53,43 +50,18 @@ impl Bracket {
     // An upper end whose objective is above 0 moves up.
     fn raise(
         self,
-        sought: Sought,
-        days: &[u32],
-        amounts: &[f64],
-        nodes: &[i32],
-        probabilities: &[f64],
-        counts: &[usize],
-        spacings: &[f64],
-        shifts: &[f64],
-        cashflows: &[f64],
-        marks: &[u8],
-        prices: &[f64],
+        sought: Sought<'_>,
         first: &mut [f64],
         second: &mut [f64],
     ) -> Result<Widened, NoRoot>
-        requires ready { Ready sought days.now amounts.now (tree_parts nodes.now probabilities.now counts.now spacings.now shifts.now cashflows.now marks.now prices.now) (length first.old) (length second.old) }
+        requires ready { Ready sought.priced (length first.old) (length second.old) }
         requires evaluations_bound { self.evaluations < 1000 }
-        ensures { result ≡ raised (sought_at sought days.now amounts.now (tree_parts nodes.now probabilities.now counts.now spacings.now shifts.now cashflows.now marks.now prices.now)) self }
+        ensures { result ≡ raised (sought_at sought.entry.priced sought.entry.target) self }
     {
         if self.at_upper > 0.0 {
             let upper = counted(mul_add_at(2.0, self.upper, 0.01, 0), self.evaluations)?;
             let evaluations = self.evaluations + 1;
-            let tried = objective(
-                sought,
-                days,
-                amounts,
-                nodes,
-                probabilities,
-                counts,
-                spacings,
-                shifts,
-                cashflows,
-                marks,
-                prices,
-                first,
-                second,
-                upper,
-            );
+            let tried = objective(sought, first, second, upper);
             let at_upper = counted(tried, evaluations)?;
             return Ok(Widened::Next(Bracket {
                 upper,
@@ -104,26 +76,16 @@ impl Bracket {
     // A lower end whose objective is below 0 moves down, then the upper end. Where it can't move, widening ends.
     fn lower(
         self,
-        sought: Sought,
-        days: &[u32],
-        amounts: &[f64],
-        nodes: &[i32],
-        probabilities: &[f64],
-        counts: &[usize],
-        spacings: &[f64],
-        shifts: &[f64],
-        cashflows: &[f64],
-        marks: &[u8],
-        prices: &[f64],
+        sought: Sought<'_>,
         first: &mut [f64],
         second: &mut [f64],
         lowest: f64,
     ) -> Result<Widened, NoRoot>
-        requires ready { Ready sought days.now amounts.now (tree_parts nodes.now probabilities.now counts.now spacings.now shifts.now cashflows.now marks.now prices.now) (length first.old) (length second.old) }
+        requires ready { Ready sought.priced (length first.old) (length second.old) }
         requires evaluations_bound { self.evaluations < 999 }
         requires self_value { bracketed self ≡ false }
         requires plus_zero_value { lt self.at_lower plus_zero ≡ true }
-        ensures { result ≡ widen (sought_at sought days.now amounts.now (tree_parts nodes.now probabilities.now counts.now spacings.now shifts.now cashflows.now marks.now prices.now)) lowest self }
+        ensures { result ≡ widen (sought_at sought.entry.priced sought.entry.target) lowest self }
     {
         let x = counted(mul_add_at(2.0, self.lower, -0.01, 0), self.evaluations)?;
         let lower = greater(x, lowest);
@@ -132,22 +94,7 @@ impl Bracket {
             return Ok(Widened::Last(self));
         }
         let evaluations = self.evaluations + 1;
-        let tried = objective(
-            sought,
-            days,
-            amounts,
-            nodes,
-            probabilities,
-            counts,
-            spacings,
-            shifts,
-            cashflows,
-            marks,
-            prices,
-            first,
-            second,
-            lower,
-        );
+        let tried = objective(sought, first, second, lower);
         let at_lower = counted(tried, evaluations)?;
         let next = Bracket {
             lower,
@@ -155,122 +102,44 @@ impl Bracket {
             evaluations,
             ..self
         };
-        next.raise(
-            sought,
-            days,
-            amounts,
-            nodes,
-            probabilities,
-            counts,
-            spacings,
-            shifts,
-            cashflows,
-            marks,
-            prices,
-            first,
-            second,
-        )
+        next.raise(sought, first, second)
     }
 
     // One widening.
     pub fn widen(
         self,
-        sought: Sought,
-        days: &[u32],
-        amounts: &[f64],
-        nodes: &[i32],
-        probabilities: &[f64],
-        counts: &[usize],
-        spacings: &[f64],
-        shifts: &[f64],
-        cashflows: &[f64],
-        marks: &[u8],
-        prices: &[f64],
+        sought: Sought<'_>,
         first: &mut [f64],
         second: &mut [f64],
         lowest: f64,
     ) -> Result<Widened, NoRoot>
-        requires ready { Ready sought days.now amounts.now (tree_parts nodes.now probabilities.now counts.now spacings.now shifts.now cashflows.now marks.now prices.now) (length first.old) (length second.old) }
+        requires ready { Ready sought.priced (length first.old) (length second.old) }
         requires evaluations_bound { self.evaluations < 999 }
-        ensures { result ≡ widen (sought_at sought days.now amounts.now (tree_parts nodes.now probabilities.now counts.now spacings.now shifts.now cashflows.now marks.now prices.now)) lowest self }
+        ensures { result ≡ widen (sought_at sought.entry.priced sought.entry.target) lowest self }
     {
         if self.falls() {
             return Ok(Widened::Last(self));
         }
         if self.at_lower < 0.0 {
-            return self.lower(
-                sought,
-                days,
-                amounts,
-                nodes,
-                probabilities,
-                counts,
-                spacings,
-                shifts,
-                cashflows,
-                marks,
-                prices,
-                first,
-                second,
-                lowest,
-            );
+            return self.lower(sought, first, second, lowest);
         }
-        self.raise(
-            sought,
-            days,
-            amounts,
-            nodes,
-            probabilities,
-            counts,
-            spacings,
-            shifts,
-            cashflows,
-            marks,
-            prices,
-            first,
-            second,
-        )
+        self.raise(sought, first, second)
     }
 
     // One halving. The width is tested on the bracket before it is halved.
     pub fn halve(
         self,
-        sought: Sought,
-        days: &[u32],
-        amounts: &[f64],
-        nodes: &[i32],
-        probabilities: &[f64],
-        counts: &[usize],
-        spacings: &[f64],
-        shifts: &[f64],
-        cashflows: &[f64],
-        marks: &[u8],
-        prices: &[f64],
+        sought: Sought<'_>,
         first: &mut [f64],
         second: &mut [f64],
     ) -> Result<Halved, NoRoot>
-        requires ready { Ready sought days.now amounts.now (tree_parts nodes.now probabilities.now counts.now spacings.now shifts.now cashflows.now marks.now prices.now) (length first.old) (length second.old) }
+        requires ready { Ready sought.priced (length first.old) (length second.old) }
         requires evaluations_bound { self.evaluations < 1000 }
-        ensures { result ≡ halve (sought_at sought days.now amounts.now (tree_parts nodes.now probabilities.now counts.now spacings.now shifts.now cashflows.now marks.now prices.now)) self }
+        ensures { result ≡ halve (sought_at sought.entry.priced sought.entry.target) self }
     {
         let middle = counted(midpoint_at(self.lower, self.upper, 0), self.evaluations)?;
         let evaluations = self.evaluations + 1;
-        let tried = objective(
-            sought,
-            days,
-            amounts,
-            nodes,
-            probabilities,
-            counts,
-            spacings,
-            shifts,
-            cashflows,
-            marks,
-            prices,
-            first,
-            second,
-            middle,
-        );
+        let tried = objective(sought, first, second, middle);
         let at_middle = counted(tried, evaluations)?;
         if is_small(Bracket::TOLERANCE, at_middle) {
             return Ok(Halved::Found(Root {

@@ -3,6 +3,7 @@ use Rattle.std.specs.Prelude.{ℕ, ◌≡◌, Bool, List, length, get_or, eqb, F
 use Rattle.std.specs.Borrow.{Bor}
 use denote.Triple.Both.{Both}
 use Rattle.floats.specs.Answers.{plus_zero}
+use Rattle.callnotices.specs.declared.Notices.{Notices as LentNotices}
 
 -- A notice has a series (1 to 64), a version (1 to 65,535), an action (0 set, 1 withdraw) and the fields of a call entry.
 pub record Notices : Type 0 where
@@ -13,7 +14,19 @@ pub record Notices : Type 0 where
   pub ends : List ℕ
   pub strikes : List Float
 
--- What the six slices of a call hold as it starts.
+-- What notices hold where a call begins.
+abbrev pub notices_of : LentNotices → Notices
+notices_of notices =
+    record {
+      series = notices.series.now;
+      versions = notices.versions.now;
+      actions = notices.actions.now;
+      starts = notices.starts.now;
+      ends = notices.ends.now;
+      strikes = notices.strikes.now;
+    }
+
+-- The same of the six slices that a C caller lends.
 abbrev pub notices_in : {A B C D E F : Type 0} → Both (Bor (List ℕ)) A → Both (Bor (List ℕ)) B → Both (Bor (List ℕ)) C → Both (Bor (List ℕ)) D → Both (Bor (List ℕ)) E → Both (Bor (List Float)) F → Notices
 notices_in series versions actions starts ends strikes =
     record {

@@ -1,7 +1,7 @@
 // The call list of the notices that stand, and the entry, which checks them first.
 
 ghost use Rattle.std.specs.Prelude.{◌≡◌};
-ghost use Rattle.callnotices.specs.Notices.{Parallel, notices_in};
+ghost use Rattle.callnotices.specs.Notices.{Parallel, notices_of};
 ghost use Rattle.callnotices.specs.Standing.{yields, entries};
 ghost use Rattle.callnotices.specs.Lists.{list_of, refused_list, call_list};
 
@@ -24,36 +24,29 @@ fn refused_list(refusal: Refusal) -> CallList
 }
 
 // Whether the notice at an index stands as a set; the index past the last one is no notice.
-fn yields_at(actions: &[u32], i: usize) -> bool
-    ensures { result ≡ yields actions.now i }
+fn yields_at(notices: Notices<'_>, i: usize) -> bool
+    ensures { result ≡ yields notices.entry.actions.now i }
 {
-    i < actions.len() && actions[i] == Notices::SET
+    i < notices.actions.len() && notices.actions[i] == Notices::SET
 }
 
 // The list of the notices that stand.
-fn listed(
-    series: &[u32],
-    versions: &[u32],
-    actions: &[u32],
-    starts: &[u32],
-    ends: &[u32],
-    strikes: &[f64],
-) -> CallList
-    requires { Parallel (record { series = series.now; versions = versions.now; actions = actions.now; starts = starts.now; ends = ends.now; strikes = strikes.now }) }
-    ensures { result ≡ list_of (notices_in series versions actions starts ends strikes) (entries (notices_in series versions actions starts ends strikes)) }
+fn listed(notices: Notices<'_>) -> CallList
+    requires { Parallel (notices_of notices) }
+    ensures { result ≡ list_of (notices_of notices.entry) (entries (notices_of notices.entry)) }
 {
     let mut call_starts = [0u32; 64];
     let mut call_ends = [0u32; 64];
     let mut call_strikes = [0.0; 64];
     let mut count: usize = 0;
     for before in 0..Notices::LAST_SERIES {
-        let at = standing_of(series, versions, before + 1);
-        if !yields_at(actions, at) {
+        let at = standing_of(notices, before + 1);
+        if !yields_at(notices, at) {
             continue;
         }
-        call_starts[count] = starts[at];
-        call_ends[count] = ends[at];
-        call_strikes[count] = strikes[at];
+        call_starts[count] = notices.starts[at];
+        call_ends[count] = notices.ends[at];
+        call_strikes[count] = notices.strikes[at];
         count += 1;
     }
     CallList {
@@ -66,18 +59,11 @@ fn listed(
 }
 
 // The entry: the checks, then the list.
-pub fn call_list(
-    series: &[u32],
-    versions: &[u32],
-    actions: &[u32],
-    starts: &[u32],
-    ends: &[u32],
-    strikes: &[f64],
-) -> CallList
-    ensures { result ≡ call_list (notices_in series versions actions starts ends strikes) }
+pub fn call_list(notices: Notices<'_>) -> CallList
+    ensures { result ≡ call_list (notices_of notices.entry) }
 {
-    match notice_checks(series, versions, actions, starts, ends, strikes) {
-        Ok(()) => listed(series, versions, actions, starts, ends, strikes),
+    match notice_checks(notices) {
+        Ok(()) => listed(notices),
         Err(refusal) => refused_list(refusal),
     }
 }

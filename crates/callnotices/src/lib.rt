@@ -9,11 +9,18 @@ pub mod standing;
 
 use floats::Refusal;
 
-// At most 256 notices: series 1 to 64, version 1 to 65,535, action 0 (set) or 1 (withdraw).
-#[derive(Drop)]
-pub struct Notices;
+// At most 256 notices: series 1 to 64, version 1 to 65,535, action 0 (set) or 1 (withdraw), and the fields of a call entry.
+#[derive(Clone, Copy)]
+pub struct Notices<'a> {
+    pub series: &'a [u32],
+    pub versions: &'a [u32],
+    pub actions: &'a [u32],
+    pub starts: &'a [u32],
+    pub ends: &'a [u32],
+    pub strikes: &'a [f64],
+}
 
-impl Notices {
+impl Notices<'_> {
     pub const MOST: usize = 256;
 
     pub const FIRST_SERIES: u32 = 1;

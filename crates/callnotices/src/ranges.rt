@@ -1,7 +1,7 @@
 // The checks of notices before their call fields: 2, 41, 42 and 43.
 
 ghost use Rattle.std.specs.Prelude.{◌≡◌, ◌<◌, ◌≤◌, length};
-ghost use Rattle.callnotices.specs.Notices.{notices_in};
+ghost use Rattle.callnotices.specs.Notices.{notices_of};
 ghost use Rattle.callnotices.specs.Checks.{unequal, notice_count, too_many, wrong_at, notice_range, no_repeats};
 
 use crate::Notices;
@@ -24,67 +24,64 @@ fn lengths_differ(
 }
 
 // 2: unequal slices.
-pub fn notice_count(
-    series: &[u32],
-    versions: &[u32],
-    actions: &[u32],
-    starts: &[u32],
-    ends: &[u32],
-    strikes: &[f64],
-) -> Result<(), Refusal>
-    ensures { result ≡ notice_count (notices_in series versions actions starts ends strikes) }
+pub fn notice_count(notices: Notices<'_>) -> Result<(), Refusal>
+    ensures { result ≡ notice_count (notices_of notices.entry) }
 {
     single(
         Reason::Count,
         lengths_differ(
-            series.len(),
-            versions.len(),
-            actions.len(),
-            starts.len(),
-            ends.len(),
-            strikes.len(),
+            notices.series.len(),
+            notices.versions.len(),
+            notices.actions.len(),
+            notices.starts.len(),
+            notices.ends.len(),
+            notices.strikes.len(),
         ),
     )
 }
 
 // 41: more than 256 notices.
-pub fn too_many(series: &[u32]) -> Result<(), Refusal>
-    ensures { result ≡ too_many series.now }
+pub fn too_many(notices: Notices<'_>) -> Result<(), Refusal>
+    ensures { result ≡ too_many notices.entry.series.now }
 {
-    single(Reason::NoticeCount, Notices::MOST < series.len())
+    single(Reason::NoticeCount, Notices::MOST < notices.series.len())
 }
 
 // 42: a series, version or action out of range, at an index.
-fn wrong_at(series: &[u32], versions: &[u32], actions: &[u32], i: usize) -> bool
-    requires i_in_bounds { i < length series.now }
-    requires versions_len { length versions.now ≡ length series.now }
-    requires actions_len { length actions.now ≡ length series.now }
-    ensures { result ≡ wrong_at series.now versions.now actions.now i }
+fn wrong_at(notices: Notices<'_>, i: usize) -> bool
+    requires i_in_bounds { i < length notices.series.now }
+    requires versions_len { length notices.versions.now ≡ length notices.series.now }
+    requires actions_len { length notices.actions.now ≡ length notices.series.now }
+    ensures { result ≡ wrong_at notices.entry.series.now notices.entry.versions.now notices.entry.actions.now i }
 {
-    !matches!(series[i], Notices::FIRST_SERIES..=Notices::LAST_SERIES)
-        || !matches!(versions[i], Notices::FIRST_VERSION..=Notices::LAST_VERSION)
-        || Notices::WITHDRAW < actions[i]
+    !matches!(
+        notices.series[i],
+        Notices::FIRST_SERIES..=Notices::LAST_SERIES
+    ) || !matches!(
+        notices.versions[i],
+        Notices::FIRST_VERSION..=Notices::LAST_VERSION
+    ) || Notices::WITHDRAW < notices.actions[i]
 }
 
 // 42: series, versions and actions.
-pub fn notice_range(series: &[u32], versions: &[u32], actions: &[u32]) -> Result<(), Refusal>
-    requires series_len_bound { length series.now ≤ 256 }
-    requires versions_len { length versions.now ≡ length series.now }
-    requires actions_len { length actions.now ≡ length series.now }
-    ensures { result ≡ notice_range series.now versions.now actions.now }
+pub fn notice_range(notices: Notices<'_>) -> Result<(), Refusal>
+    requires series_len_bound { length notices.series.now ≤ 256 }
+    requires versions_len { length notices.versions.now ≡ length notices.series.now }
+    requires actions_len { length notices.actions.now ≡ length notices.series.now }
+    ensures { result ≡ notice_range notices.entry.series.now notices.entry.versions.now notices.entry.actions.now }
 {
-    refused_first(Reason::NoticeRange, series.len(), |i| {
-        wrong_at(series, versions, actions, i)
+    refused_first(Reason::NoticeRange, notices.series.len(), |i| {
+        wrong_at(notices, i)
     })
 }
 
 // 43: the same series and version twice.
-pub fn no_repeats(series: &[u32], versions: &[u32]) -> Result<(), Refusal>
-    requires series_len_bound { length series.now ≤ 256 }
-    requires versions_len { length versions.now ≡ length series.now }
-    ensures { result ≡ no_repeats series.now versions.now }
+pub fn no_repeats(notices: Notices<'_>) -> Result<(), Refusal>
+    requires series_len_bound { length notices.series.now ≤ 256 }
+    requires versions_len { length notices.versions.now ≡ length notices.series.now }
+    ensures { result ≡ no_repeats notices.entry.series.now notices.entry.versions.now }
 {
-    refused_first(Reason::NoticeRepeated, series.len(), |i| {
-        repeats_at(series, versions, i)
+    refused_first(Reason::NoticeRepeated, notices.series.len(), |i| {
+        repeats_at(notices, i)
     })
 }

@@ -10,36 +10,36 @@ use terms::ranges::{no_day, not_above};
 use terms::refusing::refused_first;
 
 // 3: start and end days.
-pub fn set_days(actions: &[u32], starts: &[u32], ends: &[u32]) -> Result<(), Refusal>
-    requires actions_len_bound { length actions.now ≤ 256 }
-    requires starts_len { length starts.now ≡ length actions.now }
-    requires ends_len { length ends.now ≡ length actions.now }
-    ensures { result ≡ set_days actions.now starts.now ends.now }
+pub fn set_days(notices: Notices<'_>) -> Result<(), Refusal>
+    requires actions_len_bound { length notices.actions.now ≤ 256 }
+    requires starts_len { length notices.starts.now ≡ length notices.actions.now }
+    requires ends_len { length notices.ends.now ≡ length notices.actions.now }
+    ensures { result ≡ set_days notices.entry.actions.now notices.entry.starts.now notices.entry.ends.now }
 {
-    refused_first(Reason::Day, actions.len(), |i| {
-        actions[i] == Notices::SET && (no_day(starts[i]) || no_day(ends[i]))
+    refused_first(Reason::Day, notices.actions.len(), |i| {
+        notices.actions[i] == Notices::SET && (no_day(notices.starts[i]) || no_day(notices.ends[i]))
     })
 }
 
 // 4: strikes above 0 and up to 1e6.
-pub fn set_strikes(actions: &[u32], strikes: &[f64]) -> Result<(), Refusal>
-    requires actions_len_bound { length actions.now ≤ 256 }
-    requires strikes_len { length strikes.now ≡ length actions.now }
-    ensures { result ≡ set_strikes actions.now strikes.now }
+pub fn set_strikes(notices: Notices<'_>) -> Result<(), Refusal>
+    requires actions_len_bound { length notices.actions.now ≤ 256 }
+    requires strikes_len { length notices.strikes.now ≡ length notices.actions.now }
+    ensures { result ≡ set_strikes notices.entry.actions.now notices.entry.strikes.now }
 {
-    refused_first(Reason::Number, actions.len(), |i| {
-        actions[i] == Notices::SET && not_above(CallEntries::STRIKE, strikes[i])
+    refused_first(Reason::Number, notices.actions.len(), |i| {
+        notices.actions[i] == Notices::SET && not_above(CallEntries::STRIKE, notices.strikes[i])
     })
 }
 
 // 5: call end before start.
-pub fn set_order(actions: &[u32], starts: &[u32], ends: &[u32]) -> Result<(), Refusal>
-    requires actions_len_bound { length actions.now ≤ 256 }
-    requires starts_len { length starts.now ≡ length actions.now }
-    requires ends_len { length ends.now ≡ length actions.now }
-    ensures { result ≡ set_order actions.now starts.now ends.now }
+pub fn set_order(notices: Notices<'_>) -> Result<(), Refusal>
+    requires actions_len_bound { length notices.actions.now ≤ 256 }
+    requires starts_len { length notices.starts.now ≡ length notices.actions.now }
+    requires ends_len { length notices.ends.now ≡ length notices.actions.now }
+    ensures { result ≡ set_order notices.entry.actions.now notices.entry.starts.now notices.entry.ends.now }
 {
-    refused_first(Reason::CallOrder, actions.len(), |i| {
-        actions[i] == Notices::SET && ends[i] < starts[i]
+    refused_first(Reason::CallOrder, notices.actions.len(), |i| {
+        notices.actions[i] == Notices::SET && notices.ends[i] < notices.starts[i]
     })
 }

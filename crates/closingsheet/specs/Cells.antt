@@ -1,12 +1,16 @@
 -- Definitions only. A value in 16 columns of the closing sheet.
 use Rattle.std.specs.Option.{option_map_or}
-use Rattle.std.specs.Prelude.{true, false, cond, ltb, take, replicate, Float}
+use Rattle.std.specs.Prelude.{Bool, true, false, cond, ltb, List, take, replicate, Float, ℕ}
 use Rattle.decimal.specs.declared.Rounded.{Rounded}
 use Rattle.std.specs.Prelude.{Option, Some, None}
 use Rattle.decimal.specs.Writing.{decimals_of}
 use Rattle.bondreport.specs.Columns.{blank_line}
 use Rattle.bondreport.specs.Figures.{before, decimals_left}
-use Rattle.closingsheet.specs.declared.ValueCell.{ValueCell}
+
+-- A value in 16 columns, and whether it is too wide for them.
+pub record ValueCell : Type 0 where
+  pub wide : Bool
+  pub cell : List ℕ
 
 -- Nothing beyond ±999,999,999,999.99 after rounding is printed.
 abbrev pub fitting : Rounded → Option Rounded
@@ -24,6 +28,10 @@ cell_of value =
     (λ shown. record { wide = false; cell = take 16 (decimals_left (before blank_line 16) 2 shown).line })
     value
     (record { wide = true; cell = replicate 16 32 })
+
+-- The columns, where the value isn't too wide for them.
+abbrev pub fitted_cell : ValueCell → Option (List ℕ)
+fitted_cell value = cond value.wide None (Some value.cell)
 
 abbrev pub value_cell : Float → ValueCell
 value_cell x = cell_of (printed_of x)

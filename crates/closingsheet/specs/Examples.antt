@@ -9,9 +9,8 @@ use Rattle.bondreport.specs.Columns.{put_at}
 use Rattle.bondreport.specs.Numbers.{byte_left, digits_left, width_of, whole_left}
 use Rattle.bondreport.specs.Figures.{point_left, minus_left}
 use Rattle.floats.specs.declared.Refusal.{Refusal}
-use Rattle.closingsheet.specs.declared.ValueCell.{ValueCell}
 use Rattle.closingsheet.specs.declared.ClosingLine.{ClosingLine}
-use Rattle.closingsheet.specs.Cells.{printed_of, value_cell}
+use Rattle.closingsheet.specs.Cells.{ValueCell, printed_of, value_cell}
 use Rattle.closingsheet.specs.Sheet.{at, answer_sheet, sheet_by, sheet_of}
 use Rattle.floats.specs.declared.Reason.TheVariants as reason
 

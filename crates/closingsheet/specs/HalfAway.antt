@@ -9,9 +9,8 @@ use Rattle.terms.specs.Terms.{CallSchedule, Market}
 use Rattle.treebasedbondpricer.specs.declared.TreeValue.{TreeValue}
 use Rattle.floats.specs.Answers.{Outcome}
 use Rattle.treebasedbondpricer.specs.Tree.{tree_value, Lent, room_of, lent_after}
-use Rattle.closingsheet.specs.declared.ValueCell.{ValueCell}
 use Rattle.closingsheet.specs.declared.ClosingLine.{ClosingLine}
-use Rattle.closingsheet.specs.Cells.{cell_of}
+use Rattle.closingsheet.specs.Cells.{ValueCell, cell_of}
 use Rattle.closingsheet.specs.Sheet.{sheet_by}
 
 -- a / c to a whole number, a half going away from zero; the sign stands apart.

@@ -8,9 +8,8 @@ use Rattle.bondreport.specs.Numbers.{byte_left, digits_left, whole_left}
 use Rattle.bondreport.specs.Figures.{put_whole, point_left, minus_left}
 use Rattle.treebasedbondpricer.specs.declared.TreeValue.{TreeValue}
 use Rattle.floats.specs.Answers.{Outcome}
-use Rattle.closingsheet.specs.declared.ValueCell.{ValueCell}
 use Rattle.closingsheet.specs.declared.ClosingLine.{ClosingLine}
-use Rattle.closingsheet.specs.Cells.{printed_of, value_cell}
+use Rattle.closingsheet.specs.Cells.{ValueCell, printed_of, value_cell}
 use Rattle.floats.specs.declared.Reason.TheVariants as reason
 
 abbrev pub at : Reason → ℕ → Refusal

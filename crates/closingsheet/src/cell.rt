@@ -1,8 +1,7 @@
 // A value in 16 columns.
 ghost use Rattle.std.specs.Prelude.{◌≡◌, ◌≤◌, take};
-ghost use Rattle.closingsheet.specs.Cells.{value_cell};
+ghost use Rattle.closingsheet.specs.Cells.{fitted_cell, value_cell};
 
-use crate::ValueCell;
 use crate::printed::printed;
 use bondreport::columns::blank;
 use bondreport::{Leftward, Line};
@@ -17,18 +16,12 @@ pub fn first_columns<const N: usize>(line: Line) -> [u8; N]
     columns
 }
 
-// A value with two decimals, right-justified, without a sign on a zero.
-pub fn value_cell(x: f64) -> ValueCell
-    ensures { result ≡ value_cell x }
+// A value with two decimals, right-justified, without a sign on a zero; none where it is too wide.
+pub fn value_cell(x: f64) -> Option<[u8; 16]>
+    ensures { result ≡ fitted_cell (value_cell x) }
 {
     match printed(x) {
-        Some(shown) => ValueCell {
-            wide: false,
-            cell: first_columns(Leftward::before(blank(), 16).decimals(2, shown).line),
-        },
-        None => ValueCell {
-            wide: true,
-            cell: [b' '; 16],
-        },
+        Some(shown) => Some(first_columns(Leftward::before(blank(), 16).decimals(2, shown).line)),
+        None => None,
     }
 }

@@ -8,14 +8,7 @@ pub mod entry;
 pub mod line;
 mod printed;
 
-// A value in 16 columns. Where it is too wide for them the cell is blank.
-#[derive(Drop)]
-pub struct ValueCell {
-    pub wide: bool,
-    pub cell: [u8; 16],
-}
-
-// A bond's line, and why it has no value.
+// A bond's line, and why it has no value: a refused bond has a line too.
 #[derive(Drop)]
 pub struct ClosingLine {
     pub refusal: Option<Refusal>,

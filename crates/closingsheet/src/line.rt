@@ -46,18 +46,16 @@ fn value_sheet(bond: u32, x: f64, count: u64) -> ClosingLine
     ensures { result ≡ value_sheet bond (value_cell x) count }
 {
     let start = numbered(bond);
-    let value = value_cell(x);
-    if value.wide || count > ClosingLine::MOST_NODES {
-        let too_wide = Refusal {
-            reason: Reason::TooWide,
-            place: 0,
-        };
-        return refused_on(start, too_wide);
-    }
-    let counted = put_whole(start, 30, count);
-    ClosingLine {
-        refusal: None,
-        line: first_columns(put(counted, 6, &value.cell)),
+    let too_wide = Refusal {
+        reason: Reason::TooWide,
+        place: 0,
+    };
+    match value_cell(x) {
+        Some(cell) if count <= ClosingLine::MOST_NODES => ClosingLine {
+            refusal: None,
+            line: first_columns(put(put_whole(start, 30, count), 6, &cell)),
+        },
+        _ => refused_on(start, too_wide),
     }
 }
 

@@ -4,22 +4,20 @@ ghost use Rattle.std.specs.Prelude.{◌≡◌, ◌≤◌, Err};
 ghost use Rattle.bondevents.specs.Calls.{joined, put_above, puts_below};
 ghost use Rattle.floats.specs.declared.Reason.TheVariants as reason;
 
-use bondevents::{CallStep, Exercise};
+use bondevents::CallStep;
 use floats::{Reason, Refusal};
 
 // The call and the put of each step.
-pub fn joined_steps(calls: [Exercise; 513], puts: [Exercise; 513]) -> [CallStep; 513]
+pub fn joined_steps(calls: [Option<f64>; 513], puts: [Option<f64>; 513]) -> [CallStep; 513]
     ensures { result ≡ joined calls puts }
 {
     let none = CallStep::new();
     let mut steps = [none; 513];
-    let mut i: usize = 0;
-    while i < 513 {
-        let call = calls[i];
-        let put = puts[i];
-        let step = CallStep { call, put };
-        steps[i] = step;
-        i += 1;
+    for i in 0..513 {
+        steps[i] = CallStep {
+            call: calls[i],
+            put: puts[i],
+        };
     }
     steps
 }
@@ -28,15 +26,10 @@ pub fn joined_steps(calls: [Exercise; 513], puts: [Exercise; 513]) -> [CallStep;
 fn put_above(step: CallStep) -> bool
     ensures { result ≡ put_above step }
 {
-    let call = step.call;
-    let put = step.put;
-    if call.marked {
-        if put.marked {
-            return call.price < put.price;
-        }
-        return false;
+    match (step.call, step.put) {
+        (Some(call), Some(put)) => call < put,
+        _ => false,
     }
-    false
 }
 
 // 38 at a step.
@@ -54,13 +47,10 @@ fn above_at(step: usize) -> Result<(), Refusal>
 pub fn puts_below(steps: [CallStep; 513]) -> Result<(), Refusal>
     ensures { result ≡ puts_below steps }
 {
-    let mut i: usize = 0;
-    while i < 513 {
-        let step = steps[i];
-        if put_above(step) {
+    for i in 0..513 {
+        if put_above(steps[i]) {
             return above_at(i);
         }
-        i += 1;
     }
     Ok(())
 }

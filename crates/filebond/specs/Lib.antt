@@ -1,2 +1,3 @@
 pub mod Bond
+pub mod Lists
 pub mod laws

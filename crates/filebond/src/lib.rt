@@ -1,4 +1,5 @@
 // The bond that a file says.
 #![tactic(auto)]
 
+pub mod lists;
 pub mod parts;

@@ -6,14 +6,12 @@ use mathlib.Core.List.{List, ◌++◌, map}
 use native.Mathlib.Omega.{arith}
 use lib.ListN.{length, get_or, take, drop, replicate, length-map, length-take, length-replicate, get_or-replicate, get_or-eq_default}
 use lib.Seq.{get_or-take, get_or-drop, get_or-append-add, length-take-le}
-use lib.Ieee.{Float}
 use Rattle.terms.specs.laws.Searching.{below_or_not}
 use Rattle.bondfile.specs.File.{Numbered, entries_of, of_kind}
 use Rattle.bondfile.specs.Storing.{Stored}
 use Rattle.filebond.specs.laws.Held.{held}
 use Rattle.places.specs.declared.Whose.{Whose}
 use Rattle.places.specs.declared.Whose.TheVariants.{Nobody, Steps, Settlement, Units, Alpha, Spread, Cashflow, Call, Sigma, Pillar}
-use Rattle.places.specs.Places.{whose_day, whose_field, whose_number}
 use Rattle.places.specs.Blame.{or_else}
 use Rattle.fileline.specs.Lines.{line_at, line_for}
 
@@ -60,16 +58,6 @@ no_line text kind place l =
 
 -- ---- who is blamed
 
--- By what is equal to what was read.
-pub same_days : {r : Whose} {day d : ℕ} {days ds kinds ks starts ss ends es : List ℕ} (place : ℕ) → r ≡ whose_day place day days kinds starts ends → day ≡ d → days ≡ ds → kinds ≡ ks → starts ≡ ss → ends ≡ es → r ≡ whose_day place d ds ks ss es
-same_days place h a b c d e = cc
-
-pub same_field : {r : Whose} {units u alpha a spread s : Float} → r ≡ whose_field units alpha spread → units ≡ u → alpha ≡ a → spread ≡ s → r ≡ whose_field u a s
-same_field h a b c = cc
-
-pub same_numbers : {r : Whose} {amounts xs strikes ks times ts sigmas ss : List Float} (place : ℕ) → r ≡ whose_number place amounts strikes times sigmas → amounts ≡ xs → strikes ≡ ks → times ≡ ts → sigmas ≡ ss → r ≡ whose_number place xs ks ts ss
-same_numbers place h a b c d = cc
-
 -- All but nobody.
 pub somebody : (w f e : Whose) → (w ≡ Nobody → ⊥) → w ≡ f → w ≡ or_else f e
 unfolding or_else
@@ -93,5 +81,5 @@ nobody f e p q h = h ∙ ap (λ (z : Whose). or_else z e) (sym q ∙ p)
 
 -- ---- the line of whoever is blamed
 
-pub line_of-blamed : {r : ℕ} {w v : Whose} (text : List ℕ) (b : Whose) (place : ℕ) → w ≡ b → w ≡ v → r ≡ line_for text v place → r ≡ line_for text b place
-line_of-blamed text b place p q h = h ∙ ap (λ (z : Whose). line_for text z place) (sym q ∙ p)
+pub line_of_blamed : {r : ℕ} {w v : Whose} (text : List ℕ) (b : Whose) (place : ℕ) → w ≡ b → w ≡ v → r ≡ line_for text v place → r ≡ line_for text b place
+line_of_blamed text b place p q h = h ∙ ap (λ (z : Whose). line_for text z place) (sym q ∙ p)

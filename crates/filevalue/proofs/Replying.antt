@@ -1,17 +1,13 @@
--- What an entry answers of fields that were read is the reply. Assumes nothing.
+-- What an entry answers is the reply. Assumes nothing.
 use Rattle.std.specs.Prelude.{Ok, Err}
 use mathlib.Core.Path.{◌≡◌, refl, ap, ◌∙◌}
-use mathlib.Core.List.{List}
-use Prim.Native.Nat.{ℕ}
 use lib.ListN.{length, length-replicate}
 use lib.IntN.{pos}
 use lib.Ieee.{Float}
 use Rattle.floats.specs.Answers.{plus_zero, Check, Outcome}
 use Rattle.terms.specs.Checks.{on_check}
 use Rattle.terms.specs.Entries.{tree_checks}
-use Rattle.terms.specs.Terms.{Leg, CallSchedule, SigmaSchedule, Pillars, Market}
-use Rattle.bondfile.specs.declared.Fields.{Fields}
-use Rattle.bondfile.specs.Storing.{FieldsRead}
+use Rattle.terms.specs.Terms.{CallSchedule, Market}
 use Rattle.treebasedbondpricer.specs.declared.TreeValue.{TreeValue}
 use Rattle.treebasedbondpricer.specs.Tree.{tree_value, Lent, room_of, zeroed, lent_after}
 use Rattle.treebasedbondpricer.specs.Entry.{Entered}
@@ -21,20 +17,15 @@ use Rattle.spreads.specs.Spreads.{quoting, Solved}
 use Rattle.filevalue.specs.declared.Ask.{Ask}
 use Rattle.filevalue.specs.declared.Ask.TheVariants as ask
 use Rattle.filevalue.specs.declared.Reply.{Reply}
-use Rattle.filevalue.specs.laws.Fields.{market_at}
-use Rattle.filevalue.specs.Values.{of_value, of_root, no_calls, worth_of_calls, reply_to, left_by, market_with, Replied}
+use Rattle.filevalue.specs.Values.{of_value, of_root, no_calls, worth_of_calls, reply_to, left_by, Replied}
 
-pub valued : {asked : Ask} {text : List ℕ} {f : Fields} {leg : Leg} {sigma : SigmaSchedule} {pillars : Pillars} {calls : CallSchedule} {a : Outcome TreeValue} {r : Outcome Reply} {before after : Lent} → asked ≡ ask.Value → FieldsRead text f → Entered (market_at f leg sigma pillars f.spread) calls a before after → r ≡ of_value a → Replied asked (market_with text leg sigma pillars) calls r before after
+pub valued : {asked : Ask} {m : Market} {calls : CallSchedule} {a : Outcome TreeValue} {r : Outcome Reply} {before after : Lent} → asked ≡ ask.Value → Entered m calls a before after → r ≡ of_value a → Replied asked m calls r before after
 unfolding reply_to left_by
-valued e h v q =
-    rw (e, ← h.settled, ← h.in_units_lem, ← h.per_year_lem, ← h.at_most, ← h.with_alpha, ← h.with_spread_lem)
-    (record { reply = q ∙ ap of_value v.value; slices = v.slices })
+valued e v q = rw (e) (record { reply = q ∙ ap of_value v.value; slices = v.slices })
 
-pub solved : {asked : Ask} {text : List ℕ} {f : Fields} {leg : Leg} {sigma : SigmaSchedule} {pillars : Pillars} {calls : CallSchedule} {target : Float} {a : Searched Root} {r : Outcome Reply} {before after : Lent} → asked ≡ ask.Spread target → FieldsRead text f → Solved (quoting (market_at f leg sigma pillars f.spread) target) calls a before after → r ≡ of_root a → Replied asked (market_with text leg sigma pillars) calls r before after
+pub solved : {asked : Ask} {m : Market} {calls : CallSchedule} {target : Float} {a : Searched Root} {r : Outcome Reply} {before after : Lent} → asked ≡ ask.Spread target → Solved (quoting m target) calls a before after → r ≡ of_root a → Replied asked m calls r before after
 unfolding reply_to left_by
-solved e h v q =
-    rw (e, ← h.settled, ← h.in_units_lem, ← h.per_year_lem, ← h.at_most, ← h.with_alpha)
-    (record { reply = q ∙ ap of_root v.root; slices = v.slices })
+solved e v q = rw (e) (record { reply = q ∙ ap of_root v.root; slices = v.slices })
 
 -- ---- what the calls are worth
 
@@ -49,15 +40,15 @@ room-kept m calls l = on (tree_checks m calls)
         refl
     on (Err r) = refl
 
-pub worth : {m : Market} {calls none : CallSchedule} {a b : Outcome TreeValue} {r : Outcome Reply} {before between after : Lent} → none ≡ no_calls → Entered m calls a before between → Entered m none b between after → r ≡ worth_of_calls a b → Replied ask.Calls m calls r before after
+pub worth : {m : Market} {calls : CallSchedule} {a b : Outcome TreeValue} {r : Outcome Reply} {before between after : Lent} → Entered m calls a before between → Entered m no_calls b between after → r ≡ worth_of_calls a b → Replied ask.Calls m calls r before after
 unfolding reply_to left_by
-worth {m} {calls} {none} {a} {b} {r} {before} {between} {after} e p q w =
+worth {m} {calls} {a} {b} {r} {before} {between} {after} p q w =
     let kept : room_of between ≡ room_of before = ap room_of p.slices ∙ room-kept m calls before in
-    let bare : b ≡ tree_value m no_calls (room_of before) = q.value ∙ ap (λ (z : CallSchedule). tree_value m z (room_of between)) e ∙ ap (tree_value m no_calls) kept in
+    let bare : b ≡ tree_value m no_calls (room_of before) = q.value ∙ ap (tree_value m no_calls) kept in
     record {
       reply = w ∙ ap (λ (v : Outcome TreeValue). worth_of_calls v b) p.value ∙ ap (worth_of_calls (tree_value m calls (room_of before))) bare;
-      slices = q.slices ∙ ap (λ (z : CallSchedule). lent_after m z between) e ∙ ap (lent_after m no_calls) p.slices;
+      slices = q.slices ∙ ap (lent_after m no_calls) p.slices;
     }
 
-pub called : {asked : Ask} {text : List ℕ} {f : Fields} {leg : Leg} {sigma : SigmaSchedule} {pillars : Pillars} {calls : CallSchedule} {r : Outcome Reply} {before after : Lent} → asked ≡ ask.Calls → FieldsRead text f → Replied ask.Calls (market_at f leg sigma pillars f.spread) calls r before after → Replied asked (market_with text leg sigma pillars) calls r before after
-called e h v = rw (e, ← h.settled, ← h.in_units_lem, ← h.per_year_lem, ← h.at_most, ← h.with_alpha, ← h.with_spread_lem) v
+pub called : {asked : Ask} {m : Market} {calls : CallSchedule} {r : Outcome Reply} {before after : Lent} → asked ≡ ask.Calls → Replied ask.Calls m calls r before after → Replied asked m calls r before after
+called e v = rw (e) v

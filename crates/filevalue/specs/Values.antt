@@ -3,7 +3,7 @@ use Rattle.std.specs.Prelude.{ℕ, ◌≡◌, List, [], Float, Ok, Err}
 use Rattle.std.specs.Float.{binary64}
 use Rattle.std.specs.Float.Ieee.{sub}
 use Rattle.floats.specs.Answers.{Answer, tested, on_outcome, Outcome}
-use Rattle.terms.specs.Terms.{Leg, CallSchedule, SigmaSchedule, Pillars, Market, no_entries}
+use Rattle.terms.specs.Terms.{CallSchedule, Market}
 use Rattle.filebond.specs.Bond.{leg_of, pillars_of, market_of}
 use Rattle.lattice.specs.Layers.{Room}
 use Rattle.treebasedbondpricer.specs.declared.TreeValue.{TreeValue}
@@ -65,18 +65,6 @@ left_by (ask.Spread target) m calls lent = spreads.lent_after (quoting m target)
 pub record Replied (ask : Ask) (m : Market) (calls : CallSchedule) (answer : Outcome Reply) (before after : Lent) : Type 0 where
   pub reply : answer ≡ reply_to ask m calls (room_of before)
   pub slices : after ≡ left_by ask m calls before
-
--- A file's market with other lists.
-abbrev pub market_with : List ℕ → Leg → SigmaSchedule → Pillars → Market
-market_with text leg sigma pillars =
-    record {
-      settlement = (market_of text).settlement;
-      bond = record { leg = leg; units = (market_of text).bond.units; puts = no_entries };
-      controls = (market_of text).controls;
-      model = record { alpha = (market_of text).model.alpha; sigma = sigma };
-      spread = (market_of text).spread;
-      pillars = pillars;
-    }
 
 -- ---- without the calls
 

@@ -1,3 +1,2 @@
 -- What the proofs and the crates above cite.
-pub mod Fields
 pub mod Worth

@@ -5,7 +5,8 @@ pub mod pricing;
 pub mod tree;
 pub mod worth;
 
-// What the tree is asked: the value, what the calls are worth, or the spread behind a quote.
+// What the tree is asked: the value, what the calls are worth, or the spread behind a quote. A value and no closure, since it
+// is asked again in a larger room, and what is answered and left in the room is defined by it.
 #[derive(Clone, Copy)]
 pub enum Ask {
     Value,

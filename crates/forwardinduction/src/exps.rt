@@ -1,6 +1,6 @@
 // The exps of a layer, 64 nodes at a time, so that they are worked out side by side.
 
-ghost use Rattle.std.specs.Prelude.{◌≡◌, ◌*◌, ◌+◌, ◌<◌, ◌≤◌, min, length};
+ghost use Rattle.std.specs.Prelude.{◌≡◌, ◌*◌, ◌+◌, ◌<◌, ◌≤◌, min, length, Float};
 ghost use Rattle.elementary.specs.Exponential.{ExpRow};
 ghost use Rattle.elementary.specs.laws.Rows.{Filled};
 ghost use Rattle.forwardinduction.specs.laws.Exps.{Kept, Ready, argument_of, rate_argument, weight_argument};
@@ -25,21 +25,51 @@ fn part_exps(xs: &[f64], es: &mut [f64]) -> bool
     exp_row(xs, es, &mut ks[..n], &mut rs[..n])
 }
 
-// spacing × (−node × time_step) of the n nodes from `first` on.
-fn weight_arguments(nodes: &[i32], first: usize, n: usize, spacing: f64, dt: f64, xs: &mut [f64])
-    requires { (n ≤ length xs.old) × ((first + n) * 2 ≤ length nodes.now) }
-    ensures { Filled (argument_of (weight_argument spacing dt) nodes.now first) xs.old xs.new n }
+// What is worked out of the number of each of the n nodes from `first` on.
+pub fn arguments<F: Fn(f64) -> f64>(
+    nodes: &[i32],
+    first: usize,
+    n: usize,
+    argument: F,
+    xs: &mut [f64],
+)
+    requires room { (n ≤ length xs.old) × ((first + n) * 2 ≤ length nodes.now) }
+    requires callable { F.IsAlwaysCallable argument }
+    ensures { (f : Float → Float) → ((x r : Float) → F.post argument x r → r ≡ f x) → Filled (argument_of f nodes.now first) xs.old xs.new n }
 {
-    let mut k = 0;
-    while k < n {
+    for k in 0..n {
         let node = nodes[(first + k) * 2];
-        xs[k] = spacing * (-(node as f64) * dt);
-        k += 1;
+        xs[k] = argument(node as f64);
     }
 }
 
-// Where a part begins at node i, the exps of its weights; elsewhere nothing changes. Up to three nodes are faster one by one.
-pub fn weights(
+// Where a part begins at node i, the exps of its nodes' arguments; elsewhere nothing changes. Up to three nodes are faster one by one.
+fn exps<F: Fn(f64) -> f64>(
+    nodes: &[i32],
+    count: usize,
+    i: usize,
+    good: bool,
+    argument: F,
+    es: &mut [f64],
+) -> bool
+    requires room { (length nodes.now ≡ count * 2) × (i < count) × (length es.old ≡ 64) }
+    requires callable { F.IsAlwaysCallable argument }
+    ensures { (f : Float → Float) → ((x r : Float) → F.post argument x r → r ≡ f x) → Kept f nodes.now count good i es.old → Ready f nodes.now count result i es.new }
+{
+    if i % 64 != 0 {
+        return good;
+    }
+    let n = part_of(count - i);
+    if n < 4 {
+        return false;
+    }
+    let mut xs = [0.0; 64];
+    arguments(nodes, i, n, argument, &mut xs);
+    part_exps(&xs[..n], &mut es[..n])
+}
+
+// The exps of the weights: of spacing × (−node × time_step).
+pub(crate) fn weights(
     nodes: &[i32],
     count: usize,
     i: usize,
@@ -51,41 +81,11 @@ pub fn weights(
     requires { (length nodes.now ≡ count * 2) × (i < count) × Kept (weight_argument spacing dt) nodes.now count good i es.old }
     ensures { Ready (weight_argument spacing dt) nodes.now count result i es.new }
 {
-    if i % 64 != 0 {
-        return good;
-    }
-    let n = part_of(count - i);
-    if n < 4 {
-        return false;
-    }
-    let mut xs = [0.0; 64];
-    weight_arguments(nodes, i, n, spacing, dt, &mut xs);
-    part_exps(&xs[..n], &mut es[..n])
+    exps(nodes, count, i, good, |node| spacing * (-node * dt), es)
 }
 
-// (shift + spacing × node) × −time_step of the n nodes from `first` on.
-fn rate_arguments(
-    nodes: &[i32],
-    first: usize,
-    n: usize,
-    spacing: f64,
-    dt: f64,
-    shift: f64,
-    xs: &mut [f64],
-)
-    requires { (n ≤ length xs.old) × ((first + n) * 2 ≤ length nodes.now) }
-    ensures { Filled (argument_of (rate_argument spacing dt shift) nodes.now first) xs.old xs.new n }
-{
-    let mut k = 0;
-    while k < n {
-        let node = nodes[(first + k) * 2];
-        xs[k] = (shift + spacing * node as f64) * -dt;
-        k += 1;
-    }
-}
-
-// Where a part begins at node i, the exps of its rates; elsewhere nothing changes. Up to three nodes are faster one by one.
-pub fn discounts(
+// The exps of the rates: of (shift + spacing × node) × −time_step.
+pub(crate) fn discounts(
     nodes: &[i32],
     count: usize,
     i: usize,
@@ -98,14 +98,12 @@ pub fn discounts(
     requires { (length nodes.now ≡ count * 2) × (i < count) × Kept (rate_argument spacing dt shift) nodes.now count good i es.old }
     ensures { Ready (rate_argument spacing dt shift) nodes.now count result i es.new }
 {
-    if i % 64 != 0 {
-        return good;
-    }
-    let n = part_of(count - i);
-    if n < 4 {
-        return false;
-    }
-    let mut xs = [0.0; 64];
-    rate_arguments(nodes, i, n, spacing, dt, shift, &mut xs);
-    part_exps(&xs[..n], &mut es[..n])
+    exps(
+        nodes,
+        count,
+        i,
+        good,
+        |node| (shift + spacing * node) * -dt,
+        es,
+    )
 }

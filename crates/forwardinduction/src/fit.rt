@@ -17,7 +17,8 @@ use floats::finite::tested;
 use floats::{Reason, Refusal};
 use lattice::reach::{nothing_below, reached};
 
-// One more price in the sum: price × exp(spacing × (−node × time_step)), added. Where `known` says so, e is the exp.
+// One more price in the sum: price × exp(spacing × (−node × time_step)), added. Where `known` says so, e is the exp:
+// the flag is its part's, and an Option for each node would be made of it and at once taken apart.
 fn weigh(
     known: bool,
     e: f64,
@@ -52,13 +53,11 @@ pub fn weighted_sum(
     let mut es = [0.0; 64];
     let mut good = false;
     let mut total = 0.0;
-    let mut i = 0;
-    while i < row.len() {
+    for i in 0..row.len() {
         good = weights(nodes, row.len(), i, good, spacing, dt, &mut es);
         let node = nodes[i * 2];
         let e = es[i % 64];
         total = weigh(good, e, total, node as f64, row[i], spacing, dt, place)?;
-        i += 1;
     }
     Ok(total)
 }
@@ -79,6 +78,7 @@ pub fn shift_from(sum: f64, factor: f64, dt: f64, place: u32) -> Result<f64, Ref
     tested(log / dt, place)
 }
 
+// Apart from `weigh`: the argument of the exp, what it multiplies and what is added differ, and one function would take all three.
 // A node's state price discounted over the step: exp((shift + spacing × node) × −time_step) × price. Where `known` says so, e is the exp.
 fn discounted(
     known: bool,
@@ -148,6 +148,7 @@ fn add_share(
 }
 
 // Down, middle, up: a node's three contributions. `before` and `after` count what is reached without the node and with it.
+// The numbers are one node's, taken from the slices as they are read; nobody else has them together.
 #[tactic(auto, unfolding(floats::specs::Answers::on_outcome, crate::specs::laws::FitSteps::add_three, lattice::specs::laws::Rows::outcome_of))]
 fn add_three(
     next: &mut [f64],
@@ -173,7 +174,7 @@ fn add_three(
     add_share(next, high, second, price, up, place)
 }
 
-// A layer's contributions to the next row, nodes rising.
+// A layer's contributions to the next row, nodes rising. The next row is lent, and what is read of a layer stays slices, as in `advance`.
 pub fn onward(
     nodes: &[i32],
     probabilities: &[f64],
@@ -191,8 +192,7 @@ pub fn onward(
     let mut es = [0.0; 64];
     let mut good = false;
     let mut r = nothing_below(nodes[1]);
-    let mut i = 0;
-    while i < row.len() {
+    for i in 0..row.len() {
         good = discounts(nodes, row.len(), i, good, spacing, dt, shift, &mut es);
         let node = nodes[i * 2];
         let middle = nodes[i * 2 + 1];
@@ -213,7 +213,6 @@ pub fn onward(
             place,
         )?;
         r = after;
-        i += 1;
     }
     Ok(())
 }

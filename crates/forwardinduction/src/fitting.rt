@@ -1,4 +1,6 @@
 // The fit over all layers: a shift per step, the two lent rows alternating.
+// What is lent stays in slices of its own: of a struct of `&mut`s each contract would have to say that its borrows stay.
+// The layers that are read stay slices too: rollback's `Lattice` holds the shifts, which are lent here.
 
 ghost use Rattle.std.specs.Prelude.{◌≡◌, ◌+◌, ◌^◌, ◌<◌, ◌≤◌, length, get_or};
 ghost use Rattle.terms.specs.Curve.{curve_over};
@@ -14,6 +16,7 @@ ghost use Rattle.forwardinduction.specs.laws.Fitting.{moved_of, row_in};
 use crate::layer::{advance, layer_shift};
 use crate::rows::current;
 use floats::Refusal;
+use terms::market::Curve;
 
 // One step: the shift of the current row, then the other row.
 #[tactic(auto, unfolding(floats::specs::Answers::on_outcome, crate::specs::laws::Advances::step_at, lattice::specs::laws::Rows::outcome_of))]
@@ -23,8 +26,7 @@ fn fit_step(
     count: usize,
     spacing: f64,
     flat: bool,
-    times: &[f64],
-    factors: &[f64],
+    curve: Curve<'_>,
     dt: f64,
     step: u32,
     first: &mut [f64],
@@ -33,10 +35,10 @@ fn fit_step(
     requires count_in_bounds { (count ≤ length first.old) × (count ≤ length second.old) }
     requires layered { (Layered flat (length first.old) nodes.now probabilities.now count) × (Layered flat (length second.old) nodes.now probabilities.now count) }
     requires step_bound { step + 1 < 2 ^ 32 }
-    ensures { moved_of result (record { first = first.exit.now; second = second.new }) ≡ step_at (curve_over times.now factors.now) dt step flat count spacing nodes.now probabilities.now (record { first = first.entry.now; second = second.old }) }
+    ensures { moved_of result (record { first = first.exit.now; second = second.new }) ≡ step_at (curve_over curve.entry.times.now curve.entry.factors.now) dt step flat count spacing nodes.now probabilities.now (record { first = first.entry.now; second = second.old }) }
 {
     let row = current(first, second, step, count);
-    let shift = layer_shift(nodes, row, spacing, times, factors, dt, step)?;
+    let shift = layer_shift(nodes, row, spacing, curve, dt, step)?;
     advance(
         nodes,
         probabilities,
@@ -59,8 +61,7 @@ pub fn fit(
     counts: &[usize],
     spacings: &[f64],
     flat: bool,
-    times: &[f64],
-    factors: &[f64],
+    curve: Curve<'_>,
     dt: f64,
     step: u32,
     first: &mut [f64],
@@ -69,7 +70,7 @@ pub fn fit(
 ) -> Result<(), Refusal>
     requires laid { Laid flat (length first.old) (length second.old) counts.now spacings.now nodes.now probabilities.now }
     requires shifts_len { (length shifts.old ≡ length spacings.now) × (step + length spacings.now + 1 < 2 ^ 32) }
-    ensures { Found (shifts_from (curve_over times.now factors.now) dt step (layers_in flat counts.now spacings.now nodes.now probabilities.now) (row_in step (get_or counts.now 0 0) nodes.now (record { first = first.entry.now; second = second.old }))) result shifts.new }
+    ensures { Found (shifts_from (curve_over curve.entry.times.now curve.entry.factors.now) dt step (layers_in flat counts.now spacings.now nodes.now probabilities.now) (row_in step (get_or counts.now 0 0) nodes.now (record { first = first.entry.now; second = second.old }))) result shifts.new }
 {
     if spacings.len() == 0 {
         return Ok(());
@@ -83,8 +84,7 @@ pub fn fit(
         count,
         spacings[0],
         flat,
-        times,
-        factors,
+        curve,
         dt,
         step,
         first,
@@ -97,8 +97,7 @@ pub fn fit(
         &counts[1..],
         &spacings[1..],
         flat,
-        times,
-        factors,
+        curve,
         dt,
         step + 1,
         first,
@@ -114,8 +113,7 @@ pub fn fit_tree(
     counts: &[usize],
     spacings: &[f64],
     flat: bool,
-    times: &[f64],
-    factors: &[f64],
+    curve: Curve<'_>,
     dt: f64,
     first: &mut [f64],
     second: &mut [f64],
@@ -124,7 +122,7 @@ pub fn fit_tree(
     requires laid { Laid flat (length first.old) (length second.old) counts.now spacings.now nodes.now probabilities.now }
     requires shifts_len { (length shifts.old ≡ length spacings.now) × (length spacings.now + 1 < 2 ^ 32) }
     requires counts_value { (get_or counts.now 0 0 ≡ 1) × (numbers_in (front_nodes 1 nodes.now) ≡ root_layer) }
-    ensures { Found (fitted (curve_over times.now factors.now) dt (layers_in flat counts.now spacings.now nodes.now probabilities.now)) result shifts.new }
+    ensures { Found (fitted (curve_over curve.entry.times.now curve.entry.factors.now) dt (layers_in flat counts.now spacings.now nodes.now probabilities.now)) result shifts.new }
 {
     first[0] = 1.0;
     fit(
@@ -133,8 +131,7 @@ pub fn fit_tree(
         counts,
         spacings,
         flat,
-        times,
-        factors,
+        curve,
         dt,
         0,
         first,

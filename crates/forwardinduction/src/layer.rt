@@ -1,4 +1,6 @@
 // The fit of one step over the two lent rows: the shift, and the next row beside the current one.
+// What is lent stays in slices of its own: of a struct of `&mut`s each contract would have to say that its borrows stay.
+// The layers that are read stay slices too: rollback's `Lattice` holds the shifts, which are lent here.
 
 ghost use Rattle.std.specs.Prelude.{◌≡◌, ◌*◌, ◌+◌, ◌^◌, ◌<◌, ◌≤◌, length};
 ghost use Rattle.terms.specs.Curve.{curve_over};
@@ -12,16 +14,17 @@ use crate::fit::{onward, shift_from, weighted_sum};
 use floats::Refusal;
 use floats::finite::tested;
 use terms::curve::curve_at;
+use terms::market::Curve;
 
 // The shift of a step: the curve is read at time_step × (step + 1).
 #[tactic(auto, unfolding(floats::specs::Answers::on_outcome, crate::specs::Fit::shift_of, crate::specs::laws::FitSteps::shift_from))]
-fn shift_of(times: &[f64], factors: &[f64], dt: f64, place: u32, sum: f64) -> Result<f64, Refusal>
+fn shift_of(curve: Curve<'_>, dt: f64, place: u32, sum: f64) -> Result<f64, Refusal>
     requires { place + 1 < 2 ^ 32 }
-    ensures { result ≡ shift_of (curve_over times.now factors.now) dt place sum }
+    ensures { result ≡ shift_of (curve_over curve.entry.times.now curve.entry.factors.now) dt place sum }
 {
     let next = place + 1;
     let time = tested(dt * next as f64, place)?;
-    let factor = curve_at(times, factors, time, place)?;
+    let factor = curve_at(curve.times, curve.factors, time, place)?;
     shift_from(sum, factor, dt, place)
 }
 
@@ -30,16 +33,15 @@ pub fn layer_shift(
     nodes: &[i32],
     row: &[f64],
     spacing: f64,
-    times: &[f64],
-    factors: &[f64],
+    curve: Curve<'_>,
     dt: f64,
     place: u32,
 ) -> Result<f64, Refusal>
     requires { (length nodes.now ≡ length row.now * 2) × (place + 1 < 2 ^ 32) }
-    ensures { result ≡ layer_shift (curve_over times.now factors.now) dt place spacing (row_of (numbers_in nodes.now) row.now) }
+    ensures { result ≡ layer_shift (curve_over curve.entry.times.now curve.entry.factors.now) dt place spacing (row_of (numbers_in nodes.now) row.now) }
 {
     let sum = weighted_sum(nodes, row, spacing, dt, place)?;
-    shift_of(times, factors, dt, place, sum)
+    shift_of(curve, dt, place, sum)
 }
 
 // The current row's contributions into the other: at an even step from the first to the second.

@@ -1,7 +1,7 @@
 // Forward induction over the layers: the fit to the curve.
 #![tactic(auto, unfolding(floats::specs::Answers::on_outcome))]
 
-mod exps;
+pub mod exps;
 pub mod fit;
 pub mod fitting;
 pub mod layer;

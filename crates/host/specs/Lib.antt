@@ -1,3 +1,4 @@
+pub mod Slices
 pub mod Handed
 pub mod Sheets
 pub mod Books

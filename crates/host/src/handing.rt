@@ -2,11 +2,12 @@
 
 ghost use Rattle.std.specs.Prelude.{◌≡◌};
 ghost use Rattle.floats.specs.Reasons.{refusal_number, refusal_place};
-ghost use Rattle.host.specs.Handed.{Handed, HandedValue, HandedPrice, HandedRoot};
+ghost use Rattle.host.specs.Handed.{Handed, HandedValue, HandedPrice, HandedRoot, HandedLengths};
 
 use brackets::{NoRoot, Root};
 use floats::Refusal;
 use interestrate::YieldPrice;
+use sizing::Lengths;
 use treebasedbondpricer::TreeValue;
 
 // Of what may be refused.
@@ -19,9 +20,9 @@ pub fn hand_refusal(refusal: Option<Refusal>, place: &mut u32) -> u32
             *place = 0;
             0
         }
-        Some(refusal) => {
-            *place = refusal.place;
-            refusal.reason.number()
+        Some(refused) => {
+            *place = refused.place;
+            refused.reason.number()
         }
     }
 }
@@ -116,6 +117,36 @@ pub fn hand_root(
             *value = 0.0;
             *evaluations = none.evaluations;
             none.refusal.reason.number()
+        }
+    }
+}
+
+pub fn hand_sizes(
+    answer: Result<Lengths, Refusal>,
+    place: &mut u32,
+    nodes: &mut u64,
+    probabilities: &mut u64,
+    row: &mut u64,
+    count: &mut u64,
+) -> u32
+    ensures { HandedLengths answer result place.new nodes.new probabilities.new row.new count.new }
+{
+    match answer {
+        Ok(l) => {
+            *place = 0;
+            *nodes = l.nodes;
+            *probabilities = l.probabilities;
+            *row = l.row;
+            *count = l.count;
+            0
+        }
+        Err(refusal) => {
+            *place = refusal.place;
+            *nodes = 0;
+            *probabilities = 0;
+            *row = 0;
+            *count = 0;
+            refusal.reason.number()
         }
     }
 }

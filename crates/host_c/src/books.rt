@@ -1,10 +1,15 @@
 // A book for a C caller: all 32 values and eight counts, and the lent slices left as the entry leaves them.
 
 ghost use Rattle.host.specs.Books.{HandedBook};
-ghost use Rattle.terms.specs.Slices.{leg_in, calls_in, sigma_in, pillars_in};
+ghost use Rattle.host.specs.Slices.{leg_from, calls_from, sigma_from, pillars_from};
 ghost use Rattle.treebasedbondpricer.specs.Slices.{lent_in, lent_out};
 ghost use Rattle.bookchecks.specs.Slices.{shared_of, lists_of, fields_in};
 ghost use Rattle.bookvalue.specs.Slices.{book_of};
+
+use bookchecks::{Book, Fields, Lists, Shared};
+use bookvalue::entry::book_value;
+use host::arrays::hand_book;
+use terms::market::{CallSchedule, HullWhite, Leg, Pillars, SigmaSchedule};
 
 // Each bond's value, their sum in book order and each desk's node count, all or none.
 #[unsafe(no_mangle)]
@@ -45,46 +50,62 @@ pub extern "C" fn gutirapeo_book_value(
 ) -> u32
     ensures { HandedBook
         (book_of
-        (shared_of settlement alpha (sigma_in sigma_times sigmas) (pillars_in pillar_days pillar_factors))
+        (shared_of settlement alpha (sigma_from sigma_times sigmas) (pillars_from pillar_days pillar_factors))
         (fields_in day_counts cashflow_counts units call_counts put_counts steps_per_year max_steps spreads desks)
-        (lists_of (leg_in cashflow_days cashflow_kinds cashflow_amounts) (calls_in call_starts call_ends call_strikes) (calls_in put_starts put_ends put_strikes)))
+        (lists_of (leg_from cashflow_days cashflow_kinds cashflow_amounts) (calls_from call_starts call_ends call_strikes) (calls_from put_starts put_ends put_strikes)))
         (lent_in nodes probabilities first_row second_row)
         (lent_out nodes probabilities first_row second_row)
         result place.new bond.new values.new sum.new node_counts.new }
 {
-    host::books::gutirapeo_book_value(
-        settlement,
-        day_counts,
-        cashflow_counts,
-        cashflow_days,
-        cashflow_kinds,
-        cashflow_amounts,
-        units,
-        call_counts,
-        call_starts,
-        call_ends,
-        call_strikes,
-        put_counts,
-        put_starts,
-        put_ends,
-        put_strikes,
-        steps_per_year,
-        max_steps,
-        spreads,
-        desks,
-        alpha,
-        sigma_times,
-        sigmas,
-        pillar_days,
-        pillar_factors,
+    let answer = book_value(
+        Book {
+            shared: Shared {
+                day: settlement,
+                model: HullWhite {
+                    alpha,
+                    sigma: SigmaSchedule {
+                        times: sigma_times,
+                        sigmas,
+                    },
+                },
+                pillars: Pillars {
+                    days: pillar_days,
+                    factors: pillar_factors,
+                },
+            },
+            fields: Fields {
+                codes: day_counts,
+                cashflows: cashflow_counts,
+                units,
+                calls: call_counts,
+                puts: put_counts,
+                per_year: steps_per_year,
+                maximum: max_steps,
+                spreads,
+                desks,
+            },
+            lists: Lists {
+                leg: Leg {
+                    days: cashflow_days,
+                    kinds: cashflow_kinds,
+                    amounts: cashflow_amounts,
+                },
+                calls: CallSchedule {
+                    starts: call_starts,
+                    ends: call_ends,
+                    strikes: call_strikes,
+                },
+                puts: CallSchedule {
+                    starts: put_starts,
+                    ends: put_ends,
+                    strikes: put_strikes,
+                },
+            },
+        },
         nodes,
         probabilities,
         first_row,
         second_row,
-        place,
-        bond,
-        values,
-        sum,
-        node_counts,
-    )
+    );
+    hand_book(answer, place, bond, values, sum, node_counts)
 }

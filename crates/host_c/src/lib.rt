@@ -1,6 +1,7 @@
-// The C interface: each function of the crate host, exported under its own name. Inputs come first, then the place,
-// then the outputs; the result is the refusal number, 0 where accepted. Outputs are 0 on a refusal.
-#![tactic(auto)]
+// The C interface: a function for each public entry, exported under its own name, with a parameter for each list that C
+// hands in and each output. Inputs come first, then the place, then the outputs; the result is the refusal number, 0 where
+// accepted. Outputs are 0 on a refusal.
+#![tactic(auto, using(crate::proofs::Equal::handed_as, crate::proofs::Equal::grid_as, crate::proofs::Equal::list_as, crate::proofs::Equal::tree_as, crate::proofs::Equal::price_as, crate::proofs::Equal::root_as, crate::proofs::Equal::spread_as, crate::proofs::Equal::sizes_as_lem, crate::proofs::Lines::sheet_as, crate::proofs::Booked::book_as, crate::proofs::Pages::table_as))]
 
 mod books;
 mod notices;
@@ -23,14 +24,19 @@ ghost use Rattle.rounded.specs.Fused.{mul_add_alone};
 ghost use Rattle.floats.specs.Middle.{midpoint_alone};
 ghost use Rattle.bondevents.specs.Grid.{grid_answer};
 ghost use Rattle.terms.specs.declared.Settlement.{Settlement};
-ghost use Rattle.terms.specs.Slices.{leg_in, calls_in, pillars_in};
+ghost use Rattle.host.specs.Slices.{leg_from, calls_from, pillars_from};
+
+use host::arrays::hand_grid;
+use host::handing::{hand_over, hand_price, hand_root};
+use terms::Settlement;
+use terms::market::{Bond, CallSchedule, Leg, Pillars, TimeGrid};
 
 // The correctly rounded root; below 0 refused with 26.
 #[unsafe(no_mangle)]
 pub extern "C" fn gutirapeo_sqrt(x: f64, place: &mut u32, value: &mut f64) -> u32
     ensures { Handed (sqrt_alone x) result place.new value.new }
 {
-    host::gutirapeo_sqrt(x, place, value)
+    hand_over(rounded::sqrt::sqrt(x), place, value)
 }
 
 // The nearest whole number, a half away from zero.
@@ -38,7 +44,7 @@ pub extern "C" fn gutirapeo_sqrt(x: f64, place: &mut u32, value: &mut f64) -> u3
 pub extern "C" fn gutirapeo_round(x: f64, place: &mut u32, value: &mut f64) -> u32
     ensures { Handed (round_alone x) result place.new value.new }
 {
-    host::gutirapeo_round(x, place, value)
+    hand_over(floats::round::round(x), place, value)
 }
 
 // The lowest whole number not below x.
@@ -46,7 +52,7 @@ pub extern "C" fn gutirapeo_round(x: f64, place: &mut u32, value: &mut f64) -> u
 pub extern "C" fn gutirapeo_ceil(x: f64, place: &mut u32, value: &mut f64) -> u32
     ensures { Handed (ceil_alone x) result place.new value.new }
 {
-    host::gutirapeo_ceil(x, place, value)
+    hand_over(floats::ceil::ceil(x), place, value)
 }
 
 // The greater of two, the first where equal.
@@ -54,7 +60,7 @@ pub extern "C" fn gutirapeo_ceil(x: f64, place: &mut u32, value: &mut f64) -> u3
 pub extern "C" fn gutirapeo_max(a: f64, b: f64, place: &mut u32, value: &mut f64) -> u32
     ensures { Handed (max_alone a b) result place.new value.new }
 {
-    host::gutirapeo_max(a, b, place, value)
+    hand_over(floats::max::max(a, b), place, value)
 }
 
 // The lower of two, the first where equal.
@@ -62,7 +68,7 @@ pub extern "C" fn gutirapeo_max(a: f64, b: f64, place: &mut u32, value: &mut f64
 pub extern "C" fn gutirapeo_min(a: f64, b: f64, place: &mut u32, value: &mut f64) -> u32
     ensures { Handed (min_alone a b) result place.new value.new }
 {
-    host::gutirapeo_min(a, b, place, value)
+    hand_over(floats::min::min(a, b), place, value)
 }
 
 // exp(x); above 700 refused with 26.
@@ -70,7 +76,7 @@ pub extern "C" fn gutirapeo_min(a: f64, b: f64, place: &mut u32, value: &mut f64
 pub extern "C" fn gutirapeo_exp(x: f64, place: &mut u32, value: &mut f64) -> u32
     ensures { Handed (exp_alone x) result place.new value.new }
 {
-    host::gutirapeo_exp(x, place, value)
+    hand_over(elementary::exp::exp(x), place, value)
 }
 
 // exp(x) − 1; where exp refuses, so does it.
@@ -78,7 +84,7 @@ pub extern "C" fn gutirapeo_exp(x: f64, place: &mut u32, value: &mut f64) -> u32
 pub extern "C" fn gutirapeo_exp_m1(x: f64, place: &mut u32, value: &mut f64) -> u32
     ensures { Handed (exp_m1_alone x) result place.new value.new }
 {
-    host::gutirapeo_exp_m1(x, place, value)
+    hand_over(elementary::exp_m1::exp_m1(x), place, value)
 }
 
 // ln(x); below 2^−1022 refused with 26.
@@ -86,7 +92,7 @@ pub extern "C" fn gutirapeo_exp_m1(x: f64, place: &mut u32, value: &mut f64) -> 
 pub extern "C" fn gutirapeo_ln(x: f64, place: &mut u32, value: &mut f64) -> u32
     ensures { Handed (ln_alone x) result place.new value.new }
 {
-    host::gutirapeo_ln(x, place, value)
+    hand_over(elementary::ln::ln(x), place, value)
 }
 
 // b to the power y, as exp(y × ln(b)).
@@ -94,7 +100,7 @@ pub extern "C" fn gutirapeo_ln(x: f64, place: &mut u32, value: &mut f64) -> u32
 pub extern "C" fn gutirapeo_powf(b: f64, y: f64, place: &mut u32, value: &mut f64) -> u32
     ensures { Handed (powf_alone b y) result place.new value.new }
 {
-    host::gutirapeo_powf(b, y, place, value)
+    hand_over(elementary::powf::powf(b, y), place, value)
 }
 
 // a × b + c rounded once.
@@ -102,7 +108,7 @@ pub extern "C" fn gutirapeo_powf(b: f64, y: f64, place: &mut u32, value: &mut f6
 pub extern "C" fn gutirapeo_mul_add(a: f64, b: f64, c: f64, place: &mut u32, value: &mut f64) -> u32
     ensures { Handed (mul_add_alone a b c) result place.new value.new }
 {
-    host::gutirapeo_mul_add(a, b, c, place, value)
+    hand_over(rounded::mul_add::mul_add(a, b, c), place, value)
 }
 
 // (a + b)/2.
@@ -110,7 +116,7 @@ pub extern "C" fn gutirapeo_mul_add(a: f64, b: f64, c: f64, place: &mut u32, val
 pub extern "C" fn gutirapeo_midpoint(a: f64, b: f64, place: &mut u32, value: &mut f64) -> u32
     ensures { Handed (midpoint_alone a b) result place.new value.new }
 {
-    host::gutirapeo_midpoint(a, b, place, value)
+    hand_over(floats::midpoint::midpoint(a, b), place, value)
 }
 
 // The event grid: maturity time, steps, and all 513 cashflows, call marks and prices, put marks and prices.
@@ -141,34 +147,41 @@ pub extern "C" fn gutirapeo_grid(
 ) -> u32
     ensures { HandedGrid
         (grid_answer (record { day = settlement; code = code })
-        (record { leg = leg_in days kinds amounts; units = units; puts = calls_in put_starts put_ends put_strikes })
-        (calls_in starts ends strikes)
+        (record { leg = leg_from days kinds amounts; units = units; puts = calls_from put_starts put_ends put_strikes })
+        (calls_from starts ends strikes)
         (record { per_year = yearly; maximum = maximum }))
         result place.new maturity.new steps.new cashflows.new marks.new prices.new put_marks.new put_prices.new }
 {
-    host::gutirapeo_grid(
-        settlement,
-        code,
-        days,
-        kinds,
-        amounts,
-        units,
-        starts,
-        ends,
-        strikes,
-        put_starts,
-        put_ends,
-        put_strikes,
-        yearly,
-        maximum,
-        place,
-        maturity,
-        steps,
-        cashflows,
-        marks,
-        prices,
-        put_marks,
-        put_prices,
+    let answer = eventgrid::grid::bond_event_grid(
+        Settlement {
+            day: settlement,
+            code,
+        },
+        Bond {
+            leg: Leg {
+                days,
+                kinds,
+                amounts,
+            },
+            units,
+            puts: CallSchedule {
+                starts: put_starts,
+                ends: put_ends,
+                strikes: put_strikes,
+            },
+        },
+        CallSchedule {
+            starts,
+            ends,
+            strikes,
+        },
+        TimeGrid {
+            per_year: yearly,
+            maximum,
+        },
+    );
+    hand_grid(
+        answer, place, maturity, steps, cashflows, marks, prices, put_marks, put_prices,
     )
 }
 
@@ -188,14 +201,28 @@ pub extern "C" fn gutirapeo_straight_value(
 ) -> u32
     ensures { Handed
         (straight_value (record { day = settlement; code = code })
-        (leg_in days kinds amounts)
+        (leg_from days kinds amounts)
         spread
-        (pillars_in pillars factors))
+        (pillars_from pillars factors))
         result place.new value.new }
 {
-    host::gutirapeo_straight_value(
-        settlement, code, days, kinds, amounts, spread, pillars, factors, place, value,
-    )
+    let answer = bondpricer::straight_value(
+        Settlement {
+            day: settlement,
+            code,
+        },
+        Leg {
+            days,
+            kinds,
+            amounts,
+        },
+        spread,
+        Pillars {
+            days: pillars,
+            factors,
+        },
+    );
+    hand_over(answer, place, value)
 }
 
 // The price that a yield means, and its derivative.
@@ -215,23 +242,25 @@ pub extern "C" fn gutirapeo_price_from_yield(
 ) -> u32
     ensures { HandedPrice
         (price_from_yield (record { day = settlement; code = code })
-        (leg_in days kinds amounts)
+        (leg_from days kinds amounts)
         compounding frequency given)
         result place.new price.new derivative.new }
 {
-    host::gutirapeo_price_from_yield(
-        settlement,
-        code,
-        days,
-        kinds,
-        amounts,
+    let answer = bondanalytics::yields::price_from_yield(
+        Settlement {
+            day: settlement,
+            code,
+        },
+        Leg {
+            days,
+            kinds,
+            amounts,
+        },
         compounding,
         frequency,
         given,
-        place,
-        price,
-        derivative,
-    )
+    );
+    hand_price(answer, place, price, derivative)
 }
 
 // The yield that a price means, and the evaluations that the search made.
@@ -251,21 +280,23 @@ pub extern "C" fn gutirapeo_yield_from_price(
 ) -> u32
     ensures { HandedRoot
         (yield_from_price (record { day = settlement; code = code })
-        (leg_in days kinds amounts)
+        (leg_from days kinds amounts)
         compounding frequency target)
         result place.new value.new evaluations.new }
 {
-    host::gutirapeo_yield_from_price(
-        settlement,
-        code,
-        days,
-        kinds,
-        amounts,
+    let answer = bondanalytics::yields::yield_from_price(
+        Settlement {
+            day: settlement,
+            code,
+        },
+        Leg {
+            days,
+            kinds,
+            amounts,
+        },
         compounding,
         frequency,
         target,
-        place,
-        value,
-        evaluations,
-    )
+    );
+    hand_root(answer, place, value, evaluations)
 }

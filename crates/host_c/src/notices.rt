@@ -4,6 +4,10 @@ ghost use Rattle.callnotices.specs.Notices.{notices_in};
 ghost use Rattle.callnotices.specs.Lists.{call_list};
 ghost use Rattle.host.specs.Handed.{HandedList};
 
+use callnotices::Notices;
+use callnotices::entry::call_list;
+use host::arrays::hand_list;
+
 // The call list of the notices that stand: how many entries, and 64 starts, ends and strikes.
 #[unsafe(no_mangle)]
 pub extern "C" fn gutirapeo_call_list(
@@ -23,17 +27,13 @@ pub extern "C" fn gutirapeo_call_list(
         (call_list (notices_in series versions actions starts ends strikes))
         result place.new count.new call_starts.new call_ends.new call_strikes.new }
 {
-    host::notices::gutirapeo_call_list(
+    let answer = call_list(Notices {
         series,
         versions,
         actions,
         starts,
         ends,
         strikes,
-        place,
-        count,
-        call_starts,
-        call_ends,
-        call_strikes,
-    )
+    });
+    hand_list(answer, place, count, call_starts, call_ends, call_strikes)
 }

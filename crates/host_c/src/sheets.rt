@@ -2,8 +2,13 @@
 
 ghost use Rattle.host.specs.Sheets.{HandedSheet};
 ghost use Rattle.terms.specs.declared.Settlement.{Settlement};
-ghost use Rattle.terms.specs.Slices.{leg_in, calls_in, sigma_in, pillars_in, market_in};
+ghost use Rattle.host.specs.Slices.{leg_from, calls_from, sigma_from, pillars_from, market_from};
 ghost use Rattle.treebasedbondpricer.specs.Slices.{lent_in, lent_out};
+
+use closingsheet::entry::closing_line;
+use host::arrays::hand_line;
+use terms::Settlement;
+use terms::market::{Bond, CallSchedule, HullWhite, Leg, Market, Pillars, SigmaSchedule, TimeGrid};
 
 // A bond's line of the closing sheet: zero after 31, and printed after every other refusal.
 #[unsafe(no_mangle)]
@@ -38,40 +43,59 @@ pub extern "C" fn gutirapeo_closing_line(
 ) -> u32
     ensures { HandedSheet
         bond
-        (market_in (record { day = settlement; code = code }) (leg_in cashflow_days cashflow_kinds cashflow_amounts) units
-        (calls_in put_starts put_ends put_strikes) steps_per_year max_steps alpha (sigma_in sigma_times sigmas) spread (pillars_in pillar_days pillar_factors))
-        (calls_in call_starts call_ends call_strikes)
+        (market_from (record { day = settlement; code = code }) (leg_from cashflow_days cashflow_kinds cashflow_amounts) units
+        (calls_from put_starts put_ends put_strikes) steps_per_year max_steps alpha (sigma_from sigma_times sigmas) spread (pillars_from pillar_days pillar_factors))
+        (calls_from call_starts call_ends call_strikes)
         (lent_in nodes probabilities first_row second_row)
         (lent_out nodes probabilities first_row second_row)
         result place.new line.new }
 {
-    host::sheets::gutirapeo_closing_line(
+    let answer = closing_line(
         bond,
-        settlement,
-        code,
-        cashflow_days,
-        cashflow_kinds,
-        cashflow_amounts,
-        units,
-        call_starts,
-        call_ends,
-        call_strikes,
-        put_starts,
-        put_ends,
-        put_strikes,
-        steps_per_year,
-        max_steps,
-        alpha,
-        sigma_times,
-        sigmas,
-        spread,
-        pillar_days,
-        pillar_factors,
+        Market {
+            settlement: Settlement {
+                day: settlement,
+                code,
+            },
+            bond: Bond {
+                leg: Leg {
+                    days: cashflow_days,
+                    kinds: cashflow_kinds,
+                    amounts: cashflow_amounts,
+                },
+                units,
+                puts: CallSchedule {
+                    starts: put_starts,
+                    ends: put_ends,
+                    strikes: put_strikes,
+                },
+            },
+            controls: TimeGrid {
+                per_year: steps_per_year,
+                maximum: max_steps,
+            },
+            model: HullWhite {
+                alpha,
+                sigma: SigmaSchedule {
+                    times: sigma_times,
+                    sigmas,
+                },
+            },
+            spread,
+            pillars: Pillars {
+                days: pillar_days,
+                factors: pillar_factors,
+            },
+        },
+        CallSchedule {
+            starts: call_starts,
+            ends: call_ends,
+            strikes: call_strikes,
+        },
         nodes,
         probabilities,
         first_row,
         second_row,
-        place,
-        line,
-    )
+    );
+    hand_line(answer, place, line)
 }

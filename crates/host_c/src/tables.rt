@@ -3,8 +3,13 @@
 ghost use Rattle.floats.specs.Answers.{plus_zero};
 ghost use Rattle.host.specs.Tables.{HandedTable};
 ghost use Rattle.terms.specs.declared.Settlement.{Settlement};
-ghost use Rattle.terms.specs.Slices.{leg_in, calls_in, sigma_in, pillars_in, market_in};
+ghost use Rattle.host.specs.Slices.{leg_from, calls_from, sigma_from, pillars_from, market_from};
 ghost use Rattle.treebasedbondpricer.specs.Slices.{lent_in, lent_out};
+
+use host::arrays::hand_page;
+use spreadtable::entry::spread_table;
+use terms::Settlement;
+use terms::market::{Bond, CallSchedule, HullWhite, Leg, Market, Pillars, SigmaSchedule, TimeGrid};
 
 // A row for each shift and a column for each spread. After 45 the page is all zero and the slices are untouched; else they are all zero.
 #[unsafe(no_mangle)]
@@ -39,43 +44,62 @@ pub extern "C" fn gutirapeo_spread_table(
     page: &mut [u8; 4112],
 ) -> u32
     ensures { HandedTable
-        (market_in (record { day = settlement; code = code }) (leg_in cashflow_days cashflow_kinds cashflow_amounts) units
-        (calls_in put_starts put_ends put_strikes) steps_per_year max_steps alpha (sigma_in sigma_times sigmas) plus_zero (pillars_in pillar_days pillar_factors))
-        (calls_in call_starts call_ends call_strikes)
+        (market_from (record { day = settlement; code = code }) (leg_from cashflow_days cashflow_kinds cashflow_amounts) units
+        (calls_from put_starts put_ends put_strikes) steps_per_year max_steps alpha (sigma_from sigma_times sigmas) plus_zero (pillars_from pillar_days pillar_factors))
+        (calls_from call_starts call_ends call_strikes)
         spreads.now
         shifts.now
         (lent_in nodes probabilities first_row second_row)
         (lent_out nodes probabilities first_row second_row)
         result place.new length.new page.new }
 {
-    host::tables::gutirapeo_spread_table(
-        settlement,
-        code,
-        cashflow_days,
-        cashflow_kinds,
-        cashflow_amounts,
-        units,
-        call_starts,
-        call_ends,
-        call_strikes,
-        put_starts,
-        put_ends,
-        put_strikes,
-        steps_per_year,
-        max_steps,
-        alpha,
-        sigma_times,
-        sigmas,
-        pillar_days,
-        pillar_factors,
+    let answer = spread_table(
+        Market {
+            settlement: Settlement {
+                day: settlement,
+                code,
+            },
+            bond: Bond {
+                leg: Leg {
+                    days: cashflow_days,
+                    kinds: cashflow_kinds,
+                    amounts: cashflow_amounts,
+                },
+                units,
+                puts: CallSchedule {
+                    starts: put_starts,
+                    ends: put_ends,
+                    strikes: put_strikes,
+                },
+            },
+            controls: TimeGrid {
+                per_year: steps_per_year,
+                maximum: max_steps,
+            },
+            model: HullWhite {
+                alpha,
+                sigma: SigmaSchedule {
+                    times: sigma_times,
+                    sigmas,
+                },
+            },
+            spread: 0.0,
+            pillars: Pillars {
+                days: pillar_days,
+                factors: pillar_factors,
+            },
+        },
+        CallSchedule {
+            starts: call_starts,
+            ends: call_ends,
+            strikes: call_strikes,
+        },
         spreads,
         shifts,
         nodes,
         probabilities,
         first_row,
         second_row,
-        place,
-        length,
-        page,
-    )
+    );
+    hand_page(answer, place, length, page)
 }

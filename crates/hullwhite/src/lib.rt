@@ -4,11 +4,3 @@
 
 pub mod variance;
 pub mod weight;
-
-// The model of a call: alpha, and sigma by its times and values.
-#[derive(Clone, Copy)]
-pub struct HullWhite<'a> {
-    pub alpha: f64,
-    pub sigma_times: &'a [f64],
-    pub sigmas: &'a [f64],
-}

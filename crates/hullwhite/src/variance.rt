@@ -1,15 +1,16 @@
 // hull_white_piecewise_variance and transition_variances.
 
 ghost use Rattle.std.specs.Prelude.{◌≡◌, ◌≤◌, length};
-ghost use Rattle.hullwhite.specs.Variance.{with_piece, variance_over, step_variance, transition_variances};
-ghost use Rattle.hullwhite.specs.laws.Filled.{Filled, model_of};
+ghost use Rattle.terms.specs.Market.{model_in};
+ghost use Rattle.hullwhite.specs.Variance.{with_piece, piecewise_variance, step_variance, transition_variances};
+ghost use Rattle.hullwhite.specs.laws.Filled.{Filled};
 
-use crate::HullWhite;
 use crate::weight::{Piece, weight};
 use floats::Refusal;
 use floats::finite::tested;
 use floats::max::greater;
 use floats::min::lesser;
+use terms::market::HullWhite;
 
 // One sigma's piece: nothing where upper ≤ lower; else sigma × sigma × weight is added.
 fn with_piece(alpha: f64, piece: Piece, sigma: f64, total: f64, place: u32) -> Result<f64, Refusal>
@@ -31,20 +32,17 @@ pub fn hull_white_piecewise_variance(
     end: f64,
     place: u32,
 ) -> Result<f64, Refusal>
-    ensures { result ≡ variance_over model.entry.alpha model.entry.sigma_times.now model.entry.sigmas.now start end place }
+    ensures { result ≡ piecewise_variance (model_in model) start end place }
 {
-    let HullWhite {
-        alpha,
-        sigma_times,
-        sigmas,
-    } = model;
-    if sigma_times.is_empty() {
+    let alpha = model.alpha;
+    let times = model.sigma.times;
+    if times.is_empty() {
         return Ok(0.0);
     }
     let mut total = 0.0;
     let mut lower = start;
-    for (i, sigma) in sigmas.iter().enumerate() {
-        let Some(next) = sigma_times.get(i + 1) else {
+    for (i, sigma) in model.sigma.sigmas.iter().enumerate() {
+        let Some(next) = times.get(i + 1) else {
             let last = Piece {
                 lower,
                 upper: end,
@@ -65,7 +63,7 @@ pub fn hull_white_piecewise_variance(
 
 // Step k's interval is from k × time_step to that plus time_step.
 fn step_variance(model: HullWhite<'_>, time_step: f64, k: u32) -> Result<f64, Refusal>
-    ensures { result ≡ step_variance (model_of model.entry.alpha model.entry.sigma_times.now model.entry.sigmas.now) time_step k }
+    ensures { result ≡ step_variance (model_in model) time_step k }
 {
     let start = tested((k as f64) * time_step, k)?;
     let end = tested(start + time_step, k)?;
@@ -80,7 +78,7 @@ pub fn transition_variances(
     variances: &mut [f64],
 ) -> Result<(), Refusal>
     requires { steps ≤ length variances.old }
-    ensures { Filled (transition_variances (model_of model.entry.alpha model.entry.sigma_times.now model.entry.sigmas.now) steps time_step) result variances.old variances.new }
+    ensures { Filled (transition_variances (model_in model) steps time_step) result variances.old variances.new }
 {
     for k in 0..steps {
         variances[k as usize] = step_variance(model, time_step, k)?;

@@ -4,6 +4,8 @@
 ghost use Rattle.std.specs.Prelude.{◌≡◌};
 ghost use Rattle.interestrate.specs.Rates.{per_year};
 
+use terms::Epoch;
+
 pub mod prices;
 pub mod rates;
 pub mod rows;
@@ -53,4 +55,12 @@ pub struct RateDefinition {
 pub struct YieldPrice {
     pub price: f64,
     pub derivative: f64,
+}
+
+// A yield, with what it is compounded by and the settlement it discounts to.
+#[derive(Clone, Copy)]
+pub struct Yield {
+    pub settlement: Epoch,
+    pub compounding: Compounding,
+    pub rate: f64,
 }

@@ -1,19 +1,20 @@
 // The price of the paid cashflows at a yield, and its derivative by the yield.
 ghost use Rattle.std.specs.Prelude.{◌≡◌, ◌≤◌, ◌<◌, length};
-ghost use Rattle.floats.specs.Answers.{plus_zero};
-ghost use Rattle.interestrate.specs.Prices.{simply, compoundly, continuously, discount_and_derivative, with_flow, flows};
-ghost use Rattle.interestrate.specs.laws.Rows.{KnownFlow, DiscountRow, RowRoom, PartEnd, join_sums};
+ghost use Rattle.interestrate.specs.Prices.{simply, compoundly, continuously, discount_and_derivative, with_flow, flows, price_and_derivative};
+ghost use Rattle.interestrate.specs.laws.Rows.{KnownFlow, KnownRow, RowReaches, RowRoom, join_sums, known_at};
+ghost use Rattle.terms.specs.Market.{leg_in};
 ghost use Rattle.terms.specs.Times.{time_from};
 
 use crate::rates::frequency_value;
-use crate::rows::discount_row;
-use crate::{Compounding, RateDefinition, YieldPrice};
+use crate::rows::{FlowRow, discount_row};
+use crate::{Compounding, RateDefinition, Yield, YieldPrice};
 use elementary::exp::exp_at;
 use elementary::powf::powf_at;
 use floats::finite::tested;
 use floats::{Reason, Refusal};
 use rounded::mul_add::mul_add_at;
 use terms::Epoch;
+use terms::market::Leg;
 use terms::time::time_from;
 
 // Simple interest: 1/(rate × time + 1), and its derivative.
@@ -59,6 +60,7 @@ pub fn compounded(rate: f64, time: f64, frequency: f64) -> Result<YieldPrice, Re
 }
 
 // Continuous interest: exp(−rate × time), and its derivative.
+#[tactic(auto, unfolding(floats::specs::Answers::on_outcome, crate::specs::Prices::continuously))]
 pub fn continuous(rate: f64, time: f64) -> Result<YieldPrice, Refusal>
     ensures { result ≡ continuously rate time }
 {
@@ -101,234 +103,132 @@ pub fn yield_discount_and_derivative(
 }
 
 // A flow's discount and derivative each join their sum by mul_add.
-fn join_sums(
-    amount: f64,
-    discount: f64,
-    slope: f64,
-    price: f64,
-    derivative: f64,
-) -> Result<YieldPrice, Refusal>
-    ensures { result ≡ join_sums amount discount slope price derivative }
+#[tactic(auto, unfolding(floats::specs::Answers::on_outcome, crate::specs::laws::Rows::join_sums))]
+fn join_sums(amount: f64, flow: YieldPrice, sum: YieldPrice) -> Result<YieldPrice, Refusal>
+    ensures { result ≡ join_sums amount flow.price flow.derivative sum.price sum.derivative }
 {
-    let new_price = mul_add_at(amount, discount, price, 0)?;
-    let new_derivative = mul_add_at(amount, slope, derivative, 0)?;
-    Ok(YieldPrice {
-        price: new_price,
-        derivative: new_derivative,
-    })
-}
-
-// One flow: both are worked out, and each joins its sum.
-fn with_flow(
-    rate: f64,
-    compounding: Compounding,
-    settlement: Epoch,
-    day: u32,
-    amount: f64,
-    price: f64,
-    derivative: f64,
-) -> Result<YieldPrice, Refusal>
-    ensures { result ≡ with_flow rate compounding settlement day amount price derivative }
-{
-    let time = time_from(settlement, day);
-    let flow = yield_discount_and_derivative(rate, time, compounding)?;
-    join_sums(amount, flow.price, flow.derivative, price, derivative)
-}
-
-// One flow, its discount and derivative given where they are good.
-fn next_flow(
-    rate: f64,
-    compounding: Compounding,
-    settlement: Epoch,
-    day: u32,
-    amount: f64,
-    price: f64,
-    derivative: f64,
-    good: bool,
-    discount: f64,
-    slope: f64,
-) -> Result<YieldPrice, Refusal>
-    requires { KnownFlow good (discount_and_derivative rate (time_from settlement day) compounding) discount slope }
-    ensures { result ≡ with_flow rate compounding settlement day amount price derivative }
-{
-    if good {
-        return join_sums(amount, discount, slope, price, derivative);
-    }
-    with_flow(
-        rate,
-        compounding,
-        settlement,
-        day,
-        amount,
-        price,
-        derivative,
-    )
-}
-
-// Flow by flow, from a price and a derivative on. Where the rows are good, they hold each flow's discount and derivative.
-fn summed(
-    rate: f64,
-    compounding: Compounding,
-    settlement: Epoch,
-    days: &[u32],
-    amounts: &[f64],
-    first_price: f64,
-    first_derivative: f64,
-    good: bool,
-    discounts: &[f64],
-    slopes: &[f64],
-) -> Result<YieldPrice, Refusal>
-    requires amounts_len { (length amounts.now ≡ length days.now) × (length discounts.now ≡ length days.now) × (length slopes.now ≡ length days.now) }
-    requires discount_row { DiscountRow good (λ time. discount_and_derivative rate time compounding) settlement days.now discounts.now slopes.now }
-    ensures { result ≡ flows rate compounding settlement days.now amounts.now first_price first_derivative }
-{
-    let mut price = first_price;
-    let mut derivative = first_derivative;
-    let mut i = 0;
-    while i < days.len() {
-        let day = days[i];
-        let amount = amounts[i];
-        let discount = discounts[i];
-        let slope = slopes[i];
-        i += 1;
-        if settlement.day < day {
-            let sum = next_flow(
-                rate,
-                compounding,
-                settlement,
-                day,
-                amount,
-                price,
-                derivative,
-                good,
-                discount,
-                slope,
-            )?;
-            price = sum.price;
-            derivative = sum.derivative;
-        }
-    }
+    let price = mul_add_at(amount, flow.price, sum.price, 0)?;
+    let derivative = mul_add_at(amount, flow.derivative, sum.derivative, 0)?;
     Ok(YieldPrice { price, derivative })
 }
 
-// The rows are filled, then the flows summed.
-fn by_rows(
-    rate: f64,
-    compounding: Compounding,
-    settlement: Epoch,
+// One flow: its discount and derivative, worked out where they aren't known, each join their sum.
+#[tactic(auto, unfolding(floats::specs::Answers::on_outcome, crate::specs::Prices::on_price, crate::specs::Prices::with_flow, crate::specs::laws::Rows::join_sums))]
+fn with_flow(
+    at: Yield,
+    day: u32,
+    amount: f64,
+    known: Option<YieldPrice>,
+    sum: YieldPrice,
+) -> Result<YieldPrice, Refusal>
+    requires { KnownFlow known (discount_and_derivative at.rate (time_from at.settlement day) at.compounding) }
+    ensures { result ≡ with_flow at.rate at.compounding at.settlement day amount sum.price sum.derivative }
+{
+    if let Some(flow) = known {
+        return join_sums(amount, flow, sum);
+    }
+    let time = time_from(at.settlement, day);
+    let flow = yield_discount_and_derivative(at.rate, time, at.compounding)?;
+    join_sums(amount, flow, sum)
+}
+
+// What the row knows of a flow.
+#[tactic(auto, unfolding(floats::specs::Answers::on_outcome, crate::specs::laws::Rows::known_at))]
+fn known_at(row: Option<FlowRow<'_>>, i: usize) -> Option<YieldPrice>
+    requires { RowReaches row i }
+    ensures { result ≡ known_at row.entry i }
+{
+    let FlowRow { discounts, slopes } = row?;
+    Some(YieldPrice {
+        price: discounts[i],
+        derivative: slopes[i],
+    })
+}
+
+// Flow by flow, from a price and a derivative on.
+fn summed(
+    at: Yield,
     days: &[u32],
     amounts: &[f64],
-    price: f64,
-    derivative: f64,
-    times: &mut [f64],
-    xs: &mut [f64],
+    row: Option<FlowRow<'_>>,
+    first: YieldPrice,
+) -> Result<YieldPrice, Refusal>
+    requires amounts_len { length amounts.now ≡ length days.now }
+    requires known { KnownRow row (λ time. discount_and_derivative at.rate time at.compounding) at.settlement days.now }
+    ensures { result ≡ flows at.rate at.compounding at.settlement days.now amounts.now first.price first.derivative }
+{
+    let mut sum = first;
+    for i in 0..days.len() {
+        if at.settlement.day < days[i] {
+            sum = with_flow(at, days[i], amounts[i], known_at(row, i), sum)?;
+        }
+    }
+    Ok(sum)
+}
+
+// A row is filled, then the flows summed.
+fn by_row(
+    at: Yield,
+    days: &[u32],
+    amounts: &[f64],
     discounts: &mut [f64],
     slopes: &mut [f64],
-    rests: &mut [f64],
+    first: YieldPrice,
 ) -> Result<YieldPrice, Refusal>
-    requires { (length amounts.now ≡ length days.now) × RowRoom (length days.now) times.old xs.old discounts.old slopes.old rests.old }
-    ensures { result ≡ flows rate compounding settlement days.now amounts.now price derivative }
+    requires { (length amounts.now ≡ length days.now) × RowRoom (length days.now) discounts.old slopes.old }
+    ensures { result ≡ flows at.rate at.compounding at.settlement days.now amounts.now first.price first.derivative }
 {
-    let good = discount_row(
-        rate,
-        compounding,
-        settlement,
-        days,
-        times,
-        xs,
-        discounts,
-        slopes,
-        rests,
-    );
-    summed(
-        rate,
-        compounding,
-        settlement,
-        days,
-        amounts,
-        price,
-        derivative,
-        good,
-        discounts,
-        slopes,
-    )
+    if discount_row(at, days, discounts, slopes) {
+        let row = FlowRow { discounts, slopes };
+        return summed(at, days, amounts, Some(row), first);
+    }
+    summed(at, days, amounts, None, first)
 }
 
 // The flows of a part of at most 64.
 fn part_flows(
-    rate: f64,
-    compounding: Compounding,
-    settlement: Epoch,
+    at: Yield,
     days: &[u32],
     amounts: &[f64],
-    price: f64,
-    derivative: f64,
+    first: YieldPrice,
 ) -> Result<YieldPrice, Refusal>
     requires { (length amounts.now ≡ length days.now) × (length days.now ≤ 64) }
-    ensures { result ≡ flows rate compounding settlement days.now amounts.now price derivative }
+    ensures { result ≡ flows at.rate at.compounding at.settlement days.now amounts.now first.price first.derivative }
 {
     let n = days.len();
-    let mut times = [0.0; 64];
-    let mut xs = [0.0; 64];
     let mut discounts = [0.0; 64];
     let mut slopes = [0.0; 64];
-    let mut rests = [0.0; 64];
-    by_rows(
-        rate,
-        compounding,
-        settlement,
+    by_row(
+        at,
         days,
         amounts,
-        price,
-        derivative,
-        &mut times[..n],
-        &mut xs[..n],
         &mut discounts[..n],
         &mut slopes[..n],
-        &mut rests[..n],
+        first,
     )
-}
-
-// Where the part ends that begins at i.
-fn part_end(i: usize, n: usize) -> usize
-    requires { i < n }
-    ensures { PartEnd i n result }
-{
-    if n - i <= 64 {
-        return n;
-    }
-    i + 64
 }
 
 // The price of the paid cashflows and its derivative, part by part.
 pub fn yield_price_and_derivative(
     settlement: Epoch,
-    days: &[u32],
-    amounts: &[f64],
+    leg: Leg<'_>,
     rate: RateDefinition,
     y: f64,
 ) -> Result<YieldPrice, Refusal>
-    requires { length amounts.now ≡ length days.now }
-    ensures { result ≡ flows y rate.compounding settlement days.now amounts.now plus_zero plus_zero }
+    requires { length leg.amounts.now ≡ length leg.days.now }
+    ensures { result ≡ price_and_derivative settlement (leg_in leg) rate y }
 {
-    let compounding = rate.compounding;
-    let mut price = 0.0;
-    let mut derivative = 0.0;
-    let mut i = 0;
-    while i < days.len() {
-        let end = part_end(i, days.len());
-        let sum = part_flows(
-            y,
-            compounding,
-            settlement,
-            &days[i..end],
-            &amounts[i..end],
-            price,
-            derivative,
-        )?;
-        i = end;
-        price = sum.price;
-        derivative = sum.derivative;
+    let at = Yield {
+        settlement,
+        compounding: rate.compounding,
+        rate: y,
+    };
+    let mut sum = YieldPrice {
+        price: 0.0,
+        derivative: 0.0,
+    };
+    for (days, amounts) in leg.days.chunks(64).zip(leg.amounts.chunks(64)) {
+        sum = part_flows(at, days, amounts, sum)?;
     }
-    Ok(YieldPrice { price, derivative })
+    Ok(sum)
 }

@@ -8,18 +8,14 @@ use Rattle.floats.specs.Extremes.{max_of}
 use Rattle.floats.specs.Whole.{round_at, rounded}
 use Rattle.terms.specs.Numbers.{float, million, tolerance}
 use Rattle.lattice.specs.declared.Middle.{Middle}
+use Rattle.lattice.specs.declared.Step.{Step as SharedStep}
 use Rattle.lattice.specs.declared.Transition.{Transition}
 use Rattle.lattice.specs.Layers.{node_float}
 use Rattle.floats.specs.declared.Reason.TheVariants as reason
 
--- What the nodes of a step share: spacing, decay, the new spacing and the two divisors.
-pub record Step : Type 0 where
-  pub spacing : Float
-  pub decay : Float
-  pub new_spacing : Float
-  pub denominator : Float
-  pub scale : Float
-  pub place : ℕ
+-- What the nodes of a step share: spacing, decay, the new spacing, the two divisors, and the place of a refusal.
+abbrev pub Step : Type 0
+Step = SharedStep
 
 abbrev pub sixth : Float
 sixth = div binary64 one (float 6)

@@ -23,22 +23,32 @@ pub struct Transition {
     pub probability_up: f64,
 }
 
-// The next layer, laid: its spacing and node count.
-#[derive(Drop)]
+// A layer that is laid: its spacing and node count.
+#[derive(Clone, Copy)]
 pub struct NextLayer {
     pub spacing: f64,
     pub count: usize,
 }
 
-// A step's new spacing and its two divisors.
-#[derive(Drop)]
-pub struct MadeStep {
+// What the nodes of a step share: spacing, decay, the new spacing, the two divisors, and the place of a refusal.
+#[derive(Clone, Copy)]
+pub struct Step {
     pub spacing: f64,
+    pub decay: f64,
+    pub new_spacing: f64,
     pub denominator: f64,
     pub scale: f64,
+    pub place: u32,
 }
 
-impl MadeStep {
+impl Step {
     // 2^−52: a variance at or below it is none.
     pub const EPSILON: f64 = 2.220446049250313e-16;
+}
+
+// The lengths of the two lent rows.
+#[derive(Clone, Copy)]
+pub struct Rows {
+    pub first: usize,
+    pub second: usize,
 }

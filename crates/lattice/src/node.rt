@@ -4,9 +4,9 @@ ghost use Rattle.std.specs.Prelude.{◌≡◌};
 ghost use Rattle.floats.specs.laws.Cuts.{IsWhole};
 ghost use Rattle.lattice.specs.Transitions.{clamped, middle_of, transition_of};
 ghost use Rattle.lattice.specs.laws.Bounds.{Within};
-ghost use Rattle.lattice.specs.laws.Making.{step_from, shares, chances, centred, held};
+ghost use Rattle.lattice.specs.laws.Making.{shares, chances, centred, held};
 
-use crate::{Middle, Transition};
+use crate::{Middle, Step, Transition};
 use floats::finite::tested;
 use floats::max::greater;
 use floats::round::near;
@@ -47,19 +47,14 @@ fn clamped(middle: i32, down: f64, mid: f64, up: f64, place: u32) -> Result<Tran
 }
 
 // Probabilities with the error from the rounded middle.
-fn probabilities(
-    middle: i32,
-    error: f64,
-    denominator: f64,
-    scale: f64,
-    place: u32,
-) -> Result<Transition, Refusal>
+fn probabilities(middle: i32, error: f64, step: &Step) -> Result<Transition, Refusal>
     requires { Within middle }
-    ensures { result ≡ chances middle error denominator scale place }
+    ensures { result ≡ chances middle error step.now.denominator step.now.scale step.now.place }
 {
-    let term = error * error / denominator;
+    let place = step.place;
+    let term = error * error / step.denominator;
     let base = 1.0 / 6.0 + term;
-    let skew = error / scale;
+    let skew = error / step.scale;
     let down = tested(base - skew, place)?;
     let mid = tested(2.0 / 3.0 - term * 2.0, place)?;
     let up = tested(base + skew, place)?;
@@ -76,18 +71,12 @@ fn probabilities(
 }
 
 // From the middle on: error and probabilities.
-fn centred(
-    m: Middle,
-    new_spacing: f64,
-    denominator: f64,
-    scale: f64,
-    place: u32,
-) -> Result<Transition, Refusal>
+fn centred(m: Middle, step: &Step) -> Result<Transition, Refusal>
     requires { Within m.node }
-    ensures { result ≡ centred m new_spacing denominator scale place }
+    ensures { result ≡ centred m step.now.new_spacing step.now.denominator step.now.scale step.now.place }
 {
-    let error = m.expectation - new_spacing * m.middle;
-    probabilities(m.node, error, denominator, scale, place)
+    let error = m.expectation - step.new_spacing * m.middle;
+    probabilities(m.node, error, step)
 }
 
 // 23, else the middle, as a node number too.
@@ -125,17 +114,9 @@ pub fn middle_of(
 }
 
 // A node's transition to the next layer.
-pub fn transition_of(
-    spacing: f64,
-    decay: f64,
-    new_spacing: f64,
-    denominator: f64,
-    scale: f64,
-    place: u32,
-    node: i32,
-) -> Result<Transition, Refusal>
-    ensures { result ≡ transition_of (step_from spacing decay new_spacing denominator scale place) node }
+pub fn transition_of(step: &Step, node: i32) -> Result<Transition, Refusal>
+    ensures { result ≡ transition_of step.now node }
 {
-    let m = middle_of(spacing, decay, new_spacing, place, node)?;
-    centred(m, new_spacing, denominator, scale, place)
+    let m = middle_of(step.spacing, step.decay, step.new_spacing, step.place, node)?;
+    centred(m, step)
 }

@@ -1,4 +1,5 @@
 // The layers of a tree that isn't flat, each in front of what is left of the lent slices.
+// What is lent stays in slices of its own: of a struct of `&mut`s each contract would have to say that its borrows stay.
 
 ghost use Rattle.std.specs.Prelude.{◌≡◌, false, ◌+◌, ◌*◌, ◌^◌, ◌<◌, ◌≤◌, T, length, drop};
 ghost use Rattle.std.specs.Float.Ieee.{le};
@@ -15,68 +16,61 @@ ghost use Rattle.layers.specs.laws.Behind.{LaysBehind};
 use elementary::exp::exp_at;
 use floats::finite::tested;
 use floats::{Reason, Refusal};
-use layers::grow::{grow, has_room, spacing_of};
+use lattice::{NextLayer, Rows};
+use layers::grow::{LayerBefore, grow, has_room, spacing_of};
 
-// The layers from `step` on, the first of `count` nodes being laid already, behind the `before` nodes of the layer that was made with was_spacing and was_variance.
+// The layers from `step` on, the first being laid already, behind the layer before.
 fn layers(
     decay: f64,
-    spacing: f64,
+    layer: NextLayer,
     step: u32,
-    count: usize,
     variances: &[f64],
     counts: &mut [usize],
     spacings: &mut [f64],
     nodes: &mut [i32],
     probabilities: &mut [f64],
-    one: usize,
-    two: usize,
-    before: usize,
-    was_spacing: f64,
-    was_variance: f64,
+    rows: Rows,
+    before: LayerBefore,
 ) -> Result<(), Refusal>
-    requires front { Front count spacing decay (drop (before * 2) nodes.old) (drop (before * 3) probabilities.old) }
+    requires front { Front layer.count layer.spacing decay (drop (before.count * 2) nodes.old) (drop (before.count * 3) probabilities.old) }
     requires counts_len { (length counts.old ≡ length variances.now + 1) × (length spacings.old ≡ length variances.now) }
-    requires variances_bound { (step + length variances.now < 2 ^ 32) × (count ≤ one) × (count ≤ two) }
-    requires before { Before decay was_spacing was_variance before nodes.old probabilities.old }
-    ensures { LaysBehind before one two count (numbers_in (front_nodes count (drop (before * 2) nodes.old))) (grown (room_left (drop (before * 2) nodes.old) (drop (before * 3) probabilities.old) one two) decay spacing 0 (numbers_in (front_nodes count (drop (before * 2) nodes.old))) step variances.now) result counts.new spacings.new nodes.old nodes.new probabilities.old probabilities.new }
+    requires variances_bound { (step + length variances.now < 2 ^ 32) × (layer.count ≤ rows.first) × (layer.count ≤ rows.second) }
+    requires before { Before decay before.spacing before.variance before.count nodes.old probabilities.old }
+    ensures { LaysBehind before.count rows.first rows.second layer.count (numbers_in (front_nodes layer.count (drop (before.count * 2) nodes.old))) (grown (room_left (drop (before.count * 2) nodes.old) (drop (before.count * 3) probabilities.old) rows.first rows.second) decay layer.spacing 0 (numbers_in (front_nodes layer.count (drop (before.count * 2) nodes.old))) step variances.now) result counts.new spacings.new nodes.old nodes.new probabilities.old probabilities.new }
 {
-    counts[0] = count;
+    counts[0] = layer.count;
     if variances.len() == 0 {
         return Ok(());
     }
-    spacings[0] = spacing;
+    spacings[0] = layer.spacing;
     let variance = variances[0];
     let next = grow(
-        spacing,
+        layer,
         decay,
         variance,
         step,
-        count,
         nodes,
         probabilities,
-        one,
-        two,
+        rows,
         before,
-        was_spacing,
-        was_variance,
     )?;
-    let pairs = before * 2;
-    let threes = before * 3;
+    let pairs = before.count * 2;
+    let threes = before.count * 3;
     layers(
         decay,
-        next.spacing,
+        next,
         step + 1,
-        next.count,
         &variances[1..],
         &mut counts[1..],
         &mut spacings[1..],
         &mut nodes[pairs..],
         &mut probabilities[threes..],
-        one,
-        two,
-        count,
-        spacing,
-        variance,
+        rows,
+        LayerBefore {
+            count: layer.count,
+            spacing: layer.spacing,
+            variance,
+        },
     )
 }
 
@@ -96,31 +90,30 @@ fn rooted(
     spacings: &mut [f64],
     nodes: &mut [i32],
     probabilities: &mut [f64],
-    one: usize,
-    two: usize,
+    rows: Rows,
 ) -> Result<(), Refusal>
     requires t { (T (le plus_zero decay)) × (T (le plus_zero spacing)) × (length variances.now < 2 ^ 32) }
     requires counts_len { (length counts.old ≡ length variances.now + 1) × (length spacings.old ≡ length variances.now) }
-    ensures { LaysTree false one two 1 root_layer (from_root (room_left nodes.old probabilities.old one two) decay spacing variances.now) result counts.new spacings.new nodes.new probabilities.new }
+    ensures { LaysTree false rows.first rows.second 1 root_layer (from_root (room_left nodes.old probabilities.old rows.first rows.second) decay spacing variances.now) result counts.new spacings.new nodes.new probabilities.new }
 {
-    if has_room(nodes.len(), probabilities.len(), one, two, 0, 1) {
+    if has_room(nodes.len(), probabilities.len(), rows, 0, 1) {
         nodes[0] = 0;
         nodes[1] = 0;
         return layers(
             decay,
-            spacing,
+            NextLayer { spacing, count: 1 },
             0,
-            1,
             variances,
             counts,
             spacings,
             nodes,
             probabilities,
-            one,
-            two,
-            0,
-            0.0,
-            0.0,
+            rows,
+            LayerBefore {
+                count: 0,
+                spacing: 0.0,
+                variance: 0.0,
+            },
         );
     }
     Err(Refusal {
@@ -138,12 +131,11 @@ pub fn curved_tree(
     spacings: &mut [f64],
     nodes: &mut [i32],
     probabilities: &mut [f64],
-    one: usize,
-    two: usize,
+    rows: Rows,
 ) -> Result<(), Refusal>
     requires variances_nonzero { (0 < length variances.now) × (length variances.now < 2 ^ 32) }
     requires counts_len { (length counts.old ≡ length variances.now + 1) × (length spacings.old ≡ length variances.now) }
-    ensures { LaysTree false one two 1 root_layer (curved (room_left nodes.old probabilities.old one two) alpha dt variances.now) result counts.new spacings.new nodes.new probabilities.new }
+    ensures { LaysTree false rows.first rows.second 1 root_layer (curved (room_left nodes.old probabilities.old rows.first rows.second) alpha dt variances.now) result counts.new spacings.new nodes.new probabilities.new }
 {
     let decay = decay_of(alpha, dt)?;
     let spacing = spacing_of(variances[0], 0)?;
@@ -155,7 +147,6 @@ pub fn curved_tree(
         spacings,
         nodes,
         probabilities,
-        one,
-        two,
+        rows,
     )
 }

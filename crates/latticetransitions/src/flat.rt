@@ -8,16 +8,14 @@ ghost use Rattle.lattice.specs.laws.LaidTree.{LaysTree};
 ghost use Rattle.lattice.specs.laws.FlatLeft.{flat_left};
 
 use floats::{Reason, Refusal};
-use lattice::MadeStep;
+use lattice::{Rows, Step};
 use layers::grow::has_room;
 
 // Whether all variances are at or below 2^−52.
 pub fn all_flat(variances: &[f64]) -> bool
     ensures { result ≡ all_flat variances.now }
 {
-    variances
-        .iter()
-        .all(|variance| *variance <= MadeStep::EPSILON)
+    variances.iter().all(|variance| *variance <= Step::EPSILON)
 }
 
 // Node 0 in front, with middle 0: a layer of one.
@@ -48,13 +46,12 @@ fn flat_layers(
     spacings: &mut [f64],
     nodes: &mut [i32],
     probabilities: &mut [f64],
-    one: usize,
-    two: usize,
+    rows: Rows,
 ) -> Result<(), Refusal>
     requires { (length counts.old ≡ length spacings.old + 1) × (step + length spacings.old < 2 ^ 32) }
-    ensures { LaysTree true one two 1 root_layer (flat_left (room_left nodes.old probabilities.old one two) step (length spacings.old)) result counts.new spacings.new nodes.new probabilities.new }
+    ensures { LaysTree true rows.first rows.second 1 root_layer (flat_left (room_left nodes.old probabilities.old rows.first rows.second) step (length spacings.old)) result counts.new spacings.new nodes.new probabilities.new }
 {
-    if !has_room(nodes.len(), probabilities.len(), one, two, 0, 1) {
+    if !has_room(nodes.len(), probabilities.len(), rows, 0, 1) {
         return Err(Refusal {
             reason: Reason::NoRoom,
             place: step,
@@ -71,8 +68,7 @@ fn flat_layers(
         &mut spacings[1..],
         &mut nodes[2..],
         &mut probabilities[3..],
-        one,
-        two,
+        rows,
     )
 }
 
@@ -82,11 +78,10 @@ pub fn flat_tree(
     spacings: &mut [f64],
     nodes: &mut [i32],
     probabilities: &mut [f64],
-    one: usize,
-    two: usize,
+    rows: Rows,
 ) -> Result<(), Refusal>
     requires { (length counts.old ≡ length spacings.old + 1) × (length spacings.old < 2 ^ 32) }
-    ensures { LaysTree true one two 1 root_layer (flat (room_left nodes.old probabilities.old one two) 0 (length spacings.old)) result counts.new spacings.new nodes.new probabilities.new }
+    ensures { LaysTree true rows.first rows.second 1 root_layer (flat (room_left nodes.old probabilities.old rows.first rows.second) 0 (length spacings.old)) result counts.new spacings.new nodes.new probabilities.new }
 {
-    flat_layers(0, counts, spacings, nodes, probabilities, one, two)
+    flat_layers(0, counts, spacings, nodes, probabilities, rows)
 }

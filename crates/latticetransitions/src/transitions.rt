@@ -9,6 +9,7 @@ ghost use Rattle.lattice.specs.laws.Totals.{total_of};
 use crate::curved::curved_tree;
 use crate::flat::{all_flat, flat_tree};
 use floats::Refusal;
+use lattice::Rows;
 
 // Layers, transitions and spacings, or 21 to 24, 26, 27.
 pub fn lattice_transitions(
@@ -19,15 +20,14 @@ pub fn lattice_transitions(
     spacings: &mut [f64],
     nodes: &mut [i32],
     probabilities: &mut [f64],
-    one: usize,
-    two: usize,
+    rows: Rows,
 ) -> Result<(), Refusal>
     requires variances_nonzero { (0 < length variances.now) × (length variances.now < 2 ^ 32) }
     requires counts_len { (length counts.old ≡ length variances.now + 1) × (length spacings.old ≡ length variances.now) }
-    ensures { LaysTree (all_flat variances.now) one two 1 root_layer (lattice (room_left nodes.old probabilities.old one two) alpha dt variances.now) result counts.new spacings.new nodes.new probabilities.new }
+    ensures { LaysTree (all_flat variances.now) rows.first rows.second 1 root_layer (lattice (room_left nodes.old probabilities.old rows.first rows.second) alpha dt variances.now) result counts.new spacings.new nodes.new probabilities.new }
 {
     if all_flat(variances) {
-        return flat_tree(counts, spacings, nodes, probabilities, one, two);
+        return flat_tree(counts, spacings, nodes, probabilities, rows);
     }
     curved_tree(
         alpha,
@@ -37,8 +37,7 @@ pub fn lattice_transitions(
         spacings,
         nodes,
         probabilities,
-        one,
-        two,
+        rows,
     )
 }
 

@@ -1,14 +1,15 @@
 // lattice_value: the tree's value of a grid, and the nodes of all layers.
+// What is lent stays in slices of its own: of a struct of `&mut`s each contract would have to say that its borrows stay.
 
 ghost use Rattle.std.specs.Prelude.{◌≡◌, ◌+◌, ◌^◌, ◌<◌, ◌≤◌, length};
 ghost use Rattle.std.specs.Float.{binary64};
 ghost use Rattle.std.specs.Float.Ieee.{div};
 ghost use Rattle.terms.specs.Numbers.{float};
 ghost use Rattle.terms.specs.Curve.{curve_over};
+ghost use Rattle.terms.specs.Market.{model_in};
 ghost use Rattle.floats.specs.Answers.{when_finite, follow};
-ghost use Rattle.hullwhite.specs.laws.Filled.{model_of};
 ghost use Rattle.lattice.specs.laws.Growing.{room_left};
-ghost use Rattle.backwardinduction.specs.laws.WalkMore.{calls_of};
+ghost use Rattle.rollback.specs.Walking.{steps_of};
 ghost use Rattle.treebasedbondpricer.specs.laws.FittedIn.{fitted_over};
 ghost use Rattle.treebasedbondpricer.specs.laws.Valued.{tree_of, walked};
 
@@ -16,23 +17,21 @@ use bondevents::BondEventGrid;
 use bondevents::marks::{step_marks, step_prices};
 use floats::Refusal;
 use latticetransitions::transitions::node_count;
-use rollback::walking::root_value;
+use rollback::walking::{Events, Lattice, root_value};
+use terms::market::{Curve, HullWhite};
 use treebasedbondpricer::TreeValue;
 use treebasedbondpricer::fitted::{FittedTree, fitted_tree};
 
+// Apart from spreads' and spreadtable's: what follows the fit would be a closure over the two lent rows, whose clause would have
+// to say of any lattice what it makes of it.
 // Fit, then walk. Counts, spacings and shifts have room for the steps.
 fn value_over(
     maturity: f64,
     steps: u32,
-    cashflows: &[f64],
-    marks: &[u8],
-    prices: &[f64],
-    alpha: f64,
-    times: &[f64],
-    sigmas: &[f64],
+    events: Events<'_>,
+    model: HullWhite<'_>,
     spread: f64,
-    curve_times: &[f64],
-    factors: &[f64],
+    curve: Curve<'_>,
     counts: &mut [usize],
     spacings: &mut [f64],
     shifts: &mut [f64],
@@ -41,18 +40,15 @@ fn value_over(
     first: &mut [f64],
     second: &mut [f64],
 ) -> Result<TreeValue, Refusal>
-    requires steps_nonzero { (0 < steps) × (steps ≤ 512) × (length cashflows.now ≡ 513) × (length marks.now ≡ 513) × (length prices.now ≡ 1026) }
+    requires steps_nonzero { (0 < steps) × (steps ≤ 512) × (length events.cashflows.now ≡ 513) × (length events.marks.now ≡ 513) × (length events.prices.now ≡ 1026) }
     requires counts_len { (length counts.old ≡ steps + 1) × (length spacings.old ≡ steps) × (length shifts.old ≡ steps) }
-    ensures { result ≡ tree_of (follow (when_finite (div binary64 maturity (float steps)) 0 λ dt. fitted_over (curve_over curve_times.now factors.now) (model_of alpha times.now sigmas.now) (room_left nodes.old probabilities.old (length first.old) (length second.old)) steps dt) λ f. walked spread cashflows.now (calls_of marks.now prices.now) f) }
+    ensures { result ≡ tree_of (follow (when_finite (div binary64 maturity (float steps)) 0 λ dt. fitted_over (curve_over curve.entry.times.now curve.entry.factors.now) (model_in model) (room_left nodes.old probabilities.old (length first.old) (length second.old)) steps dt) λ f. walked spread events.entry.cashflows.now (steps_of events.entry) f) }
 {
     let FittedTree { dt, flat } = fitted_tree(
         maturity,
         steps,
-        alpha,
-        times,
-        sigmas,
-        curve_times,
-        factors,
+        model,
+        curve,
         counts,
         spacings,
         shifts,
@@ -61,21 +57,16 @@ fn value_over(
         first,
         second,
     )?;
-    let value = root_value(
+    let lattice = Lattice {
         nodes,
         probabilities,
         counts,
         spacings,
         shifts,
-        cashflows,
-        marks,
-        prices,
         flat,
         dt,
-        spread,
-        first,
-        second,
-    )?;
+    };
+    let value = root_value(lattice, events, spread, first, second)?;
     Ok(TreeValue {
         value,
         nodes: node_count(counts),
@@ -85,26 +76,26 @@ fn value_over(
 // The root's value is the answer.
 pub fn lattice_value(
     grid: BondEventGrid,
-    alpha: f64,
-    times: &[f64],
-    sigmas: &[f64],
+    model: HullWhite<'_>,
     spread: f64,
-    curve_times: &[f64],
-    factors: &[f64],
+    curve: Curve<'_>,
     nodes: &mut [i32],
     probabilities: &mut [f64],
     first: &mut [f64],
     second: &mut [f64],
 ) -> Result<TreeValue, Refusal>
     requires { (0 < grid.steps) × (grid.steps ≤ 512) }
-    ensures { result ≡ tree_of (follow (when_finite (div binary64 grid.maturity_time (float grid.steps)) 0 λ dt. fitted_over (curve_over curve_times.now factors.now) (model_of alpha times.now sigmas.now) (room_left nodes.old probabilities.old (length first.old) (length second.old)) grid.steps dt) λ f. walked spread grid.cashflows grid.calls f) }
+    ensures { result ≡ tree_of (follow (when_finite (div binary64 grid.maturity_time (float grid.steps)) 0 λ dt. fitted_over (curve_over curve.entry.times.now curve.entry.factors.now) (model_in model) (room_left nodes.old probabilities.old (length first.old) (length second.old)) grid.steps dt) λ f. walked spread grid.cashflows grid.calls f) }
 {
     let maturity = grid.maturity_time;
     let steps = grid.steps;
-    let cashflows = grid.cashflows;
-    let calls = grid.calls;
-    let marks = step_marks(calls);
-    let prices = step_prices(calls);
+    let marks = step_marks(grid.calls);
+    let prices = step_prices(grid.calls);
+    let events = Events {
+        cashflows: &grid.cashflows,
+        marks: &marks,
+        prices: &prices,
+    };
     let mut counts = [0usize; 513];
     let mut spacings = [0.0; 512];
     let mut shifts = [0.0; 512];
@@ -112,15 +103,10 @@ pub fn lattice_value(
     value_over(
         maturity,
         steps,
-        &cashflows,
-        &marks,
-        &prices,
-        alpha,
-        times,
-        sigmas,
+        events,
+        model,
         spread,
-        curve_times,
-        factors,
+        curve,
         &mut counts[..n + 1],
         &mut spacings[..n],
         &mut shifts[..n],

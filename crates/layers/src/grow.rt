@@ -2,15 +2,14 @@
 
 ghost use Rattle.std.specs.Prelude.{◌≡◌, ◌+◌, ◌*◌, ◌^◌, ◌<◌, ◌≤◌, length, drop};
 ghost use Rattle.lattice.specs.Layers.{fits};
-ghost use Rattle.lattice.specs.Lattice.{spacing_of};
+ghost use Rattle.lattice.specs.Lattice.{spacing_of, step_of};
 ghost use Rattle.lattice.specs.laws.Stored.{numbers_in};
 ghost use Rattle.lattice.specs.laws.Bounds.{AllWithin};
 ghost use Rattle.lattice.specs.laws.Counting.{middles_from};
-ghost use Rattle.lattice.specs.laws.Making.{step_from};
 ghost use Rattle.lattice.specs.laws.Middles.{Upright};
 ghost use Rattle.lattice.specs.laws.Laid.{front_nodes};
 ghost use Rattle.lattice.specs.laws.Growing.{Front, grown_next, room_left};
-ghost use Rattle.lattice.specs.laws.MadeSteps.{StepMade, DivisorsMade};
+ghost use Rattle.lattice.specs.laws.MadeSteps.{step_with};
 ghost use Rattle.lattice.specs.laws.NextLaid.{room_of, LaidNext};
 ghost use Rattle.lattice.specs.laws.Grown.{grown_from};
 ghost use Rattle.layers.specs.laws.Known.{Known, Before, KnownCount, SameWhere};
@@ -19,8 +18,16 @@ ghost use Rattle.layers.specs.laws.Behind.{GrownBehind};
 use crate::layers::{count_next, fill, spread};
 use floats::finite::tested;
 use floats::{Reason, Refusal};
-use lattice::{MadeStep, NextLayer};
+use lattice::{NextLayer, Rows, Step};
 use rounded::sqrt::sqrt_at;
+
+// The layer before: how many nodes it has, and the spacing and variance that it was made with.
+#[derive(Clone, Copy)]
+pub struct LayerBefore {
+    pub count: usize,
+    pub spacing: f64,
+    pub variance: f64,
+}
 
 // sqrt(variance × 3).
 pub fn spacing_of(variance: f64, place: u32) -> Result<f64, Refusal>
@@ -30,46 +37,48 @@ pub fn spacing_of(variance: f64, place: u32) -> Result<f64, Refusal>
 }
 
 // The two divisors beside the new spacing.
-fn divisors(variance: f64, new_spacing: f64, place: u32) -> Result<MadeStep, Refusal>
-    ensures { DivisorsMade variance new_spacing place result }
+fn divisors(
+    spacing: f64,
+    decay: f64,
+    variance: f64,
+    new_spacing: f64,
+    place: u32,
+) -> Result<Step, Refusal>
+    ensures { result ≡ step_with spacing decay variance new_spacing place }
 {
     let denominator = tested(variance * 6.0, place)?;
     let scale = tested(new_spacing * 2.0, place)?;
-    Ok(MadeStep {
-        spacing: new_spacing,
+    Ok(Step {
+        spacing,
+        decay,
+        new_spacing,
         denominator,
         scale,
+        place,
     })
 }
 
 // 22, then the new spacing and the two divisors.
-fn step_of(variance: f64, place: u32) -> Result<MadeStep, Refusal>
-    ensures { StepMade variance place result }
+fn step_of(spacing: f64, decay: f64, variance: f64, place: u32) -> Result<Step, Refusal>
+    ensures { result ≡ step_of spacing decay variance place }
 {
-    if variance <= MadeStep::EPSILON {
+    if variance <= Step::EPSILON {
         return Err(Refusal {
             reason: Reason::NoVariance,
             place,
         });
     }
     let new_spacing = spacing_of(variance, place)?;
-    divisors(variance, new_spacing, place)
+    divisors(spacing, decay, variance, new_spacing, place)
 }
 
 // Whether a layer of `next` nodes behind `count` others fits slices and rows of these lengths.
-pub fn has_room(
-    nodes: usize,
-    probabilities: usize,
-    one: usize,
-    two: usize,
-    count: usize,
-    next: usize,
-) -> bool
+pub fn has_room(nodes: usize, probabilities: usize, rows: Rows, count: usize, next: usize) -> bool
     requires { count + next < 2 ^ 62 }
-    ensures { result ≡ fits (room_of nodes probabilities one two) (count + next) next }
+    ensures { result ≡ fits (room_of nodes probabilities rows.first rows.second) (count + next) next }
 {
     let all = count + next;
-    2 * all <= nodes && 3 * all <= probabilities && next <= one && next <= two
+    2 * all <= nodes && 3 * all <= probabilities && next <= rows.first && next <= rows.second
 }
 
 // The next layer of one whose middles are there: counted, its room tried, then laid behind it.
@@ -79,15 +88,14 @@ fn lay_next(
     count: usize,
     nodes: &mut [i32],
     probabilities: usize,
-    one: usize,
-    two: usize,
+    rows: Rows,
 ) -> Result<NextLayer, Refusal>
     requires { (0 < count) × (2 * count ≤ length nodes.old) × AllWithin (middles_from nodes.old 0 count) × (step + 1 < 2 ^ 32) }
-    ensures { LaidNext (room_of (length nodes.old) probabilities one two) spacing step count result nodes.old nodes.new }
+    ensures { LaidNext (room_of (length nodes.old) probabilities rows.first rows.second) spacing step count result nodes.old nodes.new }
 {
     let reached = count_next(count, nodes);
     let next = reached.count;
-    if has_room(nodes.len(), probabilities, one, two, count, next) {
+    if has_room(nodes.len(), probabilities, rows, count, next) {
         spread(count, nodes);
         return Ok(NextLayer {
             spacing,
@@ -112,19 +120,13 @@ fn same_number(a: f64, b: f64) -> bool
     false
 }
 
-// How many of the `before` nodes in front, made with another spacing and variance, have the transitions of this spacing and variance: all or none.
-fn known_count(
-    before: usize,
-    was_spacing: f64,
-    was_variance: f64,
-    spacing: f64,
-    variance: f64,
-) -> usize
-    ensures { KnownCount before was_spacing spacing was_variance variance result }
+// How many of the nodes of the layer before have the transitions of this spacing and variance: all or none.
+fn known_count(before: LayerBefore, spacing: f64, variance: f64) -> usize
+    ensures { KnownCount before.count before.spacing spacing before.variance variance result }
 {
-    if same_number(spacing, was_spacing) {
-        if same_number(variance, was_variance) {
-            return before;
+    if same_number(spacing, before.spacing) {
+        if same_number(variance, before.variance) {
+            return before.count;
         }
     }
     0
@@ -132,85 +134,55 @@ fn known_count(
 
 // The layer behind `before` nodes by a step that is made. The first `known` of those have its transitions.
 fn grow_by(
-    spacing: f64,
-    decay: f64,
-    new_spacing: f64,
-    denominator: f64,
-    scale: f64,
-    step: u32,
+    step: &Step,
     count: usize,
     nodes: &mut [i32],
     probabilities: &mut [f64],
-    one: usize,
-    two: usize,
+    rows: Rows,
     before: usize,
     known: usize,
 ) -> Result<NextLayer, Refusal>
-    requires front { (Front count spacing decay (drop (before * 2) nodes.old) (drop (before * 3) probabilities.old)) × (Upright (step_from spacing decay new_spacing denominator scale step)) × (step + 1 < 2 ^ 32) }
-    requires known_le_before { (known ≤ before) × Known (step_from spacing decay new_spacing denominator scale step) known nodes.old probabilities.old }
-    ensures { GrownBehind (grown_from (room_left (drop (before * 2) nodes.old) (drop (before * 3) probabilities.old) one two) (step_from spacing decay new_spacing denominator scale step) (numbers_in (front_nodes count (drop (before * 2) nodes.old)))) before count result nodes.old nodes.new probabilities.old probabilities.new }
+    requires front { (Front count step.now.spacing step.now.decay (drop (before * 2) nodes.old) (drop (before * 3) probabilities.old)) × Upright step.now × (step.now.place + 1 < 2 ^ 32) }
+    requires known_le_before { (known ≤ before) × Known step.now known nodes.old probabilities.old }
+    ensures { GrownBehind (grown_from (room_left (drop (before * 2) nodes.old) (drop (before * 3) probabilities.old) rows.first rows.second) step.now (numbers_in (front_nodes count (drop (before * 2) nodes.old)))) before count result nodes.old nodes.new probabilities.old probabilities.new }
 {
-    fill(
-        spacing,
-        decay,
-        new_spacing,
-        denominator,
-        scale,
-        step,
-        count,
-        nodes,
-        probabilities,
-        before,
-        known,
-    )?;
+    fill(step, count, nodes, probabilities, before, known)?;
     let pairs = before * 2;
     let threes = probabilities.len() - before * 3;
     lay_next(
-        new_spacing,
-        step,
+        step.new_spacing,
+        step.place,
         count,
         &mut nodes[pairs..],
         threes,
-        one,
-        two,
+        rows,
     )
 }
 
-// The layer of `count` nodes behind `before` others gets its middles and probabilities, and the next one is laid behind it. The layer before it was made with was_spacing and was_variance.
-// `one` and `two` are the rows' lengths.
+// The layer behind the one before gets its middles and probabilities, and the next one is laid behind it.
 pub fn grow(
-    spacing: f64,
+    layer: NextLayer,
     decay: f64,
     variance: f64,
     step: u32,
-    count: usize,
     nodes: &mut [i32],
     probabilities: &mut [f64],
-    one: usize,
-    two: usize,
-    before: usize,
-    was_spacing: f64,
-    was_variance: f64,
+    rows: Rows,
+    before: LayerBefore,
 ) -> Result<NextLayer, Refusal>
-    requires front { (Front count spacing decay (drop (before * 2) nodes.old) (drop (before * 3) probabilities.old)) × (step + 1 < 2 ^ 32) }
-    requires before { Before decay was_spacing was_variance before nodes.old probabilities.old }
-    ensures { GrownBehind (grown_next (room_left (drop (before * 2) nodes.old) (drop (before * 3) probabilities.old) one two) decay spacing (numbers_in (front_nodes count (drop (before * 2) nodes.old))) step variance) before count result nodes.old nodes.new probabilities.old probabilities.new }
+    requires front { (Front layer.count layer.spacing decay (drop (before.count * 2) nodes.old) (drop (before.count * 3) probabilities.old)) × (step + 1 < 2 ^ 32) }
+    requires before { Before decay before.spacing before.variance before.count nodes.old probabilities.old }
+    ensures { GrownBehind (grown_next (room_left (drop (before.count * 2) nodes.old) (drop (before.count * 3) probabilities.old) rows.first rows.second) decay layer.spacing (numbers_in (front_nodes layer.count (drop (before.count * 2) nodes.old))) step variance) before.count layer.count result nodes.old nodes.new probabilities.old probabilities.new }
 {
-    let made = step_of(variance, step)?;
-    let known = known_count(before, was_spacing, was_variance, spacing, variance);
+    let made = step_of(layer.spacing, decay, variance, step)?;
+    let known = known_count(before, layer.spacing, variance);
     grow_by(
-        spacing,
-        decay,
-        made.spacing,
-        made.denominator,
-        made.scale,
-        step,
-        count,
+        &made,
+        layer.count,
         nodes,
         probabilities,
-        one,
-        two,
-        before,
+        rows,
+        before.count,
         known,
     )
 }

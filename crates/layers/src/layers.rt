@@ -2,7 +2,6 @@
 
 ghost use Rattle.std.specs.Prelude.{◌≡◌, ◌+◌, ◌*◌, ◌≤◌, ◌<◌, length, get_or, pos};
 ghost use Rattle.lattice.specs.Transitions.{transition_of};
-ghost use Rattle.lattice.specs.laws.Making.{step_from};
 ghost use Rattle.lattice.specs.laws.Bounds.{Within, Numbered, AllWithin};
 ghost use Rattle.lattice.specs.laws.Reaching.{reach_one, reach, reach_all, nothing_below};
 ghost use Rattle.lattice.specs.laws.Laying.{Pushed, pushed, pushed_three, pushed_all};
@@ -11,23 +10,20 @@ ghost use Rattle.layers.specs.laws.Known.{Known, StandsAt, stored_at};
 ghost use Rattle.layers.specs.laws.Behind.{FilledBehind};
 
 use floats::Refusal;
-use lattice::Transition;
 use lattice::node::transition_of;
 use lattice::reach::{Reach, nothing_below, reached};
+use lattice::{Step, Transition};
 
 // The first of `known` nodes from `at` on that isn't below this one.
 fn not_below(at: usize, known: usize, node: i32, nodes: &[i32]) -> usize
     requires { known * 2 ≤ length nodes.now }
 {
-    let mut j = at;
-    while j < known {
-        if nodes[2 * j] < node {
-            j += 1;
-        } else {
+    for j in at..known {
+        if nodes[2 * j] >= node {
             return j;
         }
     }
-    j
+    known
 }
 
 // Whether this node stands at j, among `known` ones.
@@ -59,35 +55,25 @@ fn known_at(j: usize, nodes: &[i32], probabilities: &[f64]) -> Transition
 
 // A node's transition: the one that stands at j, where that is this node, or made.
 fn known_or_made(
-    spacing: f64,
-    decay: f64,
-    new_spacing: f64,
-    denominator: f64,
-    scale: f64,
-    place: u32,
+    step: &Step,
     node: i32,
     j: usize,
     known: usize,
     nodes: &[i32],
     probabilities: &[f64],
 ) -> Result<Transition, Refusal>
-    requires { Known (step_from spacing decay new_spacing denominator scale place) known nodes.now probabilities.now }
-    ensures { result ≡ transition_of (step_from spacing decay new_spacing denominator scale place) node }
+    requires { Known step.now known nodes.now probabilities.now }
+    ensures { result ≡ transition_of step.now node }
 {
     if stands_at(j, known, node, nodes) {
         return Ok(known_at(j, nodes, probabilities));
     }
-    transition_of(spacing, decay, new_spacing, denominator, scale, place, node)
+    transition_of(step, node)
 }
 
 // The middles and probabilities of a layer of `count` nodes, rising, behind `before` others. The first `known` of those have this step's transitions.
 pub fn fill(
-    spacing: f64,
-    decay: f64,
-    new_spacing: f64,
-    denominator: f64,
-    scale: f64,
-    place: u32,
+    step: &Step,
     count: usize,
     nodes: &mut [i32],
     probabilities: &mut [f64],
@@ -95,34 +81,19 @@ pub fn fill(
     known: usize,
 ) -> Result<(), Refusal>
     requires count_in_bounds { ((before + count) * 2 ≤ length nodes.old) × ((before + count) * 3 ≤ length probabilities.old) × (known ≤ before) }
-    requires known { Known (step_from spacing decay new_spacing denominator scale place) known nodes.old probabilities.old }
-    ensures { FilledBehind (step_from spacing decay new_spacing denominator scale place) before count result nodes.old nodes.new probabilities.old probabilities.new }
+    requires known { Known step.now known nodes.old probabilities.old }
+    ensures { FilledBehind step.now before count result nodes.old nodes.new probabilities.old probabilities.new }
 {
     let mut j = 0;
-    let mut i = 0;
-    while i < count {
+    for i in 0..count {
         let at = before + i;
         let node = nodes[2 * at];
         j = not_below(j, known, node, nodes);
-        let t = known_or_made(
-            spacing,
-            decay,
-            new_spacing,
-            denominator,
-            scale,
-            place,
-            node,
-            j,
-            known,
-            nodes,
-            probabilities,
-        )?;
-        let middle = t.middle;
-        nodes[2 * at + 1] = middle;
+        let t = known_or_made(step, node, j, known, nodes, probabilities)?;
+        nodes[2 * at + 1] = t.middle;
         probabilities[3 * at] = t.probability_down;
         probabilities[3 * at + 1] = t.probability_middle;
         probabilities[3 * at + 2] = t.probability_up;
-        i += 1;
     }
     Ok(())
 }
@@ -134,11 +105,9 @@ pub fn count_next(count: usize, nodes: &[i32]) -> Reach
 {
     let first = nodes[1];
     let mut r = nothing_below(first);
-    let mut i = 0;
-    while i < count {
+    for i in 0..count {
         let middle = nodes[2 * i + 1];
         r = reached(r, middle);
-        i += 1;
     }
     r
 }
@@ -179,10 +148,8 @@ pub fn spread(count: usize, nodes: &mut [i32])
 {
     let first = nodes[1];
     let mut r = nothing_below(first);
-    let mut i = 0;
-    while i < count {
+    for i in 0..count {
         let middle = nodes[2 * i + 1];
         r = push_three(r, middle, count, nodes);
-        i += 1;
     }
 }

@@ -1,7 +1,7 @@
 -- Definitions only. Whose entry a refused input is about. Inside a number single fields come first, then cashflows, calls, sigma, pillars; the lists before the one at fault have nothing wrong at all, so nothing at the place either.
 use Rattle.floats.specs.declared.Reason.TheVariants as reason
 use Rattle.floats.specs.declared.Reason.{Reason}
-use Rattle.std.specs.Prelude.{ℕ, Bool, false, cond, ◌||◌, List, length, get_or, eqb, ltb, leb, Float}
+use Rattle.std.specs.Prelude.{ℕ, Bool, false, cond, ◌||◌, List, length, get_or, ltb, leb, Float}
 use Rattle.floats.specs.Answers.{plus_zero}
 use Rattle.terms.specs.Numbers.{float, amount_limit, million}
 use Rattle.terms.specs.Checks.{no_day, falls, beyond, not_above, not_up_to}

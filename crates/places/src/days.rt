@@ -4,6 +4,7 @@ ghost use Rattle.places.specs.Places.{cashflow_day_wrong, call_day_wrong, whose_
 
 use crate::Whose;
 use terms::limits::{Cashflows, Day};
+use terms::market::{CallSchedule, Leg};
 
 // A cashflow's day is none, or falls, or its kind is none.
 fn cashflow_day_wrong(place: usize, days: &[u32], kinds: &[u8]) -> bool
@@ -44,23 +45,16 @@ fn call_day_wrong(place: usize, starts: &[u32], ends: &[u32]) -> bool
 }
 
 // Whose day it is.
-pub fn whose_day(
-    place: usize,
-    settlement: u32,
-    days: &[u32],
-    kinds: &[u8],
-    starts: &[u32],
-    ends: &[u32],
-) -> Whose
-    ensures { result ≡ whose_day place settlement days.now kinds.now starts.now ends.now }
+pub fn whose_day(place: usize, settlement: u32, leg: Leg<'_>, calls: CallSchedule<'_>) -> Whose
+    ensures { result ≡ whose_day place settlement leg.entry.days.now leg.entry.kinds.now calls.entry.starts.now calls.entry.ends.now }
 {
     if Day::LAST < settlement {
         return Whose::Settlement;
     }
-    if cashflow_day_wrong(place, days, kinds) {
+    if cashflow_day_wrong(place, leg.days, leg.kinds) {
         return Whose::Cashflow;
     }
-    if call_day_wrong(place, starts, ends) {
+    if call_day_wrong(place, calls.starts, calls.ends) {
         return Whose::Call;
     }
     Whose::Pillar

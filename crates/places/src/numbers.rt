@@ -5,6 +5,7 @@ ghost use Rattle.places.specs.Places.{amount_wrong, strike_wrong, up_to_wrong, s
 use crate::Whose;
 use terms::limits::{Alpha, CallEntries, Cashflows, SigmaEntries, Spread, Units};
 use terms::lists::number_at;
+use terms::market::{CallSchedule, Leg, SigmaSchedule};
 use terms::numbers::{not_above_at, not_up_to_at};
 use terms::ranges::{not_above, not_within};
 
@@ -67,20 +68,19 @@ pub fn whose_field(units: f64, alpha: f64, spread: f64) -> Whose
 // Whose number it is, where no single field is at fault.
 pub fn whose_number(
     place: usize,
-    amounts: &[f64],
-    strikes: &[f64],
-    times: &[f64],
-    sigmas: &[f64],
+    leg: Leg<'_>,
+    calls: CallSchedule<'_>,
+    sigma: SigmaSchedule<'_>,
 ) -> Whose
-    ensures { result ≡ whose_number place amounts.now strikes.now times.now sigmas.now }
+    ensures { result ≡ whose_number place leg.entry.amounts.now calls.entry.strikes.now sigma.entry.times.now sigma.entry.sigmas.now }
 {
-    if amount_wrong(place, amounts) {
+    if amount_wrong(place, leg.amounts) {
         return Whose::Cashflow;
     }
-    if strike_wrong(place, strikes) {
+    if strike_wrong(place, calls.strikes) {
         return Whose::Call;
     }
-    if sigma_wrong(place, times, sigmas) {
+    if sigma_wrong(place, sigma.times, sigma.sigmas) {
         return Whose::Sigma;
     }
     Whose::Pillar

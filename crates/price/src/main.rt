@@ -7,7 +7,6 @@ mod messages;
 mod printing;
 mod ranges;
 mod report;
-mod rooms;
 mod tree;
 mod typed;
 mod warnings;
@@ -16,13 +15,16 @@ ghost use Rattle.std.specs.Prelude.{◌≤◌, length};
 
 use crate::printing::say;
 use crate::report::report;
-use crate::rooms::text_room;
 use std::env::{Env, FillError};
 use std::io::{Read, Write};
 use std::rt::Stdout;
 use std::{fs, io, str};
 
-// Reads until the room is full, the input ends or a read fails; how many bytes came.
+// One byte more than a file may have.
+const ROOM: usize = 65537;
+
+// Reads until the room is full, the input ends or a read fails; how many bytes came. A loop: each turn goes as far as its
+// read says, and std's read_exact doesn't say how many bytes came.
 fn read_full<R: Read>(from: &mut R, room: &mut [u8]) -> usize
     ensures { result ≤ length room.new }
 {
@@ -38,7 +40,7 @@ fn read_full<R: Read>(from: &mut R, room: &mut [u8]) -> usize
 }
 
 fn read<R: Read>(out: Stdout, from: &mut R, quiet: bool) {
-    let mut space = text_room();
+    let mut space = [0u8; ROOM];
     let got = read_full(from, &mut space);
     report(out, &space[..got], quiet);
 }
@@ -110,14 +112,7 @@ fn arg_count(rt: &HostRuntime) -> usize {
 fn is_check(rt: &HostRuntime, i: usize) -> bool {
     let mut space = [0u8; 4096];
     let n = arg(rt, i, &mut space);
-    n == 7
-        && space[0] == b'-'
-        && space[1] == b'-'
-        && space[2] == b'c'
-        && space[3] == b'h'
-        && space[4] == b'e'
-        && space[5] == b'c'
-        && space[6] == b'k'
+    space[..n] == b"--check"[..]
 }
 
 fn one(rt: &HostRuntime, i: usize, quiet: bool, several: bool, first: bool) {
@@ -130,15 +125,13 @@ fn one(rt: &HostRuntime, i: usize, quiet: bool, several: bool, first: bool) {
 fn all(rt: &HostRuntime, count: usize, several: bool) {
     let mut quiet = false;
     let mut first = true;
-    let mut i = 1;
-    while i < count {
+    for i in 1..count {
         if is_check(rt, i) {
             quiet = true;
         } else {
             one(rt, i, quiet, several, first);
             first = false;
         }
-        i += 1;
     }
 }
 

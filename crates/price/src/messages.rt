@@ -46,40 +46,19 @@ fn say_byte(out: Stdout, byte: u8) {
 }
 
 // What a line of a kind takes.
-fn say_values(out: Stdout, kind: Kind) {
+fn values_of(kind: Kind) -> &'static [u8] {
     match kind {
-        Kind::Settlement => print(
-            out,
-            text_line(b"settlement takes a day: settlement 2026-11-17"),
-        ),
-        Kind::Units => print(out, text_line(b"units takes a number: units 100")),
-        Kind::Steps => print(
-            out,
-            text_line(b"steps takes two counts, a year and at most: steps 12 512"),
-        ),
-        Kind::Alpha => print(out, text_line(b"alpha takes a number: alpha 0.03")),
-        Kind::Spread => print(out, text_line(b"spread takes a number: spread 0.0085")),
-        Kind::Cashflow => print(
-            out,
-            text_line(b"cashflow takes a day, coupon or redemption, and an amount."),
-        ),
-        Kind::Call => print(
-            out,
-            text_line(b"call takes two days and a strike, as 2029-11-15 2029-11-15 102"),
-        ),
-        Kind::Sigma => print(
-            out,
-            text_line(b"sigma takes a time in years and a volatility: sigma 0 0.0092"),
-        ),
-        Kind::Pillar => print(
-            out,
-            text_line(b"pillar takes a day and a factor: pillar 2027-11-17 0.9662"),
-        ),
-        Kind::Yield => print(
-            out,
-            text_line(b"yield takes a price, a compounding and a frequency."),
-        ),
-        _ => print(out, text_line(b"quote takes a price: quote 99.90")),
+        Kind::Settlement => b"settlement takes a day: settlement 2026-11-17",
+        Kind::Units => b"units takes a number: units 100",
+        Kind::Steps => b"steps takes two counts, a year and at most: steps 12 512",
+        Kind::Alpha => b"alpha takes a number: alpha 0.03",
+        Kind::Spread => b"spread takes a number: spread 0.0085",
+        Kind::Cashflow => b"cashflow takes a day, coupon or redemption, and an amount.",
+        Kind::Call => b"call takes two days and a strike, as 2029-11-15 2029-11-15 102",
+        Kind::Sigma => b"sigma takes a time in years and a volatility: sigma 0 0.0092",
+        Kind::Pillar => b"pillar takes a day and a factor: pillar 2027-11-17 0.9662",
+        Kind::Yield => b"yield takes a price, a compounding and a frequency.",
+        _ => b"quote takes a price: quote 99.90",
     }
 }
 
@@ -99,42 +78,18 @@ fn say_words(out: Stdout) {
 }
 
 // Why a value of a line isn't read.
-fn say_value(out: Stdout, cause: Cause) {
+fn reason_of(cause: Cause) -> Option<&'static [u8]> {
     match cause {
-        Cause::NotACount => print(
-            out,
-            text_line(b"Type a whole number here: digits only, nine at the most."),
-        ),
-        Cause::NotADay => print(
-            out,
-            text_line(b"Type a date here, such as 2026-11-15, or a day number."),
-        ),
-        Cause::NoDate => print(
-            out,
-            text_line(b"There is no such date: look at its month and its day."),
-        ),
-        Cause::DateOutside => print(
-            out,
-            text_line(b"Dates go from 1900-01-01 to 2447-08-01: look at the year."),
-        ),
-        Cause::NotANumber => print(
-            out,
-            text_line(b"Type a number here, such as 5, 0.0125 or -0.5."),
-        ),
-        Cause::LongNumber => print(
-            out,
-            text_line(b"This digit is one too many: 17 in all, 22 behind the point."),
-        ),
-        Cause::NotAKind => print(out, text_line(b"Type coupon or redemption here.")),
-        Cause::NotACompounding => print(
-            out,
-            text_line(b"This compounding is not known: the README has the five."),
-        ),
-        Cause::NotAFrequency => print(
-            out,
-            text_line(b"This frequency is not known: the README has the eleven."),
-        ),
-        _ => {}
+        Cause::NotACount => Some(b"Type a whole number here: digits only, nine at the most."),
+        Cause::NotADay => Some(b"Type a date here, such as 2026-11-15, or a day number."),
+        Cause::NoDate => Some(b"There is no such date: look at its month and its day."),
+        Cause::DateOutside => Some(b"Dates go from 1900-01-01 to 2447-08-01: look at the year."),
+        Cause::NotANumber => Some(b"Type a number here, such as 5, 0.0125 or -0.5."),
+        Cause::LongNumber => Some(b"This digit is one too many: 17 in all, 22 behind the point."),
+        Cause::NotAKind => Some(b"Type coupon or redemption here."),
+        Cause::NotACompounding => Some(b"This compounding is not known: the README has the five."),
+        Cause::NotAFrequency => Some(b"This frequency is not known: the README has the eleven."),
+        _ => None,
     }
 }
 
@@ -144,7 +99,7 @@ fn say_cause(out: Stdout, cause: Cause, kind: Kind) {
         Cause::UnknownWord => say_words(out),
         Cause::TooFewWords => {
             print(out, text_line(b"This line has too few values."));
-            say_values(out, kind)
+            print(out, text_line(values_of(kind)))
         }
         Cause::TooManyWords => {
             print(
@@ -156,7 +111,11 @@ fn say_cause(out: Stdout, cause: Cause, kind: Kind) {
                 text_line(b"Spaces separate values: for 2 000 000 type 2000000."),
             )
         }
-        _ => say_value(out, cause),
+        _ => {
+            if let Some(line) = reason_of(cause) {
+                print(out, text_line(line));
+            }
+        }
     }
 }
 
@@ -170,26 +129,26 @@ fn wrong(out: Stdout, text: &[u8], line: usize, fault: Fault) {
 }
 
 // The name of a line of a kind.
-fn say_name(out: Stdout, kind: Kind) {
+fn name_of(kind: Kind) -> &'static [u8] {
     match kind {
-        Kind::Settlement => say(out, b"settlement"),
-        Kind::Units => say(out, b"units"),
-        Kind::Steps => say(out, b"steps"),
-        Kind::Alpha => say(out, b"alpha"),
-        Kind::Spread => say(out, b"spread"),
-        Kind::Cashflow => say(out, b"cashflow"),
-        Kind::Call => say(out, b"call"),
-        Kind::Sigma => say(out, b"sigma"),
-        Kind::Pillar => say(out, b"pillar"),
-        Kind::Yield => say(out, b"yield"),
-        _ => say(out, b"quote"),
+        Kind::Settlement => b"settlement",
+        Kind::Units => b"units",
+        Kind::Steps => b"steps",
+        Kind::Alpha => b"alpha",
+        Kind::Spread => b"spread",
+        Kind::Cashflow => b"cashflow",
+        Kind::Call => b"call",
+        Kind::Sigma => b"sigma",
+        Kind::Pillar => b"pillar",
+        Kind::Yield => b"yield",
+        _ => b"quote",
     }
 }
 
 fn twice(out: Stdout, line: usize, kind: Kind) {
     at_line(out, line);
     say(out, b"\n                 A second line for ");
-    say_name(out, kind);
+    say(out, name_of(kind));
     say(out, b": keep the one that is right.\n");
 }
 
@@ -197,7 +156,7 @@ fn twice(out: Stdout, line: usize, kind: Kind) {
 fn too_many(out: Stdout, line: usize, kind: Kind) {
     at_line(out, line);
     say(out, b"\n                 One ");
-    say_name(out, kind);
+    say(out, name_of(kind));
     if kind == Kind::Cashflow || kind == Kind::Pillar {
         say(out, b" too many: 256 are the most.\n");
         return;
@@ -210,7 +169,7 @@ fn missing(out: Stdout, kind: Kind) {
         out,
         b"Refused          the file as a whole\n                 No line for ",
     );
-    say_name(out, kind);
+    say(out, name_of(kind));
     say(out, b": add one.\n");
 }
 
@@ -221,11 +180,8 @@ fn too_large(out: Stdout) {
     );
 }
 
-// Says what is wrong with a file; whether nothing is.
-pub(crate) fn is_good(out: Stdout, text: &[u8], found: Result<(), FileError>) -> bool {
-    let Err(error) = found else {
-        return true;
-    };
+// What is wrong with a file.
+pub(crate) fn say_error(out: Stdout, text: &[u8], error: FileError) {
     match error {
         FileError::TooLarge => too_large(out),
         FileError::Wrong(line, fault) => wrong(out, text, line, fault),
@@ -233,5 +189,4 @@ pub(crate) fn is_good(out: Stdout, text: &[u8], found: Result<(), FileError>) ->
         FileError::TooMany(line, kind) => too_many(out, line, kind),
         FileError::Missing(kind) => missing(out, kind),
     }
-    false
 }

@@ -1,6 +1,6 @@
 // Lines on standard output. What cannot be written is lost without a word.
 use bondreport::columns::used;
-use filebond::parts::bytes_of;
+use filebond::parts::first;
 use floats::Refusal;
 use reportlines::lines::{count_line, refused_line};
 use reportlines::sentences::what_to_do;
@@ -19,7 +19,7 @@ pub(crate) fn say_number(mut out: Stdout, n: u64) {
 // A line of the report, without the blanks at its end.
 pub(crate) fn print(out: Stdout, line: [u8; 80]) {
     let n = used(line);
-    say(out, bytes_of(&line, n));
+    say(out, first(&line, n));
     say(out, b"\n");
 }
 

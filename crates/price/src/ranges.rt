@@ -6,34 +6,17 @@ use places::Whose;
 use reportlines::lines::text_line;
 use std::rt::Stdout;
 
-fn say_range(out: Stdout, field: Whose) {
+// What a field takes.
+fn range_of(field: Whose) -> Option<&'static [u8]> {
     match field {
-        Whose::Units => print(
-            out,
-            text_line(b"units is above 0 and at most 1,000,000,000,000."),
-        ),
-        Whose::Alpha => print(
-            out,
-            text_line(b"alpha lies between -10 and 10: 0.03 is 3 percent a year."),
-        ),
-        Whose::Spread => print(
-            out,
-            text_line(b"spread lies between -1 and 1: 0.0085 is 85 basis points."),
-        ),
-        Whose::Cashflow => print(
-            out,
-            text_line(b"An amount lies within 1,000,000,000,000 of 0."),
-        ),
-        Whose::Call => print(
-            out,
-            text_line(b"A strike is above 0 and at most 1,000,000."),
-        ),
-        Whose::Sigma => print(
-            out,
-            text_line(b"A sigma's time is 0 to 600 years, the sigma itself 0 to 10."),
-        ),
-        Whose::Pillar => print(out, text_line(b"A discount factor lies within 1,000 of 0.")),
-        _ => {}
+        Whose::Units => Some(b"units is above 0 and at most 1,000,000,000,000."),
+        Whose::Alpha => Some(b"alpha lies between -10 and 10: 0.03 is 3 percent a year."),
+        Whose::Spread => Some(b"spread lies between -1 and 1: 0.0085 is 85 basis points."),
+        Whose::Cashflow => Some(b"An amount lies within 1,000,000,000,000 of 0."),
+        Whose::Call => Some(b"A strike is above 0 and at most 1,000,000."),
+        Whose::Sigma => Some(b"A sigma's time is 0 to 600 years, the sigma itself 0 to 10."),
+        Whose::Pillar => Some(b"A discount factor lies within 1,000 of 0."),
+        _ => None,
     }
 }
 
@@ -46,8 +29,10 @@ pub(crate) fn refuse_input(out: Stdout, text: &[u8], q: Refusal) {
             text_line(b"A day number is at most 200,000; a date has dashes: 2026-11-15."),
         );
     }
-    if q.reason == Reason::Number {
-        say_range(out, whose(text, q));
+    if q.reason == Reason::Number
+        && let Some(line) = range_of(whose(text, q))
+    {
+        print(out, text_line(line));
     }
 }
 

@@ -1,16 +1,15 @@
 // The report on a bond file.
 use crate::inputs::inputs;
-use crate::messages::is_good;
+use crate::messages::say_error;
 use crate::printing::{blank_line, print, refuse, say};
 use crate::ranges::{refuse_input, refuse_price};
 use crate::tree::asked;
 use crate::typed::print_name;
 use crate::warnings::warnings;
-use bondfile::singles::{fields_of, first_of};
-use bondfile::stored::calls_of;
+use bondfile::singles::first_of;
 use bondline::{Entry, Kind};
 use bondreport::order::{Call, Calls};
-use filebond::parts::{days_of, numbers_of};
+use filebond::lists::Lists;
 use filecheck::check::checked;
 use fileline::lines::line_of;
 use filevalue::pricing::{straight, yielded};
@@ -21,6 +20,7 @@ use reportlines::lines::{
 };
 use reportlines::typed::typed_word;
 use std::rt::Stdout;
+use terms::market::{CallSchedule, Market, Pillars};
 
 // A call with its strike as it was typed.
 fn print_call(out: Stdout, call: Call, strike: &[u8]) {
@@ -42,46 +42,39 @@ fn calls(out: Stdout, text: &[u8], typed: Calls) {
     }
 }
 
-fn call_list(out: Stdout, text: &[u8]) {
-    let mut starts = [0u32; 64];
-    let mut ends = [0u32; 64];
-    let mut strikes = [0.0; 64];
-    let mut lines = [0usize; 64];
-    let n = calls_of(text, &mut starts, &mut ends, &mut strikes, &mut lines);
-    if n == 0 {
+fn call_list(out: Stdout, text: &[u8], typed: CallSchedule<'_>) {
+    if typed.starts.len() == 0 {
         print(out, no_calls());
         return;
     }
     print(out, call_heading());
-    let typed = Calls {
-        starts: days_of(&starts, n),
-        ends: days_of(&ends, n),
-        strikes: numbers_of(&strikes, n),
+    let read_out = Calls {
+        starts: typed.starts,
+        ends: typed.ends,
+        strikes: typed.strikes,
     };
-    calls(out, text, typed);
+    calls(out, text, read_out);
 }
 
 // The day of the first pillar.
-fn curve_date(out: Stdout, text: &[u8]) {
-    let Entry::Pillar(day, _) = first_of(text, Kind::Pillar) else {
-        print(out, no_pillar());
-        return;
-    };
-    print(out, day_line(b"Curve date", day));
+fn curve_date(out: Stdout, pillars: Pillars<'_>) {
+    match pillars.days.first() {
+        Some(day) => print(out, day_line(b"Curve date", *day)),
+        None => print(out, no_pillar()),
+    }
 }
 
-fn head(out: Stdout, text: &[u8]) {
-    let f = fields_of(text);
+fn head(out: Stdout, text: &[u8], market: Market<'_>, calls: CallSchedule<'_>) {
     print_name(out, text);
     print(
         out,
         said_line(b"Full prices", b"prices include accrued interest"),
     );
-    print(out, day_line(b"Settlement", f.settlement));
-    call_list(out, text);
-    curve_date(out, text);
-    print(out, number_line(b"Spread", f.spread, 6));
-    inputs(out, text);
+    print(out, day_line(b"Settlement", market.settlement.day));
+    call_list(out, text, calls);
+    curve_date(out, market.pillars);
+    print(out, number_line(b"Spread", market.spread, 6));
+    inputs(out, market);
     say(out, b"\n");
 }
 
@@ -174,12 +167,14 @@ fn priced(out: Stdout, text: &[u8], quiet: bool) -> bool {
 
 // The whole report; or, where it is to be quiet, `ok` or the refusals alone.
 pub(crate) fn report(out: Stdout, text: &[u8], quiet: bool) {
-    if !is_good(out, text, checked(text)) {
+    if let Err(error) = checked(text) {
+        say_error(out, text, error);
         return;
     }
-    warnings(out, text);
+    let typed = Lists::read(text);
+    warnings(out, text, typed.market());
     if !quiet {
-        head(out, text);
+        head(out, text, typed.market(), typed.calls());
     }
     let good = priced(out, text, quiet);
     if quiet && good {

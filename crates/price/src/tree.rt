@@ -1,51 +1,23 @@
 // The tree value, and the spread behind a quote, in rooms of three sizes.
-use crate::rooms::{
-    nodes_of_250, nodes_of_512, nodes_of_million, probabilities_of_250, probabilities_of_512,
-    probabilities_of_million, row,
-};
-use filevalue::tree::with_flows;
+ghost use Rattle.std.specs.Prelude.{◌≤◌};
+
+use filevalue::tree::answered;
 use filevalue::{Ask, Reply};
 use floats::{Reason, Refusal};
 
-// With room for 250 steps.
-fn in_250(text: &[u8], ask: Ask) -> Result<Reply, Refusal> {
-    let mut nodes = nodes_of_250();
-    let mut probabilities = probabilities_of_250();
-    let mut first = row();
-    let mut second = row();
-    with_flows(
-        text,
-        ask,
-        &mut nodes,
-        &mut probabilities,
-        &mut first,
-        &mut second,
-    )
-}
-
-// With room for 512 steps.
-fn in_512(text: &[u8], ask: Ask) -> Result<Reply, Refusal> {
-    let mut nodes = nodes_of_512();
-    let mut probabilities = probabilities_of_512();
-    let mut first = row();
-    let mut second = row();
-    with_flows(
-        text,
-        ask,
-        &mut nodes,
-        &mut probabilities,
-        &mut first,
-        &mut second,
-    )
-}
-
-// With room for a million nodes.
-fn in_million(text: &[u8], ask: Ask) -> Result<Reply, Refusal> {
-    let mut nodes = nodes_of_million();
-    let mut probabilities = probabilities_of_million();
-    let mut first = row();
-    let mut second = row();
-    with_flows(
+// In room for trees: two node numbers and three probabilities for each node, and two rows as long as the widest layer of any.
+fn in_room<const NODES: usize, const PROBABILITIES: usize>(
+    text: &[u8],
+    ask: Ask,
+) -> Result<Reply, Refusal>
+    requires nodes { NODES ≤ 2000000 }
+    requires probabilities { PROBABILITIES ≤ 3000000 }
+{
+    let mut nodes = [0; NODES];
+    let mut probabilities = [0.0; PROBABILITIES];
+    let mut first = [0.0; 20000];
+    let mut second = [0.0; 20000];
+    answered(
         text,
         ask,
         &mut nodes,
@@ -61,19 +33,20 @@ fn is_short(reply: Result<Reply, Refusal>) -> bool {
 }
 
 // In the smallest room, or where that is too small in one of the larger ones. It calls itself so that no compiler joins the
-// rooms' frames: not every stack holds the larger ones, and few trees need them.
+// rooms' frames: not every stack holds the larger ones, and few trees need them. 250 steps have 251² nodes, each layer two
+// wider than the one before, 512 steps 513²; a million nodes are for layers that widen faster.
 fn in_rooms(text: &[u8], ask: Ask, larger: u32) -> Result<Reply, Refusal> {
     if larger == 0 {
-        return in_250(text, ask);
+        return in_room::<126002, 189003>(text, ask);
     }
     let reply = in_rooms(text, ask, larger - 1);
     if !is_short(reply) {
         return reply;
     }
     if larger == 1 {
-        return in_512(text, ask);
+        return in_room::<526338, 789507>(text, ask);
     }
-    in_million(text, ask)
+    in_room::<2000000, 3000000>(text, ask)
 }
 
 pub(crate) fn asked(text: &[u8], ask: Ask) -> Result<Reply, Refusal> {

@@ -5,7 +5,7 @@ use bondline::bytes::{past_spaces, until};
 use bondline::forms::kind_named;
 use bondline::lines::next_line;
 use bondline::words::{span_of, word_at};
-use filebond::parts::bytes_of;
+use filebond::parts::first;
 use reportlines::lines::said_line;
 use reportlines::typed::typed_word;
 use std::rt::Stdout;
@@ -20,7 +20,7 @@ fn line_from(text: &[u8], at: usize) -> &[u8] {
         return text;
     }
     let whole = &text[at..end];
-    bytes_of(whole, until(whole, 0, b'#'))
+    first(whole, until(whole, 0, b'#'))
 }
 
 // What a line says behind its first word.

@@ -1,6 +1,6 @@
 // The elementary functions, kinds 1 to 11.
 
-use crate::record::{float, number};
+use crate::record::Record;
 use floats::Refusal;
 
 fn answer_to(kind: u64, a: f64, b: f64, c: f64) -> Result<f64, Refusal> {
@@ -19,25 +19,17 @@ fn answer_to(kind: u64, a: f64, b: f64, c: f64) -> Result<f64, Refusal> {
     }
 }
 
-// Whether an answer is the number, the place and the value that a record holds.
-fn is_answer(answer: Result<f64, Refusal>, number: u32, place: u32, value: f64) -> bool {
-    match answer {
-        Ok(x) => number == 0 && place == 0 && x == value,
-        Err(refusal) => refusal.reason.number() == number && refusal.place == place && value == 0.0,
-    }
-}
-
-pub(crate) fn same(kind: u64, record: &[u8; 1784]) -> bool {
+// Whether the answer is the number, the place and the value that the record holds.
+pub(crate) fn same(record: &Record) -> bool {
     let answer = answer_to(
-        kind,
-        float(record, 86),
-        float(record, 87),
-        float(record, 88),
+        record.word(0),
+        record.float(86),
+        record.float(87),
+        record.float(88),
     );
-    is_answer(
-        answer,
-        number(record, 93),
-        number(record, 94),
-        float(record, 95),
-    )
+    let (refusal, value) = match answer {
+        Ok(x) => (None, x),
+        Err(refusal) => (Some(refusal), 0.0),
+    };
+    record.is_refused(refusal) && value == record.float(95)
 }

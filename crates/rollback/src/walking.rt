@@ -1,23 +1,53 @@
 // The walk back over all layers, the two lent rows alternating, to the root's value.
 
-ghost use Rattle.std.specs.Prelude.{◌≡◌, ◌+◌, ◌*◌, ◌^◌, ◌<◌, ◌≤◌, length, get_or, replicate, pos, Ok, Err};
+ghost use Rattle.std.specs.Prelude.{◌≡◌, ◌+◌, ◌*◌, ◌^◌, ◌<◌, ◌≤◌, length, get_or, replicate, Ok};
 ghost use Rattle.bondevents.specs.Calls.{new_step};
-ghost use Rattle.floats.specs.Answers.{follow, on_outcome};
-ghost use Rattle.lattice.specs.Layers.{value_at};
-ghost use Rattle.lattice.specs.Lattice.{root_layer};
-ghost use Rattle.backwardinduction.specs.Walk.{walk_from};
-ghost use Rattle.lattice.specs.laws.Stored.{numbers_in};
-ghost use Rattle.lattice.specs.laws.Laid.{front_nodes, layers_in, final_in, Laid};
+ghost use Rattle.floats.specs.Answers.{follow};
 ghost use Rattle.lattice.specs.laws.Positions.{start_of, Layered};
 ghost use Rattle.lattice.specs.laws.Rows.{current_part, outcome_of};
 ghost use Rattle.backwardinduction.specs.laws.WalkSteps.{rolled_at};
-ghost use Rattle.backwardinduction.specs.laws.WalkMore.{calls_of};
 ghost use Rattle.forwardinduction.specs.laws.Fitting.{row_in};
+ghost use Rattle.rollback.specs.Walking.{steps_of, walk_over, root_at, LaidIn, Aligned, Walkable};
 
-use backwardinduction::walk::{Rates, roll};
-use bondevents::{CallStep, Exercise};
+use backwardinduction::walk::{Rates, Reads, roll};
+use bondevents::CallStep;
 use floats::Refusal;
 use forwardinduction::rows::current;
+
+// A fitted tree that is only read: its layers one after the other, and their counts, spacings and shifts.
+#[derive(Clone, Copy)]
+pub struct Lattice<'a> {
+    pub nodes: &'a [i32],
+    pub probabilities: &'a [f64],
+    pub counts: &'a [usize],
+    pub spacings: &'a [f64],
+    pub shifts: &'a [f64],
+    pub flat: bool,
+    pub dt: f64,
+}
+
+// What the steps bring: cashflows, and the marks and prices of calls and puts.
+#[derive(Clone, Copy)]
+pub struct Events<'a> {
+    pub cashflows: &'a [f64],
+    pub marks: &'a [u8],
+    pub prices: &'a [f64],
+}
+
+impl Events<'_> {
+    // The step's call and put: mark 1 is a call, 2 a put, 3 both; the prices stand side by side.
+    fn call_at(self, step: u32) -> CallStep
+        requires { (step < length self.marks.now) × (length self.prices.now ≡ length self.marks.now * 2) }
+        ensures { result ≡ get_or (steps_of self.entry) step new_step }
+    {
+        let at = step as usize;
+        let mark = self.marks[at];
+        CallStep {
+            call: (mark % 2 == 1).then_some(self.prices[at * 2]),
+            put: (mark > 1).then_some(self.prices[at * 2 + 1]),
+        }
+    }
+}
 
 // The current row of the last step: the same value at each node.
 fn final_row(first: &mut [f64], second: &mut [f64], count: usize, value: f64, step: u32)
@@ -39,27 +69,19 @@ fn roll_step(
     second: &mut [f64],
     count: usize,
     next: usize,
-    flat: bool,
-    rates: Rates,
-    call: CallStep,
-    cashflow: f64,
-    step: u32,
+    reads: Reads,
 ) -> Result<(), Refusal>
     requires count_in_bounds { (count ≤ length first.old) × (count ≤ length second.old) × (next ≤ length first.old) × (next ≤ length second.old) }
-    requires layered { Layered flat next nodes.now probabilities.now count }
-    ensures { outcome_of result (current_part step count first.new second.new) ≡ rolled_at rates call cashflow step flat (current_part (step + 1) next first.old second.old) (start_of nodes.now) 0 nodes.now probabilities.now (current_part step count first.old second.old) }
+    requires layered { Layered reads.flat next nodes.now probabilities.now count }
+    ensures { outcome_of result (current_part reads.place count first.new second.new) ≡ rolled_at reads.rates reads.call reads.cashflow reads.place reads.flat (current_part (reads.place + 1) next first.old second.old) (start_of nodes.now) 0 nodes.now probabilities.now (current_part reads.place count first.old second.old) }
 {
-    if step % 2 == 0 {
+    if reads.place % 2 == 0 {
         return roll(
             nodes,
             probabilities,
             &second[..next],
             &mut first[..count],
-            flat,
-            rates,
-            call,
-            cashflow,
-            step,
+            reads,
         );
     }
     roll(
@@ -67,139 +89,77 @@ fn roll_step(
         probabilities,
         &first[..next],
         &mut second[..count],
-        flat,
-        rates,
-        call,
-        cashflow,
-        step,
+        reads,
     )
-}
-
-// The step's call and put: mark 1 is a call, 2 a put, 3 both; the prices stand side by side.
-fn call_at(marks: &[u8], prices: &[f64], step: u32) -> CallStep
-    requires { (step < length marks.now) × (length prices.now ≡ length marks.now * 2) }
-    ensures { result ≡ get_or (calls_of marks.now prices.now) step new_step }
-{
-    let at = step as usize;
-    let mark = marks[at];
-    CallStep {
-        call: Exercise {
-            marked: mark % 2 == 1,
-            price: prices[at * 2],
-        },
-        put: Exercise {
-            marked: mark > 1,
-            price: prices[at * 2 + 1],
-        },
-    }
 }
 
 // The row of `step`, from all the rows behind it.
 fn walk(
-    nodes: &[i32],
-    probabilities: &[f64],
-    counts: &[usize],
-    spacings: &[f64],
-    shifts: &[f64],
-    cashflows: &[f64],
-    marks: &[u8],
-    prices: &[f64],
-    flat: bool,
-    dt: f64,
+    lattice: Lattice<'_>,
+    events: Events<'_>,
     spread: f64,
     step: u32,
     first: &mut [f64],
     second: &mut [f64],
 ) -> Result<(), Refusal>
-    requires laid { Laid flat (length first.old) (length second.old) counts.now spacings.now nodes.now probabilities.now }
-    requires shifts_len { (length shifts.now ≡ length spacings.now) × (step + length spacings.now < length cashflows.now) × (length cashflows.now < 2 ^ 32) }
-    requires marks_len { (length marks.now ≡ length cashflows.now) × (length prices.now ≡ length cashflows.now * 2) }
-    ensures { (follow (outcome_of result (record { first = first.exit.now; second = second.new })) λ rows. Ok (row_in step (get_or counts.now 0 0) nodes.now rows)) ≡ walk_from dt spread cashflows.now (calls_of marks.now prices.now) step (layers_in flat counts.now spacings.now nodes.now probabilities.now) shifts.now (final_in counts.now spacings.now nodes.now) }
+    requires laid { LaidIn lattice (length first.old) (length second.old) }
+    requires steps { (length lattice.shifts.now ≡ length lattice.spacings.now) × (step + length lattice.spacings.now < length events.cashflows.now) × (length events.cashflows.now < 2 ^ 32) }
+    requires calls { Aligned events }
+    ensures { (follow (outcome_of result (record { first = first.exit.now; second = second.new })) λ rows. Ok (row_in step (get_or lattice.entry.counts.now 0 0) lattice.entry.nodes.now rows)) ≡ walk_over lattice.entry events.entry spread step }
 {
-    let count = counts[0];
-    let cashflow = cashflows[step as usize];
-    if spacings.len() == 0 {
+    let count = lattice.counts[0];
+    let cashflow = events.cashflows[step as usize];
+    if lattice.spacings.is_empty() {
         final_row(first, second, count, cashflow, step);
         return Ok(());
     }
     let pairs = count * 2;
     let threes = count * 3;
-    walk(
-        &nodes[pairs..],
-        &probabilities[threes..],
-        &counts[1..],
-        &spacings[1..],
-        &shifts[1..],
-        cashflows,
-        marks,
-        prices,
-        flat,
-        dt,
-        spread,
-        step + 1,
-        first,
-        second,
-    )?;
+    let behind = Lattice {
+        nodes: &lattice.nodes[pairs..],
+        probabilities: &lattice.probabilities[threes..],
+        counts: &lattice.counts[1..],
+        spacings: &lattice.spacings[1..],
+        shifts: &lattice.shifts[1..],
+        ..lattice
+    };
+    walk(behind, events, spread, step + 1, first, second)?;
     let rates = Rates {
-        spacing: spacings[0],
-        dt,
-        shift: shifts[0],
+        spacing: lattice.spacings[0],
+        dt: lattice.dt,
+        shift: lattice.shifts[0],
         spread,
     };
-    let call = call_at(marks, prices, step);
+    let reads = Reads {
+        rates,
+        call: events.call_at(step),
+        cashflow,
+        flat: lattice.flat,
+        place: step,
+    };
     roll_step(
-        &nodes[..pairs],
-        &probabilities[..threes],
+        &lattice.nodes[..pairs],
+        &lattice.probabilities[..threes],
         first,
         second,
         count,
-        counts[1],
-        flat,
-        rates,
-        call,
-        cashflow,
-        step,
+        lattice.counts[1],
+        reads,
     )
 }
 
 // The root's value, or the refusal met on the way to it.
 pub fn root_value(
-    nodes: &[i32],
-    probabilities: &[f64],
-    counts: &[usize],
-    spacings: &[f64],
-    shifts: &[f64],
-    cashflows: &[f64],
-    marks: &[u8],
-    prices: &[f64],
-    flat: bool,
-    dt: f64,
+    lattice: Lattice<'_>,
+    events: Events<'_>,
     spread: f64,
     first: &mut [f64],
     second: &mut [f64],
 ) -> Result<f64, Refusal>
-    requires laid { Laid flat (length first.old) (length second.old) counts.now spacings.now nodes.now probabilities.now }
-    requires counts_value { (get_or counts.now 0 0 ≡ 1) × (numbers_in (front_nodes 1 nodes.now) ≡ root_layer) }
-    requires shifts_len { (length shifts.now ≡ length spacings.now) × (length spacings.now < length cashflows.now) × (length cashflows.now < 2 ^ 32) }
-    requires marks_len { (length marks.now ≡ length cashflows.now) × (length prices.now ≡ length cashflows.now * 2) }
-    ensures { result ≡ on_outcome (walk_from dt spread cashflows.now (calls_of marks.now prices.now) 0 (layers_in flat counts.now spacings.now nodes.now probabilities.now) shifts.now (final_in counts.now spacings.now nodes.now)) Err (λ row. Ok (value_at (pos 0) row)) }
+    requires { Walkable lattice events (length first.old) (length second.old) }
+    ensures { result ≡ root_at lattice.entry events.entry spread }
 {
-    walk(
-        nodes,
-        probabilities,
-        counts,
-        spacings,
-        shifts,
-        cashflows,
-        marks,
-        prices,
-        flat,
-        dt,
-        spread,
-        0,
-        first,
-        second,
-    )?;
+    walk(lattice, events, spread, 0, first, second)?;
     let row = current(first, second, 0, 1);
     Ok(row[0])
 }

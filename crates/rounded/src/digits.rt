@@ -5,7 +5,8 @@ ghost use Rattle.rounded.specs.laws.Root.{IsRoot};
 
 use crate::product::product;
 
-// The whole part of the root, from any guess; the nearer the guess, the sooner.
+// The whole part of the root, from any guess; the nearer the guess, the sooner. Two loops: how often a guess has to be mended
+// is not known beforehand, so there is no range.
 pub fn mended(start: u64, n: u128) -> u64
     requires { n < 2 ^ 124 }
     ensures { IsRoot result n }

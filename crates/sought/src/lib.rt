@@ -2,29 +2,27 @@
 #![tactic(auto, unfolding(floats::specs::Answers::on_outcome))]
 
 use interestrate::RateDefinition;
+use rollback::walking::{Events, Lattice};
 use terms::Epoch;
+use terms::market::Leg;
 
 pub mod objectives;
 
-// What is priced at a tried argument: the cashflows at a yield, or the fitted tree at a spread.
+// What is priced at a tried argument: cashflows at a yield, or a fitted tree at a spread.
 #[derive(Clone, Copy)]
-pub enum Priced {
-    Yield,
-    Spread,
+pub enum Priced<'a> {
+    Cashflows(Epoch, Leg<'a>, RateDefinition),
+    Tree(Lattice<'a>, Events<'a>),
 }
 
-// What the solver looks for: where what is priced is worth the target. A yield uses the rate and the settlement, a spread the tree's time step and whether it is flat.
+// What the solver looks for: where what is priced is worth the target.
 #[derive(Clone, Copy)]
-pub struct Sought {
-    pub priced: Priced,
-    pub rate: RateDefinition,
-    pub settlement: Epoch,
+pub struct Sought<'a> {
+    pub priced: Priced<'a>,
     pub target: f64,
-    pub dt: f64,
-    pub flat: bool,
 }
 
-impl Sought {
+impl Sought<'_> {
     // The ends of the first bracket, of a yield and of a spread.
     pub const LOWER: f64 = -0.05;
 

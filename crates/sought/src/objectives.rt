@@ -1,17 +1,22 @@
 // What the solver evaluates: the worth of what is priced at a tried argument, less the target.
-ghost use Rattle.std.specs.Prelude.{◌≡◌, [], length};
+ghost use Rattle.std.specs.Prelude.{◌≡◌, length};
 ghost use Rattle.std.specs.Float.{binary64};
 ghost use Rattle.std.specs.Float.Ieee.{sub};
 ghost use Rattle.floats.specs.Answers.{tested};
+ghost use Rattle.rollback.specs.Walking.{Walkable};
 ghost use Rattle.sought.specs.Objectives.{objective};
-ghost use Rattle.sought.specs.laws.Sought.{tree_parts, spread_at, sought_at, Walkable, Ready};
+ghost use Rattle.sought.specs.laws.Sought.{spread_at, sought_at, Ready};
+ghost use Rattle.terms.specs.Market.{leg_in};
 
 use crate::{Priced, Sought};
 use floats::finite::tested;
 use floats::{Reason, Refusal};
+use interestrate::RateDefinition;
 use interestrate::prices::yield_price_and_derivative;
-use rollback::walking::root_value;
+use rollback::walking::{Events, Lattice, root_value};
+use terms::Epoch;
 use terms::limits::Spread;
+use terms::market::Leg;
 use terms::ranges::not_within;
 
 // Value less target.
@@ -22,31 +27,31 @@ fn above_target(value: f64, target: f64) -> Result<f64, Refusal>
 }
 
 // Price less target at a yield. The derivative is worked out too.
-fn at_yield(sought: Sought, days: &[u32], amounts: &[f64], y: f64) -> Result<f64, Refusal>
-    requires { length amounts.now ≡ length days.now }
-    ensures { result ≡ objective sought.settlement (record { days = days.now; kinds = []; amounts = amounts.now }) sought.rate sought.target y }
+fn at_yield(
+    settlement: Epoch,
+    leg: Leg<'_>,
+    rate: RateDefinition,
+    target: f64,
+    y: f64,
+) -> Result<f64, Refusal>
+    requires { length leg.amounts.now ≡ length leg.days.now }
+    ensures { result ≡ objective settlement (leg_in leg) rate target y }
 {
-    let at_y = yield_price_and_derivative(sought.settlement, days, amounts, sought.rate, y)?;
-    above_target(at_y.price, sought.target)
+    let at_y = yield_price_and_derivative(settlement, leg, rate, y)?;
+    above_target(at_y.price, target)
 }
 
 // The root's value less target at a spread.
 fn at_spread(
-    sought: Sought,
-    nodes: &[i32],
-    probabilities: &[f64],
-    counts: &[usize],
-    spacings: &[f64],
-    shifts: &[f64],
-    cashflows: &[f64],
-    marks: &[u8],
-    prices: &[f64],
+    lattice: Lattice<'_>,
+    events: Events<'_>,
+    target: f64,
     first: &mut [f64],
     second: &mut [f64],
     spread: f64,
 ) -> Result<f64, Refusal>
-    requires { Walkable sought.flat (tree_parts nodes.now probabilities.now counts.now spacings.now shifts.now cashflows.now marks.now prices.now) (length first.old) (length second.old) }
-    ensures { result ≡ spread_at sought.dt sought.flat sought.target (tree_parts nodes.now probabilities.now counts.now spacings.now shifts.now cashflows.now marks.now prices.now) spread }
+    requires { Walkable lattice events (length first.old) (length second.old) }
+    ensures { result ≡ spread_at lattice.entry events.entry target spread }
 {
     if 1.0 < spread {
         return Err(Refusal {
@@ -60,59 +65,26 @@ fn at_spread(
             place: 0,
         });
     }
-    let value = root_value(
-        nodes,
-        probabilities,
-        counts,
-        spacings,
-        shifts,
-        cashflows,
-        marks,
-        prices,
-        sought.flat,
-        sought.dt,
-        spread,
-        first,
-        second,
-    )?;
-    above_target(value, sought.target)
+    let value = root_value(lattice, events, spread, first, second)?;
+    above_target(value, target)
 }
 
-// The objective at a tried argument.
+// The objective at a tried argument. The rows are room for the walk over a tree.
 pub fn objective(
-    sought: Sought,
-    days: &[u32],
-    amounts: &[f64],
-    nodes: &[i32],
-    probabilities: &[f64],
-    counts: &[usize],
-    spacings: &[f64],
-    shifts: &[f64],
-    cashflows: &[f64],
-    marks: &[u8],
-    prices: &[f64],
+    sought: Sought<'_>,
     first: &mut [f64],
     second: &mut [f64],
     x: f64,
 ) -> Result<f64, Refusal>
-    requires { Ready sought days.now amounts.now (tree_parts nodes.now probabilities.now counts.now spacings.now shifts.now cashflows.now marks.now prices.now) (length first.old) (length second.old) }
-    ensures { result ≡ sought_at sought days.now amounts.now (tree_parts nodes.now probabilities.now counts.now spacings.now shifts.now cashflows.now marks.now prices.now) x }
+    requires { Ready sought.priced (length first.old) (length second.old) }
+    ensures { result ≡ sought_at sought.entry.priced sought.entry.target x }
 {
     match sought.priced {
-        Priced::Yield => at_yield(sought, days, amounts, x),
-        Priced::Spread => at_spread(
-            sought,
-            nodes,
-            probabilities,
-            counts,
-            spacings,
-            shifts,
-            cashflows,
-            marks,
-            prices,
-            first,
-            second,
-            x,
-        ),
+        Priced::Cashflows(settlement, leg, rate) => {
+            at_yield(settlement, leg, rate, sought.target, x)
+        }
+        Priced::Tree(lattice, events) => {
+            at_spread(lattice, events, sought.target, first, second, x)
+        }
     }
 }

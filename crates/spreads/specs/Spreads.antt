@@ -6,6 +6,8 @@ use Rattle.floats.specs.declared.Refusal.{Refusal}
 use Rattle.floats.specs.Answers.{Answer, one, refusal, tested, Check, Outcome}
 use Rattle.terms.specs.declared.Settlement.{Settlement}
 use Rattle.terms.specs.Terms.{Leg, CallSchedule, SigmaSchedule, Pillars, Bond, TimeGrid, HullWhite, Market}
+use Rattle.terms.specs.declared.market.Market.{Market as LentMarket}
+use Rattle.terms.specs.Market.{market_of}
 use Rattle.terms.specs.Checks.{on_check}
 use Rattle.terms.specs.Entries.{spread_checks}
 use Rattle.treebasedbondpricer.specs.declared.TreeValue.{TreeValue}
@@ -87,6 +89,10 @@ lent_after q calls l = on_check (quoted_checks q calls) (λ r. l) (zeroed l)
 pub record Solved (q : Quoted) (calls : CallSchedule) (answer : Searched Root) (before after : Lent) : Type 0 where
   pub root : answer ≡ spread_from_price q calls (room_of before)
   pub slices : after ≡ lent_after q calls before
+
+-- What a market asks whose spread is the target.
+abbrev pub quoted_of : LentMarket → Quoted
+quoted_of market = quoting (market_of market) market.spread
 
 -- What a call brings, gathered.
 abbrev pub quoted_in : Settlement → Leg → Float → CallSchedule → ℕ → ℕ → Float → SigmaSchedule → Float → Pillars → Quoted

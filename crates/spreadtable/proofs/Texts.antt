@@ -1,7 +1,8 @@
 -- A cell by what a call answered. Assumes nothing.
-use Rattle.std.specs.Prelude.{Ok, Err}
+use Rattle.std.specs.Prelude.{Ok, Err, Option, Some, None}
 use Prim.Native.Nat.{ℕ}
-use mathlib.Core.Path.{◌≡◌, refl, sym, ap, ◌∙◌}
+use native.Mathlib.Omega.{arith}
+use mathlib.Core.Path.{◌≡◌, sym, ap, ◌∙◌}
 use mathlib.Core.Bool.{Bool, true, false, cond}
 use mathlib.Core.List.{List}
 use lib.Ieee.{Float}
@@ -10,16 +11,23 @@ use Rattle.floats.specs.Reasons.{reason_number}
 use Rattle.floats.specs.Answers.{Answer, Check}
 use Rattle.terms.specs.Numbers.{float}
 use Rattle.terms.specs.Checks.{beyond}
-use Rattle.closingsheet.specs.declared.ValueCell.{ValueCell}
-use Rattle.closingsheet.specs.Cells.{value_cell}
+use Rattle.closingsheet.specs.Cells.{fitted_cell, value_cell}
 use Rattle.spreadtable.specs.Cells.{hash_cell, value_text, answer_text}
 use Rattle.spreadtable.specs.laws.Refusing.{check_text}
 
-pub too_wide : {v : ValueCell} {r : List ℕ} (x : Float) → v ≡ value_cell x → v.wide ≡ true → r ≡ hash_cell 32 → r ≡ value_text x
-too_wide x e t p = p ∙ sym (ap (λ (b : Bool). cond b (hash_cell 32) (value_cell x).cell) (sym (ap (λ (z : ValueCell). z.wide) e) ∙ t))
+too_wide_lem : (b : Bool) (cell : List ℕ) {r : List ℕ} → None ≡ cond b None (Some cell) → r ≡ hash_cell 32 → r ≡ cond b (hash_cell 32) cell
+too_wide_lem true cell e p = p
+too_wide_lem false cell e p = absurd (let z : ◌≡◌ {A = ℕ} 0 1 = cc in omega arith)
 
-pub narrow : {v : ValueCell} (x : Float) → v ≡ value_cell x → v.wide ≡ false → v.cell ≡ value_text x
-narrow x e t = ap (λ (z : ValueCell). z.cell) e ∙ sym (ap (λ (b : Bool). cond b (hash_cell 32) (value_cell x).cell) (sym (ap (λ (z : ValueCell). z.wide) e) ∙ t))
+narrow_lem : (b : Bool) (cell : List ℕ) {t : List ℕ} → Some t ≡ cond b None (Some cell) → t ≡ cond b (hash_cell 32) cell
+narrow_lem true cell e = absurd (let z : ◌≡◌ {A = ℕ} 0 1 = cc in omega arith)
+narrow_lem false cell {t} e = let same : t ≡ cell = cc in same
+
+pub too_wide : {v : Option (List ℕ)} {r : List ℕ} (x : Float) → v ≡ fitted_cell (value_cell x) → v ≡ None → r ≡ hash_cell 32 → r ≡ value_text x
+too_wide x e t p = too_wide_lem (value_cell x).wide (value_cell x).cell (sym t ∙ e) p
+
+pub narrow : {v : Option (List ℕ)} {t : List ℕ} (x : Float) → v ≡ fitted_cell (value_cell x) → v ≡ Some t → t ≡ value_text x
+narrow x e s = narrow_lem (value_cell x).wide (value_cell x).cell (sym s ∙ e)
 
 pub of_value_lem : {a : Answer} {r : List ℕ} (x : Float) → a ≡ Ok x → r ≡ value_text x → r ≡ answer_text a
 unfolding answer_text

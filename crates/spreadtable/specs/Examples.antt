@@ -1,16 +1,13 @@
 -- Cells, shifts and pages as they are printed, computed by the checker.
-use Rattle.std.specs.Prelude.{ℕ, ◌≡◌, refl, true, false, List, [], ◌∷◌, ◌++◌, length, replicate, Float, Ok, Err}
+use Rattle.std.specs.Prelude.{ℕ, ◌≡◌, true, false, List, [], ◌∷◌, ◌++◌, length, replicate, Float, Ok, Err}
 use Rattle.std.specs.Float.{nan, inf, binary64}
 use Rattle.std.specs.Float.Ieee.{of_bits}
 use Rattle.std.specs.Float.Ieee as ieee
 use Rattle.floats.specs.Answers.{plus_zero}
 use Rattle.decimal.specs.Examples.{bytes}
-use Rattle.bondreport.specs.Numbers.{byte_left, digits_left, width_of, whole_left}
-use Rattle.bondreport.specs.Figures.{point_left, minus_left}
 use Rattle.terms.specs.Numbers.{float}
-use Rattle.closingsheet.specs.Cells.{printed_of}
 use Rattle.spreadtable.specs.Cells.{hash_cell, value_text, cell_text}
-use Rattle.spreadtable.specs.Page.{row_text, page_text, at}
+use Rattle.spreadtable.specs.Page.{page_text, at}
 use Rattle.spreadtable.specs.Table.{shifted, any_outside, wrong_count}
 use Rattle.floats.specs.declared.Reason.TheVariants as reason
 

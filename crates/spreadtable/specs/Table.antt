@@ -9,7 +9,7 @@ use Rattle.lattice.specs.Layers.{Room}
 use Rattle.treebasedbondpricer.specs.Tree.{tree_value, Lent, room_of, zeroed}
 use Rattle.spreadtable.specs.declared.SpreadTable.{SpreadTable}
 use Rattle.spreadtable.specs.Cells.{hash_cell, cell_text}
-use Rattle.spreadtable.specs.Page.{row_text, page_text, printed, no_table}
+use Rattle.spreadtable.specs.Page.{page_text, printed, no_table}
 
 -- The shift added to every sigma.
 abbrev pub shifted : Float → List Float → List Float

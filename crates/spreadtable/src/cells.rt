@@ -24,12 +24,10 @@ pub fn hash_cell(number: u32) -> [u8; 16]
 fn value_text(x: f64) -> [u8; 16]
     ensures { result ≡ value_text x }
 {
-    let value = value_cell(x);
-    let wide = value.wide;
-    if wide {
-        return hash_cell(Reason::TooWide.number());
+    match value_cell(x) {
+        Some(cell) => cell,
+        None => hash_cell(Reason::TooWide.number()),
     }
-    value.cell
 }
 
 // A value, or a refusal's number.

@@ -1,9 +1,9 @@
 // A row by the checks of each cell's own call, and by one fit where they are passed.
+// What is lent stays in slices of its own: of a struct of `&mut`s each contract would have to say that its borrows stay.
 ghost use Rattle.std.specs.Prelude.{◌≡◌, ◌+◌, ◌*◌, ◌≤◌, length};
-ghost use Rattle.floats.specs.Answers.{plus_zero};
 ghost use Rattle.terms.specs.Curve.{CurveTimes};
-ghost use Rattle.terms.specs.Slices.{leg_in, calls_in, sigma_in, pillars_in, market_in};
-ghost use Rattle.treebasedbondpricer.specs.Slices.{lent_in, room_in};
+ghost use Rattle.terms.specs.Market.{calls_in, market_in};
+ghost use Rattle.treebasedbondpricer.specs.Slices.{room_in};
 ghost use Rattle.spreadtable.specs.Page.{row_text};
 ghost use Rattle.spreadtable.specs.laws.Writing.{appended};
 ghost use Rattle.spreadtable.specs.laws.Refusing.{check_text, check_cell, single_cell};
@@ -14,7 +14,7 @@ use crate::fits::checked_row;
 use crate::writing::append;
 use entrychecks::entries::tree_checks;
 use floats::Refusal;
-use terms::Settlement;
+use terms::market::{CallSchedule, Market};
 
 // A check's number. One that passed isn't asked.
 fn check_text(check: Result<(), Refusal>) -> [u8; 16]
@@ -26,66 +26,24 @@ fn check_text(check: Result<(), Refusal>) -> [u8; 16]
     }
 }
 
-// Each cell by the checks of its own call, none of which is passed.
+// Each cell by the checks of its own call, none of which is passed. Not by `row_of`: its closure would have to ask for the curve's times.
 pub fn unchecked_row(
     w: Written,
-    settlement: Settlement,
-    days: &[u32],
-    kinds: &[u8],
-    amounts: &[f64],
-    units: f64,
-    starts: &[u32],
-    ends: &[u32],
-    strikes: &[f64],
-    put_starts: &[u32],
-    put_ends: &[u32],
-    put_strikes: &[f64],
-    yearly: u32,
-    maximum: u32,
-    alpha: f64,
-    times: &[f64],
-    sigmas: &[f64],
+    market: Market<'_>,
+    calls: CallSchedule<'_>,
     spreads: &[f64],
-    pillars: &[u32],
-    factors: &[f64],
     curve_times: &[f64],
 ) -> Written
     requires spreads_bound { w.length + 16 * length spreads.now + 1 ≤ 4112 }
-    requires curve_times { CurveTimes settlement pillars.now curve_times.now }
-    ensures { result ≡ appended w (row_text
-        (check_cell
-        (market_in settlement (leg_in days kinds amounts) units (calls_in put_starts put_ends put_strikes) yearly maximum alpha (sigma_in times sigmas) plus_zero (pillars_in pillars factors))
-        (calls_in starts ends strikes))
-        spreads.now) }
+    requires curve_times { CurveTimes market.settlement market.pillars.days.now curve_times.now }
+    ensures { result ≡ appended w (row_text (check_cell (market_in market) (calls_in calls)) spreads.now) }
 {
     let mut row = w;
-    let mut i = 0;
-    while i < spreads.len() {
-        let check = tree_checks(
-            settlement,
-            days,
-            kinds,
-            amounts,
-            units,
-            starts,
-            ends,
-            strikes,
-            put_starts,
-            put_ends,
-            put_strikes,
-            yearly,
-            maximum,
-            alpha,
-            times,
-            sigmas,
-            spreads[i],
-            pillars,
-            factors,
-            curve_times,
-        );
+    for spread in spreads {
+        let spread = *spread;
+        let check = tree_checks(Market { spread, ..market }, calls, curve_times);
         let cell = check_text(check);
         row = append(row, &cell);
-        i += 1;
     }
     append(row, b"\n")
 }
@@ -93,25 +51,9 @@ pub fn unchecked_row(
 // Each cell the value of a single call with its spread.
 pub fn single_row(
     w: Written,
-    settlement: Settlement,
-    days: &[u32],
-    kinds: &[u8],
-    amounts: &[f64],
-    units: f64,
-    starts: &[u32],
-    ends: &[u32],
-    strikes: &[f64],
-    put_starts: &[u32],
-    put_ends: &[u32],
-    put_strikes: &[f64],
-    yearly: u32,
-    maximum: u32,
-    alpha: f64,
-    times: &[f64],
-    sigmas: &[f64],
+    market: Market<'_>,
+    calls: CallSchedule<'_>,
     spreads: &[f64],
-    pillars: &[u32],
-    factors: &[f64],
     curve_times: &[f64],
     nodes: &mut [i32],
     probabilities: &mut [f64],
@@ -119,82 +61,22 @@ pub fn single_row(
     second: &mut [f64],
 ) -> Written
     requires spreads_bound { w.length + 16 * length spreads.now + 1 ≤ 4112 }
-    requires curve_times { CurveTimes settlement pillars.now curve_times.now }
-    ensures { result ≡ appended w (row_text
-        (single_cell
-        (market_in settlement (leg_in days kinds amounts) units (calls_in put_starts put_ends put_strikes) yearly maximum alpha (sigma_in times sigmas) plus_zero (pillars_in pillars factors))
-        (calls_in starts ends strikes)
-        (room_in nodes probabilities first second))
-        spreads.now) }
+    requires curve_times { CurveTimes market.settlement market.pillars.days.now curve_times.now }
+    ensures { result ≡ appended w (row_text (single_cell (market_in market) (calls_in calls) (room_in nodes probabilities first second)) spreads.now) }
 {
-    let check = tree_checks(
-        settlement,
-        days,
-        kinds,
-        amounts,
-        units,
-        starts,
-        ends,
-        strikes,
-        put_starts,
-        put_ends,
-        put_strikes,
-        yearly,
-        maximum,
-        alpha,
-        times,
-        sigmas,
-        0.0,
-        pillars,
-        factors,
-        curve_times,
-    );
+    let in_range = Market {
+        spread: 0.0,
+        ..market
+    };
+    let check = tree_checks(in_range, calls, curve_times);
     let Ok(()) = check else {
-        return unchecked_row(
-            w,
-            settlement,
-            days,
-            kinds,
-            amounts,
-            units,
-            starts,
-            ends,
-            strikes,
-            put_starts,
-            put_ends,
-            put_strikes,
-            yearly,
-            maximum,
-            alpha,
-            times,
-            sigmas,
-            spreads,
-            pillars,
-            factors,
-            curve_times,
-        );
+        return unchecked_row(w, market, calls, spreads, curve_times);
     };
     checked_row(
         w,
-        settlement,
-        days,
-        kinds,
-        amounts,
-        units,
-        starts,
-        ends,
-        strikes,
-        put_starts,
-        put_ends,
-        put_strikes,
-        yearly,
-        maximum,
-        alpha,
-        times,
-        sigmas,
+        in_range,
+        calls,
         spreads,
-        pillars,
-        factors,
         curve_times,
         nodes,
         probabilities,

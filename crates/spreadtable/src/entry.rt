@@ -1,7 +1,6 @@
 // The spread by sigma table: 45 first, then row by row; the lent slices are left all zero.
 ghost use Rattle.std.specs.Prelude.{◌≡◌, ◌≤◌};
-ghost use Rattle.floats.specs.Answers.{plus_zero};
-ghost use Rattle.terms.specs.Slices.{leg_in, calls_in, sigma_in, pillars_in, market_in};
+ghost use Rattle.terms.specs.Market.{calls_in, market_in};
 ghost use Rattle.treebasedbondpricer.specs.Slices.{lent_in, lent_out};
 ghost use Rattle.spreadtable.specs.Page.{no_table, no_page};
 ghost use Rattle.spreadtable.specs.Table.{wrong_count, Tabled};
@@ -10,8 +9,8 @@ ghost use Rattle.spreadtable.specs.laws.Writing.{as_table};
 use crate::pages::all_rows;
 use crate::{SpreadTable, Written};
 use floats::{Reason, Refusal};
-use terms::Settlement;
 use terms::curve::{pillar_times, timed_pillars};
+use terms::market::{CallSchedule, Market};
 use terms::ranges::out_of;
 use treebasedbondpricer::zero::{zero_floats, zero_numbers};
 
@@ -19,10 +18,8 @@ use treebasedbondpricer::zero::{zero_floats, zero_numbers};
 fn wrong_count(spreads: &[f64], shifts: &[f64]) -> bool
     ensures { result ≡ wrong_count spreads.now shifts.now }
 {
-    if out_of(SpreadTable::FEWEST, SpreadTable::MOST, spreads.len()) {
-        return true;
-    }
-    out_of(SpreadTable::FEWEST, SpreadTable::MOST, shifts.len())
+    out_of(SpreadTable::FEWEST, SpreadTable::MOST, spreads.len())
+        || out_of(SpreadTable::FEWEST, SpreadTable::MOST, shifts.len())
 }
 
 // 45: no page.
@@ -55,24 +52,8 @@ fn as_table(w: Written) -> SpreadTable
 
 // A page with a row for each shift and a column for each spread. The lent slices are untouched after 45, else all zero.
 pub fn spread_table(
-    settlement: Settlement,
-    cashflow_days: &[u32],
-    cashflow_kinds: &[u8],
-    cashflow_amounts: &[f64],
-    units: f64,
-    call_starts: &[u32],
-    call_ends: &[u32],
-    call_strikes: &[f64],
-    put_starts: &[u32],
-    put_ends: &[u32],
-    put_strikes: &[f64],
-    steps_per_year: u32,
-    max_steps: u32,
-    alpha: f64,
-    sigma_times: &[f64],
-    sigmas: &[f64],
-    pillar_days: &[u32],
-    pillar_factors: &[f64],
+    market: Market<'_>,
+    calls: CallSchedule<'_>,
     spreads: &[f64],
     shifts: &[f64],
     nodes: &mut [i32],
@@ -81,9 +62,8 @@ pub fn spread_table(
     second_row: &mut [f64],
 ) -> SpreadTable
     ensures { Tabled
-        (market_in settlement (leg_in cashflow_days cashflow_kinds cashflow_amounts) units (calls_in put_starts put_ends put_strikes) steps_per_year max_steps alpha
-        (sigma_in sigma_times sigmas) plus_zero (pillars_in pillar_days pillar_factors))
-        (calls_in call_starts call_ends call_strikes)
+        (market_in market)
+        (calls_in calls)
         spreads.now
         shifts.now
         result
@@ -93,29 +73,13 @@ pub fn spread_table(
     if wrong_count(spreads, shifts) {
         return no_table();
     }
-    let table = pillar_times(settlement, pillar_days);
-    let count = timed_pillars(pillar_days);
+    let table = pillar_times(market.settlement, market.pillars.days);
+    let count = timed_pillars(market.pillars.days);
     let rows = all_rows(
-        settlement,
-        cashflow_days,
-        cashflow_kinds,
-        cashflow_amounts,
-        units,
-        call_starts,
-        call_ends,
-        call_strikes,
-        put_starts,
-        put_ends,
-        put_strikes,
-        steps_per_year,
-        max_steps,
-        alpha,
-        sigma_times,
-        sigmas,
+        market,
+        calls,
         spreads,
         shifts,
-        pillar_days,
-        pillar_factors,
         &table[..count],
         nodes,
         probabilities,

@@ -14,7 +14,7 @@ mod sigmas;
 mod walks;
 mod writing;
 
-// A page by value, zero past its length; or why there is none.
+// A page, zero past its length; or why there is none. It is handed to C whole, a zero page beside a refusal, and there is no heap.
 #[derive(Drop)]
 pub struct SpreadTable {
     pub refusal: Option<Refusal>,
@@ -29,7 +29,7 @@ impl SpreadTable {
     pub const MOST: usize = 16;
 }
 
-// What is written of a page.
+// What is written of a page: bytes of a fixed size with a length, as C takes them.
 #[derive(Drop)]
 pub struct Written {
     pub page: [u8; 4112],

@@ -1,5 +1,5 @@
-// Rows that are refused whole, or but for the spread's own range.
-ghost use Rattle.std.specs.Prelude.{◌≡◌, ◌+◌, ◌*◌, ◌≤◌, length};
+// Rows by what each cell says, and those that are refused whole, or but for the spread's own range.
+ghost use Rattle.std.specs.Prelude.{◌≡◌, ℕ, ◌+◌, ◌*◌, ◌≤◌, List, length, Float};
 ghost use Rattle.spreadtable.specs.Page.{row_text};
 ghost use Rattle.spreadtable.specs.laws.Writing.{appended};
 ghost use Rattle.spreadtable.specs.laws.FittedOnce.{spread_cell};
@@ -11,18 +11,32 @@ use floats::{Reason, Refusal};
 use terms::limits::Spread;
 use terms::ranges::not_within;
 
+// A cell for each spread, and a newline.
+pub fn row_of<F: Fn(f64) -> [u8; 16]>(w: Written, spreads: &[f64], cell: F) -> Written
+    requires room { w.length + 16 * length spreads.now + 1 ≤ 4112 }
+    requires callable { (state : F) (s : Float) → F.pre state s }
+    ensures { (text : Float → List ℕ) → ((s : Float) (r : List ℕ) → F.post cell s r → r ≡ text s) → result ≡ appended w (row_text text spreads.now) }
+{
+    let mut row = w;
+    for spread in spreads {
+        let text = cell(*spread);
+        row = append(row, &text);
+    }
+    append(row, b"\n")
+}
+
 // One cell for every spread.
 pub fn same_row(w: Written, spreads: &[f64], cell: [u8; 16]) -> Written
     requires { w.length + 16 * length spreads.now + 1 ≤ 4112 }
     ensures { result ≡ appended w (row_text (λ s. cell) spreads.now) }
 {
-    let mut row = w;
-    let mut i = 0;
-    while i < spreads.len() {
-        row = append(row, &cell);
-        i += 1;
-    }
-    append(row, b"\n")
+    row_of(
+        w,
+        spreads,
+        |_|
+            ensures { result ≡ cell }
+        { cell },
+    )
 }
 
 // 4 for a spread out of its range, else what was answered before the walk.
@@ -40,12 +54,11 @@ pub fn stopped_row(w: Written, spreads: &[f64], answer: Result<f64, Refusal>) ->
     requires { w.length + 16 * length spreads.now + 1 ≤ 4112 }
     ensures { result ≡ appended w (row_text (spread_cell λ s. answer) spreads.now) }
 {
-    let mut row = w;
-    let mut i = 0;
-    while i < spreads.len() {
-        let cell = stopped_cell(spreads[i], answer);
-        row = append(row, &cell);
-        i += 1;
-    }
-    append(row, b"\n")
+    row_of(
+        w,
+        spreads,
+        |spread|
+            ensures { result ≡ spread_cell (λ s. answer) spread }
+        { stopped_cell(spread, answer) },
+    )
 }

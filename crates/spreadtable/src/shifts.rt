@@ -1,11 +1,11 @@
 // The row of one shift.
+// What is lent stays in slices of its own: of a struct of `&mut`s each contract would have to say that its borrows stay.
 ghost use Rattle.std.specs.Prelude.{◌≡◌, ◌+◌, ◌*◌, ◌≤◌, length};
-ghost use Rattle.floats.specs.Answers.{plus_zero};
 ghost use Rattle.terms.specs.Curve.{CurveTimes};
-ghost use Rattle.terms.specs.Slices.{leg_in, calls_in, sigma_in, pillars_in, market_in};
-ghost use Rattle.treebasedbondpricer.specs.Slices.{lent_in, room_in};
+ghost use Rattle.terms.specs.Market.{calls_in, market_of, market_in};
+ghost use Rattle.treebasedbondpricer.specs.Slices.{room_in};
 ghost use Rattle.spreadtable.specs.Page.{row_text};
-ghost use Rattle.spreadtable.specs.Table.{cell_at};
+ghost use Rattle.spreadtable.specs.Table.{with_sigmas, cell_at};
 ghost use Rattle.spreadtable.specs.laws.Writing.{appended};
 
 use crate::Written;
@@ -14,32 +14,32 @@ use crate::checks::{single_row, unchecked_row};
 use crate::rows::same_row;
 use crate::sigmas::{any_outside, shifted_sigmas};
 use floats::Reason;
-use terms::Settlement;
 use terms::limits::SigmaEntries;
+use terms::market::{CallSchedule, HullWhite, Market, SigmaSchedule};
+
+// The same terms with other sigmas.
+fn with_sigmas<'a>(market: Market<'a>, sigmas: &'a [f64]) -> Market<'a>
+    ensures { market_of result ≡ with_sigmas (market_in market) sigmas.now }
+{
+    Market {
+        model: HullWhite {
+            alpha: market.model.alpha,
+            sigma: SigmaSchedule {
+                times: market.model.sigma.times,
+                sigmas,
+            },
+        },
+        ..market
+    }
+}
 
 // 46 ahead of any other refusal. Of more sigmas than a call takes none is read.
 pub fn shifted_row(
     w: Written,
     shift: f64,
-    settlement: Settlement,
-    days: &[u32],
-    kinds: &[u8],
-    amounts: &[f64],
-    units: f64,
-    starts: &[u32],
-    ends: &[u32],
-    strikes: &[f64],
-    put_starts: &[u32],
-    put_ends: &[u32],
-    put_strikes: &[f64],
-    yearly: u32,
-    maximum: u32,
-    alpha: f64,
-    times: &[f64],
-    sigmas: &[f64],
+    market: Market<'_>,
+    calls: CallSchedule<'_>,
     spreads: &[f64],
-    pillars: &[u32],
-    factors: &[f64],
     curve_times: &[f64],
     nodes: &mut [i32],
     probabilities: &mut [f64],
@@ -47,66 +47,23 @@ pub fn shifted_row(
     second: &mut [f64],
 ) -> Written
     requires spreads_bound { w.length + 16 * length spreads.now + 1 ≤ 4112 }
-    requires curve_times { CurveTimes settlement pillars.now curve_times.now }
-    ensures { result ≡ appended w (row_text
-        (cell_at
-        (market_in settlement (leg_in days kinds amounts) units (calls_in put_starts put_ends put_strikes) yearly maximum alpha (sigma_in times sigmas) plus_zero (pillars_in pillars factors))
-        (calls_in starts ends strikes)
-        (room_in nodes probabilities first second)
-        shift)
-        spreads.now) }
+    requires curve_times { CurveTimes market.settlement market.pillars.days.now curve_times.now }
+    ensures { result ≡ appended w (row_text (cell_at (market_in market) (calls_in calls) (room_in nodes probabilities first second) shift) spreads.now) }
 {
+    let sigmas = market.model.sigma.sigmas;
     if any_outside(sigmas, shift) {
         let cell = hash_cell(Reason::ShiftedSigma.number());
         return same_row(w, spreads, cell);
     }
     if sigmas.len() > SigmaEntries::MOST {
-        return unchecked_row(
-            w,
-            settlement,
-            days,
-            kinds,
-            amounts,
-            units,
-            starts,
-            ends,
-            strikes,
-            put_starts,
-            put_ends,
-            put_strikes,
-            yearly,
-            maximum,
-            alpha,
-            times,
-            sigmas,
-            spreads,
-            pillars,
-            factors,
-            curve_times,
-        );
+        return unchecked_row(w, market, calls, spreads, curve_times);
     }
     let moved = shifted_sigmas(sigmas, shift);
     single_row(
         w,
-        settlement,
-        days,
-        kinds,
-        amounts,
-        units,
-        starts,
-        ends,
-        strikes,
-        put_starts,
-        put_ends,
-        put_strikes,
-        yearly,
-        maximum,
-        alpha,
-        times,
-        &moved[..sigmas.len()],
+        with_sigmas(market, &moved[..sigmas.len()]),
+        calls,
         spreads,
-        pillars,
-        factors,
         curve_times,
         nodes,
         probabilities,

@@ -9,12 +9,10 @@ use terms::ranges::not_up_to;
 pub fn any_outside(sigmas: &[f64], shift: f64) -> bool
     ensures { result ≡ any_outside (shifted shift sigmas.now) }
 {
-    let mut i = 0;
-    while i < sigmas.len() {
-        if not_up_to(SigmaEntries::SIGMA, sigmas[i] + shift) {
+    for sigma in sigmas {
+        if not_up_to(SigmaEntries::SIGMA, *sigma + shift) {
             return true;
         }
-        i += 1;
     }
     false
 }
@@ -25,10 +23,8 @@ pub fn shifted_sigmas(sigmas: &[f64], shift: f64) -> [f64; 64]
     ensures { take (length sigmas.now) result ≡ shifted shift sigmas.now }
 {
     let mut moved = [0.0; 64];
-    let mut i = 0;
-    while i < sigmas.len() {
+    for i in 0..sigmas.len() {
         moved[i] = sigmas[i] + shift;
-        i += 1;
     }
     moved
 }

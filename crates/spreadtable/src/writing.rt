@@ -19,12 +19,10 @@ pub fn append(w: Written, text: &[u8]) -> Written
     ensures { result ≡ appended w text.now }
 {
     let mut page = w.page;
-    let mut at = w.length;
-    let mut i = 0;
-    while i < text.len() {
-        page[at] = text[i];
-        at += 1;
-        i += 1;
+    let mut length = w.length;
+    for byte in text {
+        page[length] = *byte;
+        length += 1;
     }
-    Written { page, length: at }
+    Written { page, length }
 }

@@ -10,7 +10,8 @@ use Rattle.terms.specs.Entries.{grid_checks, tree_checks}
 use Rattle.terms.specs.CallLists.{MadeFrom, Reordered}
 use Rattle.terms.specs.laws.CallChecks.{call-counted, call-count_of}
 use Rattle.terms.specs.laws.Groups.{CallsPassed}
-use Rattle.terms.specs.laws.EntryChecks.{grid-terms, grid-calls, grid-passed, grid-strike-refused, tree-market, tree-calls, tree-passed, tree-strike-refused, tree-alike}
+use Rattle.terms.specs.laws.GridChecks.{grid-terms, grid-calls, grid-passed, grid-strike-refused}
+use Rattle.terms.specs.laws.TreeChecks.{tree-market, tree-calls, tree-passed, tree-strike-refused, tree-alike}
 use Rattle.terms.specs.laws.MadeLists.{SomeAbove, AllWithin, made-days, made-ordered, made-strikes, made-refused, reordered-within}
 use Rattle.terms.proofs.Pairing.{made-size}
 

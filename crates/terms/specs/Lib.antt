@@ -1,6 +1,6 @@
 pub mod Numbers
 pub mod Terms
-pub mod Slices
+pub mod Market
 pub mod Checks
 pub mod Entries
 pub mod Times

@@ -9,7 +9,12 @@ pub mod Ranges
 pub mod Counts
 pub mod CallChecks
 pub mod Groups
-pub mod EntryChecks
+pub mod PutChecks
+pub mod GridChecks
+pub mod MarketChecks
+pub mod TreeChecks
+pub mod StraightChecks
+pub mod YieldChecks
 pub mod MadeLists
 pub mod TermChecks
 pub mod Numbered

@@ -1,11 +1,12 @@
 // 2: a list's count outside its limits, or parallel slices of unequal length; 37: more than 64 puts.
 
-ghost use Rattle.std.specs.Prelude.{◌≡◌, not, ◌||◌, [], ◌≤◌, length, eqb};
+ghost use Rattle.std.specs.Prelude.{◌≡◌, not, ◌||◌, ◌≤◌, length, eqb};
 ghost use Rattle.terms.specs.laws.Stages.{Tells};
-ghost use Rattle.terms.specs.Terms.{Leg, CallSchedule, SigmaSchedule, Pillars};
+ghost use Rattle.terms.specs.Market.{leg_in, calls_in, sigma_in, pillars_in};
 ghost use Rattle.terms.specs.Checks.{outside, leg_count, call_count, put_count, put_most, sigma_count, pillar_count};
 
 use crate::limits::{CallEntries, Cashflows, PillarEntries, SigmaEntries};
+use crate::market::{CallSchedule, Leg, Pillars, SigmaSchedule};
 use crate::ranges::out_of;
 use crate::refusing::single;
 use floats::{Reason, Refusal};
@@ -25,33 +26,33 @@ fn three_wrong(low: usize, high: usize, count: usize, second: usize, third: usiz
 }
 
 // 1 to 256 cashflows.
-pub fn leg_count(days: &[u32], kinds: &[u8], amounts: &[f64]) -> Result<(), Refusal>
-    ensures { result ≡ leg_count (record { days = days.entry.now; kinds = kinds.now; amounts = amounts.now }) }
+pub fn leg_count(leg: Leg<'_>) -> Result<(), Refusal>
+    ensures { result ≡ leg_count (leg_in leg) }
 {
     single(
         Reason::Count,
         three_wrong(
             Cashflows::FEWEST,
             Cashflows::MOST,
-            days.len(),
-            kinds.len(),
-            amounts.len(),
+            leg.days.len(),
+            leg.kinds.len(),
+            leg.amounts.len(),
         ),
     )
 }
 
 // 0 to 64 call entries.
-pub fn call_count(starts: &[u32], ends: &[u32], strikes: &[f64]) -> Result<(), Refusal>
-    ensures { result ≡ call_count (record { starts = starts.entry.now; ends = ends.now; strikes = strikes.now }) }
+pub fn call_count(calls: CallSchedule<'_>) -> Result<(), Refusal>
+    ensures { result ≡ call_count (calls_in calls) }
 {
     single(
         Reason::Count,
         three_wrong(
             CallEntries::FEWEST,
             CallEntries::MOST,
-            starts.len(),
-            ends.len(),
-            strikes.len(),
+            calls.starts.len(),
+            calls.ends.len(),
+            calls.strikes.len(),
         ),
     )
 }
@@ -64,49 +65,49 @@ fn unequal(count: usize, second: usize, third: usize) -> bool
 }
 
 // Put entries: unequal slices alone.
-pub fn put_count(starts: &[u32], ends: &[u32], strikes: &[f64]) -> Result<(), Refusal>
-    ensures { result ≡ put_count (record { starts = starts.entry.now; ends = ends.now; strikes = strikes.now }) }
+pub fn put_count(puts: CallSchedule<'_>) -> Result<(), Refusal>
+    ensures { result ≡ put_count (calls_in puts) }
 {
     single(
         Reason::Count,
-        unequal(starts.len(), ends.len(), strikes.len()),
+        unequal(puts.starts.len(), puts.ends.len(), puts.strikes.len()),
     )
 }
 
 // 37: more than 64 puts.
-pub fn put_most(starts: &[u32]) -> Result<(), Refusal>
-    ensures { Tells result (put_most (record { starts = starts.entry.now; ends = []; strikes = [] })) (length starts.entry.now ≤ 64) }
+pub fn put_most(puts: CallSchedule<'_>) -> Result<(), Refusal>
+    ensures { Tells result (put_most (calls_in puts)) (length puts.entry.starts.now ≤ 64) }
 {
-    let many = starts.len() > CallEntries::MOST;
+    let many = puts.starts.len() > CallEntries::MOST;
     single(Reason::PutCount, many)
 }
 
 // 1 to 64 sigma entries.
-pub fn sigma_count(times: &[f64], sigmas: &[f64]) -> Result<(), Refusal>
-    ensures { result ≡ sigma_count (record { times = times.entry.now; sigmas = sigmas.now }) }
+pub fn sigma_count(sigma: SigmaSchedule<'_>) -> Result<(), Refusal>
+    ensures { result ≡ sigma_count (sigma_in sigma) }
 {
     single(
         Reason::Count,
         two_wrong(
             SigmaEntries::FEWEST,
             SigmaEntries::MOST,
-            times.len(),
-            sigmas.len(),
+            sigma.times.len(),
+            sigma.sigmas.len(),
         ),
     )
 }
 
 // 2 to 256 pillars.
-pub fn pillar_count(days: &[u32], factors: &[f64]) -> Result<(), Refusal>
-    ensures { result ≡ pillar_count (record { days = days.entry.now; factors = factors.now }) }
+pub fn pillar_count(pillars: Pillars<'_>) -> Result<(), Refusal>
+    ensures { result ≡ pillar_count (pillars_in pillars) }
 {
     single(
         Reason::Count,
         two_wrong(
             PillarEntries::FEWEST,
             PillarEntries::MOST,
-            days.len(),
-            factors.len(),
+            pillars.days.len(),
+            pillars.factors.len(),
         ),
     )
 }

@@ -8,6 +8,7 @@ pub mod curve;
 pub mod fields;
 pub mod limits;
 pub mod lists;
+pub mod market;
 pub mod numbers;
 pub mod pillars;
 pub mod ranges;

@@ -1,4 +1,4 @@
-// Lent slices all zero, the unused tail included.
+// Lent slices all zero, the unused tail included. By type: the clause of std's fill speaks of clones, and the entries' proofs cite it plain.
 
 ghost use Rattle.std.specs.Prelude.{◌≡◌, length, replicate, pos};
 ghost use Rattle.floats.specs.Answers.{plus_zero};

@@ -1,4 +1,5 @@
 // A layer in the node slice, one place per node: its middles take the places of its nodes, and the next layer is laid behind it.
+// count_next, push, push_three and spread are like layers' own: a node has one place here and two there, its middle beside it, so that one function for both would multiply each index by a parameter and write the middle on a condition.
 
 ghost use Rattle.std.specs.Prelude.{◌≡◌, ◌+◌, ◌≤◌, ◌<◌, length, get_or, take, drop, pos};
 ghost use Rattle.lattice.specs.laws.Bounds.{Within, Numbered, AllWithin};
@@ -23,11 +24,9 @@ pub fn fill(
     requires { count ≤ length nodes.old }
     ensures { FilledInPlace spacing decay new_spacing place count result nodes.old nodes.new }
 {
-    let mut i = 0;
-    while i < count {
+    for i in 0..count {
         let node = nodes[i];
         nodes[i] = middle_of(spacing, decay, new_spacing, place, node)?.node;
-        i += 1;
     }
     Ok(())
 }
@@ -39,11 +38,9 @@ pub fn count_next(count: usize, nodes: &[i32]) -> Reach
 {
     let first = nodes[0];
     let mut r = nothing_below(first);
-    let mut i = 0;
-    while i < count {
+    for i in 0..count {
         let middle = nodes[i];
         r = reached(r, middle);
-        i += 1;
     }
     r
 }
@@ -82,23 +79,8 @@ pub fn spread(count: usize, nodes: &mut [i32])
 {
     let first = nodes[0];
     let mut r = nothing_below(first);
-    let mut i = 0;
-    while i < count {
+    for i in 0..count {
         let middle = nodes[i];
         r = push_three(r, middle, count, nodes);
-        i += 1;
-    }
-}
-
-// The `next` nodes behind the first `count` places move to the front.
-pub fn to_front(count: usize, next: usize, nodes: &mut [i32])
-    requires { count + next ≤ length nodes.old }
-    ensures { take next nodes.new ≡ take next (drop count nodes.old) }
-{
-    let mut i = 0;
-    while i < next {
-        let node = nodes[count + i];
-        nodes[i] = node;
-        i += 1;
     }
 }

@@ -1,6 +1,6 @@
 // All layers of the tree in the node slice, two at a time: how many nodes they have, and how many the widest has.
 
-ghost use Rattle.std.specs.Prelude.{◌≡◌, max, ◌<◌, ◌^◌, T, length, take};
+ghost use Rattle.std.specs.Prelude.{◌≡◌, ◌<◌, ◌^◌, T, length, take};
 ghost use Rattle.std.specs.Float.Ieee.{le};
 ghost use Rattle.floats.specs.Answers.{plus_zero};
 ghost use Rattle.lattice.specs.Lattice.{root_layer};
@@ -9,6 +9,7 @@ ghost use Rattle.widths.specs.laws.Summing.{sums_made, sums_of, flat_all, rooted
 
 use crate::widen::widen;
 use floats::{Reason, Refusal};
+use lattice::NextLayer;
 use latticetransitions::curved::decay_of;
 use latticetransitions::flat::all_flat;
 use layers::grow::spacing_of;
@@ -20,36 +21,25 @@ pub struct Widths {
     pub widest: u64,
 }
 
-fn greatest(a: u64, b: u64) -> u64
-    ensures { result ≡ max a b }
-{
-    if a < b {
-        return b;
-    }
-    a
-}
-
 // The layers from the root on, which stands in front.
 fn layers(decay: f64, first: f64, variances: &[f64], nodes: &mut [i32]) -> Result<Widths, Refusal>
     requires { (T (le plus_zero decay)) × (T (le plus_zero first)) × (length variances.now < 2 ^ 32) × (0 < length nodes.old) × (take 1 nodes.old ≡ root_layer) }
     ensures { sums_made result ≡ sums_of (widths_from (length nodes.old) decay first root_layer 0 variances.now) }
 {
-    let mut spacing = first;
-    let mut count: usize = 1;
+    let mut layer = NextLayer {
+        spacing: first,
+        count: 1,
+    };
     let mut total: u64 = 0;
     let mut widest: u64 = 0;
-    let mut i: usize = 0;
-    while i < variances.len() {
-        total += count as u64;
-        widest = greatest(widest, count as u64);
-        let next = widen(spacing, decay, variances[i], i as u32, count, nodes)?;
-        spacing = next.spacing;
-        count = next.count;
-        i += 1;
+    for (i, variance) in variances.iter().enumerate() {
+        total += layer.count as u64;
+        widest = widest.max(layer.count as u64);
+        layer = widen(layer, decay, *variance, i as u32, nodes)?;
     }
     Ok(Widths {
-        nodes: total + count as u64,
-        widest: greatest(widest, count as u64),
+        nodes: total + layer.count as u64,
+        widest: widest.max(layer.count as u64),
     })
 }
 

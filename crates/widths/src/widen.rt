@@ -6,16 +6,16 @@ ghost use Rattle.widths.specs.Widths.{new_spacing};
 ghost use Rattle.widths.specs.laws.LayerMiddles.{Reached};
 ghost use Rattle.widths.specs.laws.Widening.{Fore, Widened, next_wide, wide_from, NextPlaced};
 
-use crate::layer::{count_next, fill, spread, to_front};
+use crate::layer::{count_next, fill, spread};
 use floats::{Reason, Refusal};
-use lattice::{MadeStep, NextLayer};
+use lattice::{NextLayer, Step};
 use layers::grow::spacing_of;
 
 // 22, then the new spacing.
 fn new_spacing(variance: f64, place: u32) -> Result<f64, Refusal>
     ensures { result ≡ new_spacing variance place }
 {
-    if variance <= MadeStep::EPSILON {
+    if variance <= Step::EPSILON {
         return Err(Refusal {
             reason: Reason::NoVariance,
             place,
@@ -43,7 +43,7 @@ fn place_next(
         });
     }
     spread(count, nodes);
-    to_front(count, next, nodes);
+    nodes.copy_within(count..count + next, 0);
     Ok(NextLayer {
         spacing,
         count: next,
@@ -52,32 +52,30 @@ fn place_next(
 
 // The layer in front by a new spacing that is made.
 fn widen_by(
-    spacing: f64,
+    layer: NextLayer,
     decay: f64,
     new_spacing: f64,
     step: u32,
-    count: usize,
     nodes: &mut [i32],
 ) -> Result<NextLayer, Refusal>
-    requires { (Fore count spacing decay nodes.old) × NotBelow new_spacing × (step + 1 < 2 ^ 32) }
-    ensures { Widened (wide_from (length nodes.old) decay spacing new_spacing (take count nodes.old) step) result nodes.old nodes.new }
+    requires { (Fore layer.count layer.spacing decay nodes.old) × NotBelow new_spacing × (step + 1 < 2 ^ 32) }
+    ensures { Widened (wide_from (length nodes.old) decay layer.spacing new_spacing (take layer.count nodes.old) step) result nodes.old nodes.new }
 {
-    fill(spacing, decay, new_spacing, step, count, nodes)?;
-    place_next(new_spacing, step, count, nodes)
+    fill(layer.spacing, decay, new_spacing, step, layer.count, nodes)?;
+    place_next(new_spacing, step, layer.count, nodes)
 }
 
-// The layer of `count` nodes in front gives way to the next one.
+// The layer in front gives way to the next one.
 pub fn widen(
-    spacing: f64,
+    layer: NextLayer,
     decay: f64,
     variance: f64,
     step: u32,
-    count: usize,
     nodes: &mut [i32],
 ) -> Result<NextLayer, Refusal>
-    requires { (Fore count spacing decay nodes.old) × (step + 1 < 2 ^ 32) }
-    ensures { Widened (next_wide (length nodes.old) decay spacing (take count nodes.old) step variance) result nodes.old nodes.new }
+    requires { (Fore layer.count layer.spacing decay nodes.old) × (step + 1 < 2 ^ 32) }
+    ensures { Widened (next_wide (length nodes.old) decay layer.spacing (take layer.count nodes.old) step variance) result nodes.old nodes.new }
 {
     let made = new_spacing(variance, step)?;
-    widen_by(spacing, decay, made, step, count, nodes)
+    widen_by(layer, decay, made, step, nodes)
 }

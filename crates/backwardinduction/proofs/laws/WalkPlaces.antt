@@ -13,7 +13,7 @@ use Rattle.backwardinduction.specs.declared.walk.Rates.{Rates}
 use Rattle.lattice.specs.Layers.{At, value_at, node_float}
 use Rattle.backwardinduction.specs.Walk.{Reads, node_value, rolled}
 use Rattle.terms.specs.laws.Outcomes.{Gives, gives, nothing, gives-valued}
-use Rattle.lattice.specs.laws.Binds.{follow-valued, follow-follow, follow-given, valued_same, follow_where}
+use Rattle.lattice.specs.laws.Binds.{follow-follow, follow-given, valued_same, follow_where}
 use Rattle.lattice.specs.laws.Stored.{numbers_in, middles_in, made_of, transitions_in, row_of}
 use Rattle.lattice.specs.laws.StoredAt.{drop_one}
 use Rattle.lattice.specs.laws.Reaching.{reach}
@@ -95,7 +95,7 @@ module _ (rates : Rates) (call : CallStep) (cashflow : Float) (place : ℕ) (fla
         ap (λ (z : Outcome (List At)). follow z (add v)) (rolled_at_lem after _ (k - 1) (i + 1) nodes ps (set out i v) rest (omega arith) (omega arith) (simp length-set (omega arith)))
         ∙ follow-follow (add v) (behind v) _ (λ o. add v (row_of (numbers_in nodes) (drop (i + 1) o))) (λ o. follow-given (add v) _)
         ∙ follow_where _ _ (rolled-kept after (i + 1) nodes ps (set out i v)) (λ o w. ap Ok (front v o w)))
-        ∙ sym (follow-valued last (value_with rates call cashflow place flat after.count (node_float n) d p u vs) _ _ (λ v. refl)))
+        ∙ sym (follow-follow last (value_with rates call cashflow place flat after.count (node_float n) d p u vs) _ _ (λ v. refl)))
       where
         front : (v : Float) (o : List Float) → Kept (i + 1) (set out i v) o → (record { node = n; value = v } ∷ row_of (numbers_in nodes) (drop (i + 1) o)) ≡ row_of (n ∷ numbers_in nodes) (drop i o)
         front v o w =

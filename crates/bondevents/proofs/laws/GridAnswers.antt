@@ -13,7 +13,7 @@ use Rattle.terms.specs.laws.Lockstep.{GivenOr27}
 use Rattle.terms.specs.laws.CallChecks.{call-counted}
 use Rattle.terms.specs.laws.TermChecks.{units-passed}
 use Rattle.terms.specs.laws.Groups.{CallsPassed}
-use Rattle.terms.specs.laws.EntryChecks.{grid-terms, grid-calls, grid-puts-alike}
+use Rattle.terms.specs.laws.GridChecks.{grid-terms, grid-calls, grid-puts-alike}
 use Rattle.terms.proofs.MadeLists as lists
 use Rattle.terms.specs.laws.MadeLists.{accepted-strike}
 use Rattle.floats.specs.Reasons.{refusal_number}

@@ -9,7 +9,7 @@ use Rattle.floats.specs.Answers.{Outcome, follow}
 use Rattle.terms.specs.laws.Outcomes.{given_or_refused, answer-cases, of_given, of_refused, valued-value, valued-refused}
 use Rattle.terms.specs.laws.Searching.{below_or_not}
 use Rattle.bondevents.specs.declared.Side.{Side}
-use Rattle.bondevents.specs.declared.Exercise.{Exercise}
+use Rattle.bondevents.specs.Exercises.{Exercise}
 use Rattle.bondevents.specs.Steps.{Axis}
 use Rattle.bondevents.specs.Calls.{Entry, eligible, call_price, none, keep, over_steps, with_entry}
 

@@ -4,6 +4,7 @@ use Rattle.std.proofs.Common.{arith, sym, ◌∙◌, inl, inr, lt-ltb, le-ltb}
 use Rattle.std.proofs.Math.Path.{ap}
 use Rattle.floats.specs.declared.Refusal.{Refusal}
 use Rattle.floats.specs.Answers.{Check}
+use Rattle.terms.specs.Terms.{CallSchedule, Market}
 use Rattle.terms.specs.Checks.{on_check, first_of}
 use Rattle.terms.specs.Entries.{tree_checks}
 use Rattle.terms.specs.laws.Searching.{below_or_not}
@@ -65,3 +66,8 @@ module _ (s : Shared) (l : Lists) (h : Holding) {c : Check} (e : c ≡ first_of 
   unfolding bond_check on_check
   bond-passed t a b d f g i j k m p =
       (rw (a, b, d, f, g, i, j, k, m) at p) ∙ ap (λ (z : Check). on_check z Err (tree_checks (market_of s l h) (calls_of l h))) (sym t ∙ e)
+
+  -- The same of the market and the calls that were cut.
+  pub bond-cut : {r : Check} {m : Market} {calls : CallSchedule} → c ≡ Ok tt → m ≡ market_of s l h → calls ≡ calls_of l h → r ≡ tree_checks m calls → r ≡ bond_check s l h
+  unfolding bond_check on_check
+  bond-cut t a b p = (rw (a, b) at p) ∙ ap (λ (z : Check). on_check z Err (tree_checks (market_of s l h) (calls_of l h))) (sym t ∙ e)

@@ -1,25 +1,19 @@
 -- The answer from its parts: the bonds valued, the sum and the count. Assumes nothing.
-use Rattle.std.specs.Prelude.{ℕ, zero, suc, ◌+◌, ◌*◌, ◌≤◌, ◌<◌, ◌^◌, refl, List, get_or, replicate, Float, None, Ok, Err}
+use Rattle.std.specs.Prelude.{ℕ, zero, suc, ◌*◌, ◌<◌, ◌^◌, refl, List, Float, None, Ok, Err}
 use Rattle.std.proofs.Common.{arith, ap, ◌∙◌}
 use Rattle.std.proofs.Math.Path.{◌≡◌, sym}
-use Rattle.std.specs.Borrow.{Bor}
-use Rattle.floats.specs.declared.Refusal.{Refusal}
-use Rattle.floats.specs.Answers.{plus_zero, Outcome}
+use Rattle.floats.specs.Answers.{Outcome}
 use Rattle.terms.specs.Terms.{CallSchedule, Market}
 use Rattle.lattice.specs.Layers.{Room}
 use Rattle.treebasedbondpricer.specs.declared.TreeValue.{TreeValue}
-use Rattle.treebasedbondpricer.specs.Tree.{tree_value, number_of, place_of, value_of, counted_by}
-use Rattle.bookchecks.specs.declared.Holding.{Holding}
+use Rattle.treebasedbondpricer.specs.Tree.{tree_value, counted_by}
 use Rattle.bookchecks.specs.declared.RefusedBond.{RefusedBond}
-use Rattle.bookchecks.specs.Book.{Shared, Lists, market_of, calls_of}
 use Rattle.bookchecks.specs.Checks.{BookOutcome, BookCheck, Passed, Refused, first_refused, on_book}
-use Rattle.bookchecks.specs.Slices.{shared_of, lists_of}
 use Rattle.bookvalue.specs.declared.Valued.{Valued}
-use Rattle.bookvalue.specs.declared.BookAnswer.{BookAnswer}
-use Rattle.bookvalue.specs.Values.{refused_tree, each, placed, sum_to, sum_check, desk_to, desk_counts, refused_book, accepted_book, summed_book, valued_book}
-use Rattle.bookvalue.specs.laws.Placed.{none-there, placed_all_lem, each-alike}
-use Rattle.bookvalue.specs.laws.Nodes.{Counted, few, none, counted}
-use Rattle.bookvalue.specs.laws.Answers.{all_values, valued_by, sum_of, answer_of, FewNodes, FewCounted}
+use Rattle.bookvalue.specs.Values.{refused_tree, sum_to, sum_check, desk_to, desk_counts, refused_book, accepted_book, summed_book, valued_book}
+use Rattle.bookvalue.specs.laws.Placed.{placed_all_lem, each-alike}
+use Rattle.bookvalue.specs.laws.Nodes.{Counted, few, counted}
+use Rattle.bookvalue.specs.laws.Answers.{all_values, valued_by, sum_of, answer_of, FewCounted}
 
 -- ---- the answer
 

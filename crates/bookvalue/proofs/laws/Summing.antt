@@ -6,12 +6,11 @@ use Rattle.std.proofs.Math.Path.{refl, ap}
 use Rattle.std.proofs.Math.Bool.{true, false, cond}
 use Rattle.std.proofs.Math.ListN.{get_or}
 use Rattle.std.specs.Float.Ieee.{binary64, add, nan}
-use Rattle.floats.specs.declared.Refusal.{Refusal}
-use Rattle.floats.specs.Answers.{Answer, plus_zero, not_finite, refusal, tested, Check}
+use Rattle.floats.specs.Answers.{Answer, plus_zero, not_finite, refusal, tested}
 use Rattle.terms.specs.Checks.{single}
 use Rattle.terms.proofs.Laws.{same_at}
 use Rattle.bookchecks.specs.declared.RefusedBond.{RefusedBond}
-use Rattle.bookchecks.specs.Checks.{BookOutcome, BookCheck, Refused, at_bond, first_refused, on_book}
+use Rattle.bookchecks.specs.Checks.{BookOutcome, BookCheck, Refused, at_bond, on_book}
 use Rattle.bookchecks.proofs.laws.Naming.{Naming, begin, turn, found, done, value_of_bond, refused_of}
 use Rattle.bookvalue.specs.Values.{each, sum_to, sum_check, desk_to}
 use Rattle.bookchecks.specs.laws.Holdings.{Filling}

@@ -1,35 +1,15 @@
 -- Definitions only. The answer from its parts: the bonds valued, the sum and the count.
-use Rattle.std.specs.Prelude.{ℕ, zero, suc, ◌+◌, ◌*◌, ◌≤◌, ◌<◌, ◌^◌, refl, List, get_or, replicate, Float, Ok, Err}
-use Rattle.std.proofs.Common.{arith, ap, ◌∙◌}
-use Rattle.std.proofs.Math.Path.{◌≡◌, sym}
-use Rattle.std.specs.Borrow.{Bor}
-use Rattle.floats.specs.declared.Refusal.{Refusal}
+use Rattle.std.specs.Prelude.{ℕ, ◌*◌, ◌<◌, ◌^◌, List, get_or, Float, Ok, Err}
 use Rattle.floats.specs.Answers.{plus_zero, Outcome}
-use Rattle.terms.specs.Terms.{CallSchedule, Market}
 use Rattle.lattice.specs.Layers.{Room}
 use Rattle.treebasedbondpricer.specs.declared.TreeValue.{TreeValue}
-use Rattle.treebasedbondpricer.specs.Tree.{tree_value, number_of, place_of, value_of, counted_by}
+use Rattle.treebasedbondpricer.specs.Tree.{tree_value, value_of, counted_by}
 use Rattle.bookchecks.specs.declared.Holding.{Holding}
 use Rattle.bookchecks.specs.Book.{Shared, Lists, market_of, calls_of}
 use Rattle.bookchecks.specs.Checks.{BookOutcome, Refused, first_refused, on_book}
-use Rattle.bookchecks.specs.Slices.{shared_of, lists_of}
 use Rattle.bookvalue.specs.declared.Valued.{Valued}
 use Rattle.bookvalue.specs.declared.BookAnswer.{BookAnswer}
-use Rattle.bookvalue.specs.Values.{refused_tree, each, placed, sum_to, sum_check, desk_to, desk_counts, refused_book, accepted_book, summed_book, valued_book}
-use Rattle.bookvalue.specs.laws.Placed.{none-there, placed_all_lem, each-alike}
-use Rattle.bookvalue.specs.laws.Nodes.{Counted, few, none, counted}
-
--- What the slices hold, gathered for what is required of them.
-abbrev pub shared_now : ℕ → Float → Bor (List Float) → Bor (List Float) → Bor (List ℕ) → Bor (List Float) → Shared
-shared_now day alpha times sigmas pillars factors =
-    shared_of day alpha (record { times = times.now; sigmas = sigmas.now }) (record { days = pillars.now; factors = factors.now })
-
-abbrev pub lists_now : Bor (List ℕ) → Bor (List ℕ) → Bor (List Float) → Bor (List ℕ) → Bor (List ℕ) → Bor (List Float) → Bor (List ℕ) → Bor (List ℕ) → Bor (List Float) → Lists
-lists_now days kinds amounts starts ends strikes putStarts putEnds putStrikes =
-    lists_of
-    (record { days = days.now; kinds = kinds.now; amounts = amounts.now })
-    (record { starts = starts.now; ends = ends.now; strikes = strikes.now })
-    (record { starts = putStarts.now; ends = putEnds.now; strikes = putStrikes.now })
+use Rattle.bookvalue.specs.Values.{refused_tree, each, placed, sum_to, sum_check, refused_book, summed_book}
 
 abbrev pub all_values : (ℕ → Outcome TreeValue) → ℕ → Valued
 all_values value n = record { values = placed plus_zero (λ i. value_of (value i)) n; counts = placed 0 (λ i. counted_by (value i)) n }

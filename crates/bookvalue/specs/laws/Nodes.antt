@@ -2,24 +2,22 @@
 use Prim.Native.Nat.{ℕ, zero, suc, ◌+◌, ◌*◌, ◌≤◌}
 use native.Mathlib.Omega.{arith}
 use Rattle.std.specs.Prelude.{◌≡◌, refl, Bool, cond, ℤ, Float, Ok, Err}
-use Rattle.std.proofs.Common.{sym, ap, ◌∙◌}
 use Rattle.std.proofs.Math.Bool.{true, false}
 use mathlib.Core.List.{List, [], ◌∷◌}
 use Rattle.std.proofs.Math.ListN.{length}
 use Rattle.std.specs.Float.Ieee.{binary64, div}
 use Rattle.floats.specs.declared.Refusal.{Refusal}
-use Rattle.floats.specs.Answers.{Answer, Check, Outcome, follow, on_outcome, refusal}
+use Rattle.floats.specs.Answers.{Answer, Check, Outcome, on_outcome, refusal}
 use Rattle.terms.specs.Numbers.{float}
 use Rattle.terms.specs.Terms.{CallSchedule, Market}
 use Rattle.terms.specs.Checks.{on_check}
 use Rattle.terms.specs.Entries.{tree_checks}
-use Rattle.terms.specs.laws.Outcomes.{Gives, gives, nothing, given_of, gives-follow, gives-valued, gives-finite, gives-known}
+use Rattle.terms.specs.laws.Outcomes.{Gives, gives, nothing, gives-follow, gives-valued, gives-finite, gives-known}
 use Rattle.bondevents.specs.declared.BondEventGrid.{BondEventGrid}
 use Rattle.bondevents.specs.Grid.{event_grid}
 use Rattle.hullwhite.specs.Variance.{transition_variances}
 use Rattle.lattice.specs.Layers.{Room, fits}
-use Rattle.lattice.specs.Transitions.{Step}
-use Rattle.lattice.specs.Lattice.{Layer, Lattice, root_layer, flat_layer, destinations, transitions_of, step_of, spacing_of, decay_of, grown, flat, curved, all_flat, lattice, count_of, node_count}
+use Rattle.lattice.specs.Lattice.{Lattice, root_layer, flat_layer, destinations, transitions_of, step_of, spacing_of, decay_of, grown, flat, curved, all_flat, lattice, count_of, node_count}
 use Rattle.lattice.specs.laws.RoomTest.{fitting}
 use Rattle.treebasedbondpricer.specs.declared.TreeValue.{TreeValue}
 use Rattle.treebasedbondpricer.specs.Tree.{Fitted, fitted_tree_over, lattice_value_over, tree_value_over, tree_value, curve_of}

@@ -2,17 +2,15 @@
 use Rattle.std.specs.Prelude.{ℕ, ◌+◌, ◌≤◌, ◌<◌, ◌≡◌, List, set, replicate, Float, Ok, Err}
 use Rattle.std.proofs.Common.{arith, ◌∙◌}
 use Rattle.std.proofs.Math.Path.{refl, sym, ap}
-use Rattle.floats.specs.declared.Refusal.{Refusal}
-use Rattle.floats.specs.Answers.{plus_zero, Check, Outcome}
+use Rattle.floats.specs.Answers.{plus_zero, Outcome}
 use Rattle.lattice.specs.Layers.{Room}
 use Rattle.treebasedbondpricer.specs.declared.TreeValue.{TreeValue}
-use Rattle.treebasedbondpricer.specs.Tree.{tree_value, value_of, counted_by}
+use Rattle.treebasedbondpricer.specs.Tree.{value_of, counted_by}
 use Rattle.bookchecks.specs.declared.Holding.{Holding}
 use Rattle.bookchecks.specs.declared.RefusedBond.{RefusedBond}
-use Rattle.bookchecks.specs.Book.{Shared, Lists, market_of, calls_of}
-use Rattle.bookchecks.specs.Checks.{BookOutcome, BookCheck, Refused, at_bond, first_refused, on_book}
+use Rattle.bookchecks.specs.Book.{Shared, Lists}
+use Rattle.bookchecks.specs.Checks.{BookOutcome, BookCheck, Refused, at_bond, on_book}
 use Rattle.bookchecks.proofs.laws.Naming.{Naming, begin, turn, found, done, value_of_bond, refused_of}
-use Rattle.bookvalue.specs.declared.Valued.{Valued}
 use Rattle.bookvalue.specs.Values.{refused_tree, placed}
 use Rattle.bookvalue.specs.laws.Placed.{placed-begin, placed_more}
 use Rattle.bookvalue.specs.laws.Answers.{all_values, valued_by, tree_of, values_of}

@@ -1,9 +1,8 @@
 -- The two loops of the solver: what is left to do is the whole answer, and the evaluations so far leave room for it. Over any objective. Assumes nothing.
 use Rattle.std.specs.Prelude.{Ok, Err}
-use Prim.Native.Nat.{ℕ, zero, suc, ◌+◌, ◌-◌, ◌*◌, ◌≤◌, ◌<◌}
+use Prim.Native.Nat.{ℕ, suc, ◌+◌, ◌-◌, ◌*◌, ◌≤◌, ◌<◌}
 use mathlib.Core.Path.{◌≡◌, refl, sym, ap, subst, ◌∙◌}
 use native.Mathlib.Omega.{arith}
-use native.Mathlib.Numerals.{sub-one}
 use lib.Ieee.{Float}
 use Rattle.floats.specs.Answers.{Answer, on_outcome}
 use Rattle.floats.specs.Extremes.{max_of}
@@ -47,23 +46,23 @@ module _ (objective : Float → Answer) (first upper lowest : Float) where
 -- ---- halvings
 
 module _ (objective : Float → Answer) (first : Bracket) where
-  pub record Halving (left : ℕ) (b : Bracket) : Type 0 where
-    pub room : b.evaluations + left ≤ 386
-    pub rest : halving objective left b ≡ halving objective 256 first
+  -- After some of the 256 halvings.
+  pub record Halving (done : ℕ) (b : Bracket) : Type 0 where
+    pub room : b.evaluations ≤ 130 + done
+    pub rest : halving objective (256 - done) b ≡ halving objective 256 first
 
-  pub halving-starts : first.evaluations ≤ 130 → Halving 256 first
+  pub halving-starts : first.evaluations ≤ 130 → Halving 0 first
   halving-starts h = record { room = omega arith; rest = refl }
 
-  halving-round : (left : ℕ) (b : Bracket) → 0 < left → halving objective left b ≡ on_halved (halve objective b) no_root found_root (λ c. halving objective (left - 1) c)
+  halving-round : (left more : ℕ) (b : Bracket) → left ≡ suc more → halving objective left b ≡ on_halved (halve objective b) no_root found_root (λ c. halving objective more c)
   unfolding halving
-  halving-round zero b h = absurd (omega arith)
-  halving-round (suc left) b h = simp sub-one
+  halving-round left more b e = rw e refl
 
-  module _ (left : ℕ) (b : Bracket) (g : Halving left b) (some : 0 < left) where
-    halving_by : {s : Searched Halved} → s ≡ halve objective b → on_halved s no_root found_root (λ c. halving objective (left - 1) c) ≡ halving objective 256 first
-    halving_by e = rw e (sym (halving-round left b some) ∙ g.rest)
+  module _ (done : ℕ) (b : Bracket) (g : Halving done b) (some : done < 256) where
+    halving_by : {s : Searched Halved} → s ≡ halve objective b → on_halved s no_root found_root (λ c. halving objective (256 - (done + 1)) c) ≡ halving objective 256 first
+    halving_by e = rw e (sym (halving-round (256 - done) (256 - (done + 1)) b (omega arith)) ∙ g.rest)
 
-    pub halving_goes_on : {s : Searched Halved} {t : Halved} (c : Bracket) → s ≡ halve objective b → s ≡ Ok t → t ≡ halved.Next c → Halving (left - 1) c
+    pub halving_goes_on : {s : Searched Halved} {t : Halved} (c : Bracket) → s ≡ halve objective b → s ≡ Ok t → t ≡ halved.Next c → Halving (done + 1) c
     unfolding on_halved
     halving_goes_on c e u v =
         let k : c.evaluations ≤ b.evaluations + 1 = subst (HalvedWithin (b.evaluations + 1)) (sym e ∙ u ∙ ap Ok v) (halve-within objective b).it in
@@ -77,61 +76,56 @@ module _ (objective : Float → Answer) (first : Bracket) where
     unfolding on_halved
     halving-stops e u p = p ∙ (rw u at (halving_by e))
 
-  pub halving-ends : (left : ℕ) (b : Bracket) → Halving left b → left ≤ 0 → no_root (record { reason = reason.NotConverged; place = 0 }) b.evaluations ≡ halving objective 256 first
+  pub halving-ends : (done : ℕ) (b : Bracket) → Halving done b → 256 ≤ done → no_root (record { reason = reason.NotConverged; place = 0 }) b.evaluations ≡ halving objective 256 first
   unfolding halving
-  halving-ends zero b g h = g.rest
-  halving-ends (suc left) b g h = absurd (omega arith)
+  halving-ends done b g h = let e : 256 - done ≡ 0 = omega arith in rw e at g.rest
 
 -- ---- widenings
 
 module _ (objective : Float → Answer) (lowest : Float) (first : Bracket) where
-  pub record Widening (left : ℕ) (b : Bracket) : Type 0 where
-    pub room : b.evaluations + 2 * left ≤ 130
-    pub rest : widening objective lowest left b ≡ widening objective lowest 64 first
+  -- After some of the 64 widenings.
+  pub record Widening (done : ℕ) (b : Bracket) : Type 0 where
+    pub room : b.evaluations ≤ 2 + 2 * done
+    pub rest : widening objective lowest (64 - done) b ≡ widening objective lowest 64 first
 
-  pub widening-starts : first.evaluations ≤ 2 → Widening 64 first
+  pub widening-starts : first.evaluations ≤ 2 → Widening 0 first
   widening-starts h = record { room = omega arith; rest = refl }
 
-  widening-round : (left : ℕ) (b : Bracket) → 0 < left → widening objective lowest left b ≡ on_widened (widen objective lowest b) no_root (settled objective) (λ c. widening objective lowest (left - 1) c)
+  widening-round : (left more : ℕ) (b : Bracket) → left ≡ suc more → widening objective lowest left b ≡ on_widened (widen objective lowest b) no_root (settled objective) (λ c. widening objective lowest more c)
   unfolding widening
-  widening-round zero b h = absurd (omega arith)
-  widening-round (suc left) b h = simp sub-one
+  widening-round left more b e = rw e refl
 
-  module _ (left : ℕ) (b : Bracket) (g : Widening left b) (some : 0 < left) where
-    widening_by : {s : Searched Widened} → s ≡ widen objective lowest b → on_widened s no_root (settled objective) (λ c. widening objective lowest (left - 1) c) ≡ widening objective lowest 64 first
-    widening_by e = rw e (sym (widening-round left b some) ∙ g.rest)
+  module _ (done : ℕ) (b : Bracket) (g : Widening done b) where
+    module _ (some : done < 64) where
+      widening_by : {s : Searched Widened} → s ≡ widen objective lowest b → on_widened s no_root (settled objective) (λ c. widening objective lowest (64 - (done + 1)) c) ≡ widening objective lowest 64 first
+      widening_by e = rw e (sym (widening-round (64 - done) (64 - (done + 1)) b (omega arith)) ∙ g.rest)
 
-    bounded : {s : Searched Widened} → s ≡ widen objective lowest b → WidenedWithin (b.evaluations + 2) s
-    bounded e = subst (WidenedWithin (b.evaluations + 2)) (sym e) (widen-within objective lowest b).it
+      bounded : {s : Searched Widened} → s ≡ widen objective lowest b → WidenedWithin (b.evaluations + 2) s
+      bounded e = subst (WidenedWithin (b.evaluations + 2)) (sym e) (widen-within objective lowest b).it
 
-    pub widening_goes_on : {s : Searched Widened} {t : Widened} (c : Bracket) → s ≡ widen objective lowest b → s ≡ Ok t → t ≡ widened.Next c → Widening (left - 1) c
-    unfolding on_widened
-    widening_goes_on c e u v =
-        let k : c.evaluations ≤ b.evaluations + 2 = rw (u ∙ ap Ok v) at (bounded e) in
-        record { room = omega (arith, g.room); rest = rw (u ∙ ap Ok v) at (widening_by e) }
+      pub widening_goes_on : {s : Searched Widened} {t : Widened} (c : Bracket) → s ≡ widen objective lowest b → s ≡ Ok t → t ≡ widened.Next c → Widening (done + 1) c
+      unfolding on_widened
+      widening_goes_on c e u v =
+          let k : c.evaluations ≤ b.evaluations + 2 = rw (u ∙ ap Ok v) at (bounded e) in
+          record { room = omega (arith, g.room); rest = rw (u ∙ ap Ok v) at (widening_by e) }
 
-    -- A last bracket has room for the halvings.
-    pub last_room : {s : Searched Widened} {t : Widened} (c : Bracket) → s ≡ widen objective lowest b → s ≡ Ok t → t ≡ widened.Last c → c.evaluations ≤ 130
-    last_room c e u v =
-        let k : c.evaluations ≤ b.evaluations + 2 = rw (u ∙ ap Ok v) at (bounded e) in
-        omega (arith, g.room)
+      -- A last bracket has room for the halvings.
+      pub last_room : {s : Searched Widened} {t : Widened} (c : Bracket) → s ≡ widen objective lowest b → s ≡ Ok t → t ≡ widened.Last c → c.evaluations ≤ 130
+      last_room c e u v =
+          let k : c.evaluations ≤ b.evaluations + 2 = rw (u ∙ ap Ok v) at (bounded e) in
+          omega (arith, g.room)
 
-    pub widening_settles : {s : Searched Widened} {t : Widened} {r : Searched Root} (c : Bracket) → s ≡ widen objective lowest b → s ≡ Ok t → t ≡ widened.Last c → r ≡ settled objective c → r ≡ widening objective lowest 64 first
-    unfolding on_widened
-    widening_settles c e u v p = p ∙ (rw (u ∙ ap Ok v) at (widening_by e))
+      pub widening_settles : {s : Searched Widened} {t : Widened} {r : Searched Root} (c : Bracket) → s ≡ widen objective lowest b → s ≡ Ok t → t ≡ widened.Last c → r ≡ settled objective c → r ≡ widening objective lowest 64 first
+      unfolding on_widened
+      widening_settles c e u v p = p ∙ (rw (u ∙ ap Ok v) at (widening_by e))
 
-    pub widening-stops : {s : Searched Widened} {q : NoRoot} {r : Searched Root} → s ≡ widen objective lowest b → s ≡ Err q → r ≡ Err q → r ≡ widening objective lowest 64 first
-    unfolding on_widened
-    widening-stops e u p = p ∙ (rw u at (widening_by e))
+      pub widening-stops : {s : Searched Widened} {q : NoRoot} {r : Searched Root} → s ≡ widen objective lowest b → s ≡ Err q → r ≡ Err q → r ≡ widening objective lowest 64 first
+      unfolding on_widened
+      widening-stops e u p = p ∙ (rw u at (widening_by e))
 
-  ended : (left : ℕ) (b : Bracket) → left ≤ 0 → settled objective b ≡ widening objective lowest left b
-  unfolding widening
-  ended zero b h = refl
-  ended (suc left) b h = absurd (omega arith)
+    pub end-room : done ≤ 64 → b.evaluations ≤ 130
+    end-room h = omega (arith, g.room)
 
-  module _ (left : ℕ) (b : Bracket) (g : Widening left b) where
-    pub end-room : b.evaluations ≤ 130
-    end-room = omega (arith, g.room)
-
-    pub widening-ends : {r : Searched Root} → left ≤ 0 → r ≡ settled objective b → r ≡ widening objective lowest 64 first
-    widening-ends h p = p ∙ ended left b h ∙ g.rest
+    pub widening-ends : {r : Searched Root} → 64 ≤ done → r ≡ settled objective b → r ≡ widening objective lowest 64 first
+    unfolding widening
+    widening-ends h p = let e : 64 - done ≡ 0 = omega arith in p ∙ (rw e at g.rest)

@@ -1,9 +1,10 @@
 -- The day after a date that exists is a date that exists, with the next number. Assumes nothing.
-use Rattle.std.specs.Prelude.{ℕ, zero, suc, ◌+◌, ◌-◌, ◌*◌, ◌≤◌, ◌<◌, ◌≡◌, refl, Bool, true, false, cond, ◌&&◌, ◌⊎◌}
+use Rattle.std.specs.Prelude.{ℕ, zero, suc, ◌+◌, ◌-◌, ◌*◌, ◌≤◌, ◌<◌, ◌≡◌, refl, Bool, true, false, cond, ◌&&◌, ◌⊎◌, Result, Ok}
 use Rattle.std.proofs.Common.{sym, ap, subst, ◌∙◌, inl, inr, le_antisymm, add-one, arith}
 use borrow.Author.Tests.{lt-ltb, le-ltb, le-leb, leb-true, leb-false}
 use lib.Dec.{T, leb, leb→le}
 use Rattle.calendar.specs.declared.Date.{Date}
+use Rattle.calendar.specs.declared.DateError.{DateError}
 use Rattle.calendar.specs.Calendar.{leap, year_length, month_length, days_of_years, days_of_months, exists, number_of, day_after}
 
 abbrev pub date : ℕ → ℕ → ℕ → Date
@@ -193,3 +194,7 @@ after-number y m d f h =
 -- The year 2448 begins after the last day.
 pub beyond : (y m d : ℕ) → 2447 < y → 200000 < number_of (date y m d)
 beyond y m d h = omega (arith, number_is y m d, years_least (y - 1900))
+
+-- Equal days are the same answer.
+pub day_is : {a b : ℕ} → a ≡ b → ◌≡◌ {A = Result ℕ DateError} (Ok a) (Ok b)
+day_is e = ap Ok e

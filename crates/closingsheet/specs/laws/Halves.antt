@@ -19,8 +19,7 @@ use Rattle.treebasedbondpricer.specs.declared.TreeValue.{TreeValue}
 use Rattle.floats.specs.Answers.{Outcome}
 use Rattle.closingsheet.specs.declared.ClosingLine.{ClosingLine}
 use Rattle.closingsheet.specs.laws.Columns.{cell-length}
-use Rattle.closingsheet.specs.declared.ValueCell.{ValueCell}
-use Rattle.closingsheet.specs.Cells.{printed_of, cell_of, value_cell}
+use Rattle.closingsheet.specs.Cells.{ValueCell, printed_of, cell_of, value_cell}
 use Rattle.closingsheet.specs.Sheet.{at, numbered, refused_sheet, shown_sheet, value_sheet, no_sheet, answer_sheet, sheet_by, sheet_of}
 use Rattle.closingsheet.specs.HalfAway.{half_away, in_cents, printed_away, away_cell, away_sheet, Alike}
 use Rattle.closingsheet.specs.laws.Cents.{cents_are}

@@ -3,7 +3,6 @@ use Rattle.std.specs.Prelude.{ℕ, ◌<◌, ◌≡◌, refl, Bool, not, cond, T,
 use Rattle.std.proofs.Common.{arith, sym, ap, subst, ◌∙◌, T_not}
 use Rattle.std.proofs.Math.Bool.{true, false}
 use Rattle.std.specs.Float.Ieee.{binary64, sub, le}
-use Rattle.std.specs.Float.Ieee.Scale.{finite}
 use Rattle.floats.specs.Answers.{plus_zero, refusal, not_finite, on_outcome, Outcome}
 use Rattle.floats.specs.laws.Propagation.{sub-left, sub_right, finite-back}
 use Rattle.floats.specs.laws.Signs.{sub-above}

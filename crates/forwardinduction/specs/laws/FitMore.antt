@@ -12,7 +12,7 @@ use Rattle.floats.specs.Answers.{plus_zero, Answer, Outcome, follow}
 use Rattle.lattice.specs.Layers.{At}
 use Rattle.lattice.specs.Lattice.{Layer}
 use Rattle.forwardinduction.specs.Fit.{weighted, shift_of, onward, shifts_from}
-use Rattle.lattice.specs.laws.Binds.{valued_then, valued_same, follow-valued, follow-follow, follow-given}
+use Rattle.lattice.specs.laws.Binds.{valued_same, follow-follow, follow-given}
 use Rattle.lattice.specs.laws.Stored.{numbers_in, transitions_in, row_of}
 use Rattle.lattice.specs.laws.Positions.{start_of, Layered}
 use Rattle.lattice.specs.laws.Replayed.{roomy_of}
@@ -106,7 +106,7 @@ module _ {flat : Bool} {one two c n : ℕ} {nodes : List ℤ} {probabilities : L
       let after : Moved → Outcome (List Float) = λ m. rest m.shift (next_row step m.rows) in
       let adv : Float → Outcome Both = λ shift. advanced_at spacing dt shift step flat c (front_nodes c nodes) (take (c * 3) probabilities) rows in
       let on : Float → Outcome (List Float) = λ shift. follow (onward spacing dt shift step (transitions_in flat (front_nodes c nodes) (take (c * 3) probabilities)) row []) (rest shift) in
-      sym (valued_then on (weighted spacing dt step row plus_zero) (λ sum. shift_of curve dt step sum) _ (λ sum. refl))
+      sym (follow-follow on (weighted spacing dt step row plus_zero) (λ sum. shift_of curve dt step sum) _ (λ sum. refl))
       ∙ valued_same (layer_shift curve dt step spacing row) on (λ shift. follow (follow (adv shift) λ rows. Ok (record { shift = shift; rows = rows })) after)
       (λ shift. advance_more spacing dt shift step rows (rest shift) a b d e ∙ sym (follow-follow after (adv shift) _ _ (λ rows. follow-given after _)))
-      ∙ sym (follow-valued after (layer_shift curve dt step spacing row) _ _ (λ shift. refl))
+      ∙ sym (follow-follow after (layer_shift curve dt step spacing row) _ _ (λ shift. refl))

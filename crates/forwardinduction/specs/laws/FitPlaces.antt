@@ -13,7 +13,7 @@ use Rattle.lattice.specs.declared.reach.Reach.{Reach}
 use Rattle.lattice.specs.Layers.{At, node_float}
 use Rattle.forwardinduction.specs.Fit.{contribute, contribute_three, onward}
 use Rattle.terms.specs.laws.Outcomes.{Gives, gives, nothing, gives-follow, gives-finite, gives-cond}
-use Rattle.lattice.specs.laws.Binds.{binds, follow-cond, follow-valued, follow-follow, follow-given, valued_same, follow_where}
+use Rattle.lattice.specs.laws.Binds.{binds, follow-cond, follow-follow, follow-given, valued_same, follow_where}
 use Rattle.lattice.specs.laws.Stored.{numbers_in, middles_in, made_of, transitions_in, row_of}
 use Rattle.lattice.specs.laws.Reaching.{reach}
 use Rattle.lattice.specs.laws.RisingMiddles.{Climbs}
@@ -137,4 +137,4 @@ module _ {t : ℤ} {ns : List ℤ} (climbs : Climbs t ns) (flat : Bool) (spacing
       ∙ follow_where _ _ (three_length place flat r.count after.count price d p u out)
       (λ o lo. onward_at_lem after _ nodes ps row o rest (omega arith) (omega arith) (omega arith))
       ∙ sym (follow-follow laid_out (three price) ka _ (λ o. refl))))
-      ∙ sym (follow-valued laid_out (discounted_of spacing dt shift place (node_float n) x) _ _ (λ price. refl))
+      ∙ sym (follow-follow laid_out (discounted_of spacing dt shift place (node_float n) x) _ _ (λ price. refl))

@@ -7,11 +7,6 @@ use Rattle.std.proofs.Math.ListN.{length, take, drop}
 use Rattle.std.proofs.Math.Seq.{take-suc-set, drop-set-lt, append_snoc, drop-drop, length-take-le}
 use Rattle.floats.specs.declared.Refusal.{Refusal}
 use Rattle.floats.specs.Answers.{Answer, on_outcome, Check, Outcome, follow}
-use Rattle.terms.specs.Terms.{HullWhite}
-
--- Alpha and sigma from the slices of a call.
-abbrev pub model_of : Float → List Float → List Float → HullWhite
-model_of alpha times sigmas = record { alpha = alpha; sigma = record { times = times; sigmas = sigmas } }
 
 -- Whether something is given, or its refusal.
 unfoldable pub check_of : {A : Type 0} → Outcome A → Check

@@ -1,6 +1,6 @@
 -- The loops over the cashflows and over their parts: what is left to do from an index on is the whole answer. Assumes nothing.
 use Rattle.std.specs.Prelude.{Ok, Err}
-use Prim.Native.Nat.{ℕ, ◌+◌, ◌-◌, ◌≤◌, ◌<◌}
+use Prim.Native.Nat.{ℕ, ◌+◌, ◌≤◌, ◌<◌}
 use mathlib.Core.Path.{◌≡◌, refl, sym, ap, ◌∙◌}
 use mathlib.Core.Bool.{cond}
 use mathlib.Core.List.{List, [], ◌∷◌, ◌++◌}
@@ -8,8 +8,10 @@ use native.Mathlib.Omega.{arith}
 use native.Mathlib.Numerals.{add-one}
 use borrow.Author.Tests.{lt-ltb, le-ltb}
 use lib.Dec.{ltb}
-use lib.ListN.{length, get_or, take, drop, length-drop, take-append-drop, drop_of_length-le}
-use lib.Seq.{drop-cons, drop-drop, length-take-le}
+use lib.ListN.{length, get_or, drop, drop_of_length-le}
+use lib.Seq.{drop-cons}
+use Rattle.std.proofs.Common.{min, length-append}
+use Rattle.std.proofs.lemmas.List.{nil_from_length}
 use lib.Ieee.{Float, nan}
 use Rattle.floats.specs.declared.Refusal.{Refusal}
 use Rattle.terms.specs.declared.Epoch.{Epoch}
@@ -17,7 +19,6 @@ use Rattle.interestrate.specs.declared.Compounding.{Compounding}
 use Rattle.interestrate.specs.declared.YieldPrice.{YieldPrice}
 use Rattle.floats.specs.Answers.{Outcome}
 use Rattle.interestrate.specs.Prices.{on_price, from_price, with_flow, flows}
-use Rattle.interestrate.specs.laws.Rows.{PartEnd}
 
 module _ (y : Float) (compounding : Compounding) (settlement : Epoch) (days : List ℕ) (amounts : List Float) (price₀ derivative₀ : Float) where
   pub record Going (i : ℕ) (price derivative : Float) : Type 0 where
@@ -99,52 +100,56 @@ module _ (y : Float) (compounding : Compounding) (settlement : Epoch) (rest-days
       (λ p d. flows y compounding settlement rest-days rest p d)
       (λ p d. appended days more p d (omega arith))
 
-abbrev part : {A : Type 0} → ℕ → ℕ → List A → List A
-part i end xs = take (end - i) (drop i xs)
-
-module _ {A : Type 0} (xs : List A) (i end : ℕ) (within : PartEnd i (length xs) end) where
-  part_length : length (part i end xs) ≡ end - i
-  part_length = length-take-le (end - i) (drop i xs) (omega (arith, length-drop i xs))
-
-  part-rest : part i end xs ++ drop end xs ≡ drop i xs
-  part-rest =
-      let e : i + (end - i) ≡ end = omega arith in
-      ap (λ (n : ℕ). part i end xs ++ drop n xs) (sym e) ∙ ap (λ (zs : List A). part i end xs ++ zs) (sym (drop-drop (end - i) i xs)) ∙ take-append-drop (end - i) (drop i xs)
-
-pub part-fits : (days : List ℕ) (amounts : List Float) (i end : ℕ) → length amounts ≡ length days → PartEnd i (length days) end
-    → (length (part i end amounts) ≡ length (part i end days)) × (length (part i end days) ≤ 64)
-part-fits days amounts i end same w =
-    let v : PartEnd i (length amounts) end = rw same w in
-    let n = part_length days i end w in
-    let m = part_length amounts i end v in
-    (m ∙ sym n, omega arith)
+-- What is left of a list that is cut into parts of at most a size, before and after a part x.
+abbrev pub Cut : {A : Type 0} → ℕ → List A → List A → ℕ → List A → Type 0
+Cut size left x size' left' = (size' ≡ size) × ((left ≡ x ++ left') × (length x ≡ min size (length left)) × (0 < length left))
 
 module _ (y : Float) (compounding : Compounding) (settlement : Epoch) (days : List ℕ) (amounts : List Float) (price₀ derivative₀ : Float) where
-  module _
-      (i : ℕ) (price derivative : Float) (same : length amounts ≡ length days) (g : Going y compounding settlement days amounts price₀ derivative₀ i price derivative)
-      (end : ℕ) (w : PartEnd i (length days) end) where
-    part_then : {s : Outcome YieldPrice}
-        → s ≡ flows y compounding settlement (part i end days) (part i end amounts) price derivative
-        → from_price s (λ p d. flows y compounding settlement (drop end days) (drop end amounts) p d) ≡ flows y compounding settlement days amounts price₀ derivative₀
-    part_then e =
-        let v : PartEnd i (length amounts) end = rw same w in
-        ap (λ (z : Outcome YieldPrice). from_price z (λ p d. flows y compounding settlement (drop end days) (drop end amounts) p d)) e
-        ∙ sym (appended y compounding settlement (drop end days) (drop end amounts) (part i end days) (part i end amounts) price derivative (part-fits days amounts i end same w).0)
-        ∙ ap (λ (zs : List ℕ). flows y compounding settlement zs (part i end amounts ++ drop end amounts) price derivative) (part-rest days i end w)
-        ∙ ap (λ (zs : List Float). flows y compounding settlement (drop i days) zs price derivative) (part-rest amounts i end v)
-        ∙ g.rest
+  -- The parts that are left give the whole answer.
+  pub record Parting (size : ℕ) (left-days : List ℕ) (size' : ℕ) (left-amounts : List Float) (price derivative : Float) : Type 0 where
+    pub sizes : (size ≡ 64) × (size' ≡ 64)
+    pub same : length left-amounts ≡ length left-days
+    pub rest : flows y compounding settlement left-days left-amounts price derivative ≡ flows y compounding settlement days amounts price₀ derivative₀
 
-    pub part-paid : {s : Outcome YieldPrice} (v : YieldPrice)
-        → s ≡ flows y compounding settlement (part i end days) (part i end amounts) price derivative
-        → s ≡ Ok v
-        → Going y compounding settlement days amounts price₀ derivative₀ end v.price v.derivative
-    unfolding on_price
-    part-paid v e given = record { within = w.ends; rest = rw given at (part_then e) }
+  module _ {size size' : ℕ} {left-days : List ℕ} {left-amounts : List Float} {price derivative : Float} (g : Parting size left-days size' left-amounts price derivative) where
+    module _ (next next' : ℕ) (ds more-days : List ℕ) (xs more : List Float) (e : Cut size left-days ds next more-days) (f : Cut size' left-amounts xs next' more) where
+      pub part-fits : (length xs ≡ length ds) × (length ds ≤ 64)
+      part-fits =
+          let a : length ds ≡ min size (length left-days) = e.1.1 in
+          let b : length xs ≡ min size' (length left-amounts) = f.1.1 in
+          let n = g.sizes in
+          let m = g.same in
+          (omega arith, omega arith)
 
-    pub part-stopped : {s r : Outcome YieldPrice} {q : Refusal}
-        → s ≡ flows y compounding settlement (part i end days) (part i end amounts) price derivative
-        → s ≡ Err q
-        → r ≡ Err q
-        → r ≡ flows y compounding settlement days amounts price₀ derivative₀
-    unfolding on_price
-    part-stopped e v p = p ∙ (rw v at (part_then e))
+      left_same : length more ≡ length more-days
+      left_same =
+          let a : length left-days ≡ length ds + length more-days = ap length e.1.0 ∙ length-append ds more-days in
+          let b : length left-amounts ≡ length xs + length more = ap length f.1.0 ∙ length-append xs more in
+          let m = g.same in
+          let n = part-fits.0 in
+          omega arith
+
+      part_then : {s : Outcome YieldPrice} → s ≡ flows y compounding settlement ds xs price derivative
+          → from_price s (λ p d. flows y compounding settlement more-days more p d) ≡ flows y compounding settlement days amounts price₀ derivative₀
+      part_then h =
+          ap (λ (z : Outcome YieldPrice). from_price z (λ p d. flows y compounding settlement more-days more p d)) h
+          ∙ sym (appended y compounding settlement more-days more ds xs price derivative part-fits.0)
+          ∙ ap (λ (zs : List ℕ). flows y compounding settlement zs (xs ++ more) price derivative) (sym e.1.0)
+          ∙ ap (λ (zs : List Float). flows y compounding settlement left-days zs price derivative) (sym f.1.0)
+          ∙ g.rest
+
+      pub part-paid : {s : Outcome YieldPrice} (v : YieldPrice) → s ≡ flows y compounding settlement ds xs price derivative → s ≡ Ok v → Parting next more-days next' more v.price v.derivative
+      unfolding on_price
+      part-paid v h given = record { sizes = (e.0 ∙ g.sizes.0, f.0 ∙ g.sizes.1); same = left_same; rest = rw given at (part_then h) }
+
+      pub part-stopped : {s r : Outcome YieldPrice} {q : Refusal} → s ≡ flows y compounding settlement ds xs price derivative → s ≡ Err q → r ≡ Err q → r ≡ flows y compounding settlement days amounts price₀ derivative₀
+      unfolding on_price
+      part-stopped h v p = p ∙ (rw v at (part_then h))
+
+    pub no_days : length left-amounts ≡ 0 → length left-days ≡ 0
+    no_days h = sym g.same ∙ h
+
+    -- No part is left.
+    pub parts-done : length left-days ≡ 0 → Ok (record { price = price; derivative = derivative }) ≡ flows y compounding settlement days amounts price₀ derivative₀
+    unfolding flows
+    parts-done h = rw (nil_from_length left-days h) at g.rest

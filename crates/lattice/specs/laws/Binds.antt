@@ -8,61 +8,22 @@ use Rattle.floats.specs.declared.Refusal.{Refusal}
 use Rattle.floats.specs.Answers.{Answer, on_outcome, follow, refusal, Outcome}
 use Rattle.terms.specs.laws.Outcomes.{Gives, gives, nothing}
 
--- ---- an answer, then an answer
-
-module _ (g : Float → Answer) where
-  -- a tested operation at the head of the first part
-  pub then_cond : (b : Bool) (why : Reason) (p : ℕ) (a : Answer) (k : Answer) → follow a g ≡ k → follow (cond b (refusal why p) a) g ≡ cond b (refusal why p) k
-  unfolding on_outcome
-  then_cond true why p a k e = refl
-  then_cond false why p a k e = e
-
-  -- an answer at the head of the first part
-  pub then_then : (a : Answer) (h k : Float → Answer) → ((x : Float) → follow (h x) g ≡ k x) → follow (follow a h) g ≡ follow a k
-  unfolding on_outcome
-  then_then (Ok x) h k e = e x
-  then_then (Err r) h k e = refl
-
-  -- the first part is done
-  pub then_value : (x : Float) → follow (Ok x) g ≡ g x
-  unfolding on_outcome
-  then_value x = refl
-
--- ---- an answer, then an outcome
-
-module _ {A : Type 0} (g : Float → Outcome A) where
-  pub valued-cond : (b : Bool) (why : Reason) (p : ℕ) (a : Answer) (k : Outcome A) → follow a g ≡ k → follow (cond b (refusal why p) a) g ≡ cond b (refusal why p) k
-  unfolding on_outcome
-  valued-cond true why p a k e = refl
-  valued-cond false why p a k e = e
-
-  pub valued_then : (a : Answer) (h : Float → Answer) (k : Float → Outcome A) → ((x : Float) → follow (h x) g ≡ k x) → follow (follow a h) g ≡ follow a k
-  unfolding on_outcome
-  valued_then (Ok x) h k e = e x
-  valued_then (Err r) h k e = refl
-
-  pub valued-value : (x : Float) → follow (Ok x) g ≡ g x
-  unfolding on_outcome
-  valued-value x = refl
-
--- ---- an outcome, then an outcome
+-- ---- a part, then the rest
 
 module _ {A B : Type 0} (g : A → Outcome B) where
+  -- a tested operation at the head of the first part
   pub follow-cond : (b : Bool) (why : Reason) (p : ℕ) (o : Outcome A) (k : Outcome B) → follow o g ≡ k → follow (cond b (refusal why p) o) g ≡ cond b (refusal why p) k
   unfolding on_outcome
   follow-cond true why p o k e = refl
   follow-cond false why p o k e = e
 
-  pub follow-valued : (a : Answer) (h : Float → Outcome A) (k : Float → Outcome B) → ((x : Float) → follow (h x) g ≡ k x) → follow (follow a h) g ≡ follow a k
-  unfolding on_outcome
-  follow-valued (Ok x) h k e = e x
-  follow-valued (Err r) h k e = refl
-
+  -- a part at the head of the first part
   pub follow-follow : {C : Type 0} (o : Outcome C) (h : C → Outcome A) (k : C → Outcome B) → ((x : C) → follow (h x) g ≡ k x) → follow (follow o h) g ≡ follow o k
   unfolding on_outcome
   follow-follow (Ok x) h k e = e x
   follow-follow (Err r) h k e = refl
 
+  -- the first part is done
   pub follow-given : (x : A) → follow (Ok x) g ≡ g x
   unfolding on_outcome
   follow-given x = refl
@@ -80,7 +41,7 @@ stopped_at f g e v = ap (λ (z : Answer). on_outcome z f g) (sym e ∙ v)
 
 -- ---- the same first part
 
-pub valued_same : {A : Type 0} (a : Answer) (k l : Float → Outcome A) → ((x : Float) → k x ≡ l x) → follow a k ≡ follow a l
+pub valued_same : {A B : Type 0} (a : Outcome A) (k l : A → Outcome B) → ((x : A) → k x ≡ l x) → follow a k ≡ follow a l
 unfolding on_outcome
 valued_same (Ok x) k l h = h x
 valued_same (Err r) k l h = refl
@@ -92,4 +53,4 @@ follow_where k l (gives {x = x} p) h = h x p
 follow_where k l nothing h = refl
 
 -- A goal that is a part followed by the rest, equal to the whole.
-pub ruleset binds = (then_cond, then_then, then_value, valued-cond, valued_then, valued-value, follow-cond, follow-valued, follow-follow, follow-given)
+pub ruleset binds = (follow-cond, follow-follow, follow-given)

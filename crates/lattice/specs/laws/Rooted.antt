@@ -67,6 +67,11 @@ module _ {flat : Bool} {one two c : ℕ} {numbers : List ℤ} {counts : List ℕ
   unfolding check_of
   lays-nothing {o} {r} {q} e f = record { outcome = f ∙ rw e; tree = λ t g. absurd (given_or_refused g e) }
 
+-- a refusal handed up
+pub refused-row : {found : Answer} {r : Check} {q : Refusal} → r ≡ check_of found → found ≡ Err q → r ≡ Err q
+unfolding check_of
+refused-row e f = e ∙ rw f
+
 -- ---- from the root on
 
 module _ (one two : ℕ) (decay spacing : Float) (nodes : List ℤ) (probabilities variances : List Float) where

@@ -13,7 +13,8 @@ use Rattle.terms.specs.Terms.{CallSchedule, Market, bond_with_puts, with_puts}
 use Rattle.terms.specs.CallLists.{StrikeAbove, strike_of}
 use Rattle.terms.specs.Checks.{on_check, first_of, single, outside}
 use Rattle.terms.specs.Entries.{tree_checks}
-use Rattle.terms.specs.laws.EntryChecks.{grid-calls, grid-terms, tree-puts-alike}
+use Rattle.terms.specs.laws.GridChecks.{grid-calls, grid-terms}
+use Rattle.terms.specs.laws.TreeChecks.{tree-puts-alike}
 use Rattle.terms.specs.laws.MadeLists.{AllWithin, strikes-decided}
 use Rattle.terms.proofs.MadeLists.{tree-made-refused, tree-made-passed, tree-reordered-alike, reordered-calls}
 use Rattle.bondevents.proofs.laws.GridAnswers as grids

@@ -6,7 +6,7 @@ use Rattle.terms.specs.CallLists.{StrikeAbove, strike_of}
 use Rattle.terms.specs.Entries.{tree_checks}
 use Rattle.terms.specs.Checks.{lowest}
 use Rattle.terms.specs.laws.Groups.{CallsPassed}
-use Rattle.terms.specs.laws.EntryChecks.{market-alike}
+use Rattle.terms.specs.laws.MarketChecks.{market-alike}
 use Rattle.terms.specs.laws.MadeLists.{accepted-strike}
 use Rattle.treebasedbondpricer.proofs.laws.CallLists.{call_list_rule}
 use Rattle.callnotices.specs.Notices.{Notices}

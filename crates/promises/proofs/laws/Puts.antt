@@ -9,7 +9,8 @@ use Rattle.terms.specs.Checks.{on_check}
 use Rattle.terms.specs.CallLists.{Reordered, StrikeAbove}
 use Rattle.terms.specs.Entries.{grid_checks}
 use Rattle.terms.specs.laws.Lockstep.{GivenOr27, is_given, is_27}
-use Rattle.terms.specs.laws.EntryChecks.{grid-terms, market-puts-alike}
+use Rattle.terms.specs.laws.GridChecks.{grid-terms}
+use Rattle.terms.specs.laws.MarketChecks.{market-puts-alike}
 use Rattle.terms.proofs.MadeLists.{reordered-calls}
 use Rattle.bondevents.specs.declared.BondEventGrid.{BondEventGrid}
 use Rattle.bondevents.specs.Grid.{event_grid, refused_grid, accepted_grid, grid_answer}

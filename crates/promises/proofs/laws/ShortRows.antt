@@ -9,7 +9,7 @@ use Rattle.terms.specs.Entries.{tree_checks}
 use Rattle.terms.specs.laws.Sequence.{indexed-passed}
 use Rattle.terms.specs.laws.Groups.{SigmaPassed}
 use Rattle.terms.specs.laws.TermChecks.{sigma-counted}
-use Rattle.terms.specs.laws.EntryChecks.{tree-market}
+use Rattle.terms.specs.laws.TreeChecks.{tree-market}
 use Rattle.sizing.specs.Sizing.{tree_widths, sizes_of, sizes_number, sizes_from}
 use Rattle.spreadtable.specs.Table.{shifted, with_shift, any_outside}
 use Rattle.promises.specs.RefusalNumbers.{Among, tree_refusals}

@@ -12,7 +12,7 @@ use Rattle.terms.specs.Entries.{tree_checks, spread_checks}
 use Rattle.terms.specs.laws.Limits.{one_finite}
 use Rattle.terms.specs.laws.Ranges.{PlusMinus}
 use Rattle.terms.specs.laws.TermChecks.{within-passed}
-use Rattle.terms.specs.laws.EntryChecks.{tree-market}
+use Rattle.terms.specs.laws.TreeChecks.{tree-market}
 use Rattle.lattice.specs.Layers.{Room}
 use Rattle.treebasedbondpricer.specs.declared.TreeValue.{TreeValue}
 use Rattle.treebasedbondpricer.specs.Tree.{tree_value}

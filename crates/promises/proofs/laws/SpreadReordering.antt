@@ -11,7 +11,8 @@ use Rattle.terms.specs.Terms.{CallSchedule, HullWhite, Market, bond_with_puts, w
 use Rattle.terms.specs.Checks.{on_check}
 use Rattle.terms.specs.CallLists.{Reordered}
 use Rattle.terms.specs.Entries.{market_checks, spread_checks}
-use Rattle.terms.specs.laws.EntryChecks.{grid-calls, market-alike}
+use Rattle.terms.specs.laws.GridChecks.{grid-calls}
+use Rattle.terms.specs.laws.MarketChecks.{market-alike}
 use Rattle.terms.proofs.MadeLists.{reordered-calls}
 use Rattle.bondevents.specs.declared.GridAnswer.{GridAnswer}
 use Rattle.bondevents.specs.Grid.{grid_answer}

@@ -15,9 +15,10 @@ use Rattle.terms.specs.CallLists.{Entries}
 use Rattle.terms.specs.Entries as entries
 use Rattle.terms.specs.laws.Outcomes.{outcome-cases, follow-given, follow-refused}
 use Rattle.terms.specs.laws.Sequence.{indexed_of_none}
-use Rattle.terms.specs.laws.EntryChecks.{grid-calls, tree-grid, spread_is}
+use Rattle.terms.specs.laws.GridChecks.{grid-calls}
+use Rattle.terms.specs.laws.TreeChecks.{tree-grid, spread_is}
 use Rattle.bondevents.specs.declared.Side.TheVariants.{Call, Put}
-use Rattle.bondevents.specs.declared.Exercise.{Exercise}
+use Rattle.bondevents.specs.Exercises.{Exercise, marked, price_of}
 use Rattle.bondevents.specs.declared.CallStep.{CallStep}
 use Rattle.bondevents.specs.declared.BondEventGrid.{BondEventGrid}
 use Rattle.bondevents.specs.declared.GridAnswer.{GridAnswer}
@@ -99,9 +100,9 @@ beside_none [] = refl
 beside_none (c ∷ cs) = ap (λ (z : List CallStep). unput c ∷ z) (beside_none cs)
 
 none_above : (c : Exercise) → T (not (put_above (unput c)))
-none_above c = go c.marked
+none_above c = go (marked c)
   where
-    go : (b : Bool) → T (not ((b && false) && lt c.price plus_zero))
+    go : (b : Bool) → T (not ((b && false) && lt (price_of c) plus_zero))
     go true = tt
     go false = tt
 

@@ -1,41 +1,45 @@
 -- Laws of what is sought, by the case of what is priced. Assumes nothing.
-use Rattle.std.specs.Prelude.{◌≡◌, List, [], ℕ, length, Float}
+use Rattle.std.specs.Prelude.{◌≡◌, length, ℕ, Float}
 use Rattle.std.proofs.Math.Path.{sym}
-use Rattle.std.proofs.Common.{ap, ◌∙◌, arith}
+use Rattle.std.proofs.Common.{ap, ◌∙◌}
 use Rattle.floats.specs.Answers.{Answer}
-use Rattle.sought.specs.declared.Sought.{Sought}
+use Rattle.terms.specs.declared.Epoch.{Epoch}
+use Rattle.terms.specs.declared.market.Leg.{Leg}
+use Rattle.terms.specs.Market.{leg_of}
+use Rattle.interestrate.specs.declared.RateDefinition.{RateDefinition}
+use Rattle.rollback.specs.declared.walking.Lattice.{Lattice}
+use Rattle.rollback.specs.declared.walking.Events.{Events}
+use Rattle.rollback.specs.Walking.{Walkable}
 use Rattle.sought.specs.declared.Priced.{Priced}
-use Rattle.sought.specs.declared.Priced.TheVariants.{Yield, Spread}
+use Rattle.sought.specs.declared.Priced.TheVariants.{Cashflows, Tree}
 use Rattle.sought.specs.Objectives.{objective}
-use Rattle.sought.specs.laws.Sought.{TreeParts, spread_at, on_priced, sought_at, Walkable, Ready}
+use Rattle.sought.specs.laws.Sought.{spread_at, sought_at, Ready}
 
--- ---- the objective of each case
+module _ (p : Priced) where
+  -- ---- cashflows at a yield
+  module _ {settlement : Epoch} {leg : Leg} {rate : RateDefinition} (e : p ≡ Cashflows settlement leg rate) where
+    pub at_yield-sought : (target x : Float) {r : Answer} → r ≡ objective settlement (leg_of leg) rate target x → r ≡ sought_at p target x
+    unfolding sought_at
+    at_yield-sought target x h = h ∙ sym (ap (λ (z : Priced). sought_at z target x) e)
 
-module _ (s : Sought) (days : List ℕ) (amounts : List Float) (t : TreeParts) (x : Float) where
-  abbrev at_yield : Answer
-  at_yield = objective s.settlement (record { days = days; kinds = []; amounts = amounts }) s.rate s.target x
+    pub yield-ready : (first second : ℕ) → length leg.amounts.now ≡ length leg.days.now → Ready p first second
+    unfolding Ready
+    yield-ready first second h = rw e h
 
-  abbrev at_spread : Answer
-  at_spread = spread_at s.dt s.flat s.target t x
+    pub ready-yield : (first second : ℕ) → Ready p first second → length leg.amounts.now ≡ length leg.days.now
+    unfolding Ready
+    ready-yield first second h = rw e at h
 
-  pub at_yield-sought : {r : Answer} → s.priced ≡ Yield → r ≡ at_yield → r ≡ sought_at s days amounts t x
-  unfolding sought_at on_priced
-  at_yield-sought e p = p ∙ sym (ap (λ (z : Priced). on_priced z at_yield at_spread) e)
+  -- ---- a tree at a spread
+  module _ {lattice : Lattice} {events : Events} (e : p ≡ Tree lattice events) where
+    pub at_spread-sought : (target x : Float) {r : Answer} → r ≡ spread_at lattice events target x → r ≡ sought_at p target x
+    unfolding sought_at
+    at_spread-sought target x h = h ∙ sym (ap (λ (z : Priced). sought_at z target x) e)
 
-  pub at_spread-sought : {r : Answer} → s.priced ≡ Spread → r ≡ at_spread → r ≡ sought_at s days amounts t x
-  unfolding sought_at on_priced
-  at_spread-sought e p = p ∙ sym (ap (λ (z : Priced). on_priced z at_yield at_spread) e)
+    pub spread-ready : (first second : ℕ) → Walkable lattice events first second → Ready p first second
+    unfolding Ready
+    spread-ready first second h = rw e h
 
--- ---- what each case wants of the slices
-
-not_both : (p : Priced) → p ≡ Yield → p ≡ Spread → ⊥
-not_both p e k = let z : ◌≡◌ {A = ℕ} 0 1 = cc in omega arith
-
-module _ (s : Sought) (days : List ℕ) (amounts : List Float) (t : TreeParts) (first second : ℕ) where
-  -- A yield wants no tree.
-  pub yield-ready : s.priced ≡ Yield → length amounts ≡ length days → Ready s days amounts t first second
-  yield-ready e h = record { leg = λ k. h; tree = λ k. absurd (not_both s.priced e k) }
-
-  -- A spread wants no cashflows.
-  pub spread-ready : s.priced ≡ Spread → Walkable s.flat t first second → Ready s days amounts t first second
-  spread-ready e h = record { leg = λ k. absurd (not_both s.priced k e); tree = λ k. h }
+    pub ready-spread : (first second : ℕ) → Ready p first second → Walkable lattice events first second
+    unfolding Ready
+    ready-spread first second h = rw e at h

@@ -23,14 +23,15 @@ use Rattle.treebasedbondpricer.specs.laws.FittedIn.{FitsTree, fitted_over}
 use Rattle.treebasedbondpricer.specs.laws.Valued.{Standing, not_standing, same_row, same_calls}
 use Rattle.backwardinduction.specs.laws.WalkRoot.{root_of}
 use Rattle.treebasedbondpricer.specs.laws.Entered.{tree_is}
-use Rattle.interestrate.specs.declared.RateDefinition.{RateDefinition}
 use Rattle.brackets.specs.declared.Root.{Root}
-use Rattle.sought.specs.declared.Sought.{Sought}
-use Rattle.sought.specs.declared.Priced.TheVariants.{Spread}
+use Rattle.rollback.specs.declared.walking.Lattice.{Lattice}
+use Rattle.rollback.specs.declared.walking.Events.{Events}
+use Rattle.rollback.specs.Walking.{steps_of}
+use Rattle.sought.specs.declared.Priced.TheVariants.{Tree}
 use Rattle.brackets.specs.Brackets.{Searched, no_root, bracketed_root}
 use Rattle.sought.specs.Objectives.{first_lower, first_upper}
 use Rattle.spreads.specs.Spreads.{Quoted, at_spread, quoted_checks, spread_from_price, lent_after, solve_spread, Solved}
-use Rattle.sought.specs.laws.Sought.{TreeParts, tree_parts, spread_at, sought_at}
+use Rattle.sought.specs.laws.Sought.{spread_at, sought_at}
 use Rattle.brackets.specs.laws.SoughtRoots.{sought_spread_lem}
 use Rattle.spreads.specs.laws.SpreadTree.{walked_at, found_over, found_on, fitted-once}
 use Rattle.floats.specs.declared.Reason.TheVariants as reason
@@ -54,30 +55,26 @@ module _ {o : Outcome Fitted} {long wide : ℕ} {counts : List ℕ} {spacings sh
   unfolding found_over on_outcome
   root-refused target cashflows calls p e f = f ∙ sym (ap (found_over target cashflows calls) (not_standing p e))
 
-  module _ {dt : Float} {flat : Bool} (s : Standing o dt flat long wide counts spacings shifts nodes probabilities) (target : Float) (cashflows : List Float) (marks : List ℕ) (prices : List Float) where
-    abbrev parts : TreeParts
-    parts = tree_parts nodes probabilities counts spacings shifts cashflows marks prices
+-- The solver works on the tree that stands in the slices.
+module _
+    {o : Outcome Fitted} {long wide : ℕ} (lattice : Lattice) (events : Events) (target : Float)
+    (s : Standing o lattice.dt lattice.flat long wide lattice.counts.now lattice.spacings.now lattice.shifts.now lattice.nodes.now lattice.probabilities.now) where
+  tried-alike : (x : Float) → spread_at lattice events target x ≡ walked_at target events.cashflows.now (steps_of events) s.content x
+  unfolding spread_at walked_at
+  tried-alike x =
+      ap (λ (row : Outcome (List At)). cond (lt one x) (refusal reason.SpreadAbove 0) (cond (beyond (float 1) x) (refusal reason.Number 0) (follow (root_of row) λ y. tested (sub binary64 y target) 0)))
+      (sym (same_row s x events.cashflows.now (steps_of events)))
 
-    tried-alike : (x : Float) → spread_at dt flat target parts x ≡ walked_at target cashflows (calls_of marks prices) s.content x
-    unfolding spread_at walked_at
-    tried-alike x =
-        ap (λ (row : Outcome (List At)). cond (lt one x) (refusal reason.SpreadAbove 0) (cond (beyond (float 1) x) (refusal reason.Number 0) (follow (root_of row) λ y. tested (sub binary64 y target) 0)))
-        (sym (same_row s x cashflows (calls_of marks prices)))
-
-    -- What the solver looks for over the tree.
-    abbrev pub sought_spread : RateDefinition → Sought
-    sought_spread rate = record { priced = Spread; rate = rate; settlement = record { day = 0; code = 0; count = 0 }; target = target; dt = dt; flat = flat }
-
-    pub root_is : (rate : RateDefinition) (days : List ℕ) (amounts : List Float) {v : Searched Root}
-        → v ≡ bracketed_root (sought_at (sought_spread rate) days amounts parts) first_lower first_upper lowest_spread
-        → v ≡ found_over target cashflows (calls_of marks prices) o
-    unfolding found_over on_outcome
-    root_is rate days amounts {v} e =
-        e
-        ∙ ap (bracketed_root (sought_at (sought_spread rate) days amounts parts) first_lower first_upper) lowest_is
-        ∙ sought_spread_lem (sought_spread rate) days amounts parts first_lower first_upper (neg one) refl
-        ∙ ap (λ (objective : Float → Answer). bracketed_root objective first_lower first_upper (neg one)) (λ i x. tried-alike x i)
-        ∙ sym (ap (found_over target cashflows (calls_of marks prices)) s.is)
+  pub root_is : {v : Searched Root}
+      → v ≡ bracketed_root (sought_at (Tree lattice events) target) first_lower first_upper lowest_spread
+      → v ≡ found_over target events.cashflows.now (steps_of events) o
+  unfolding found_over on_outcome
+  root_is e =
+      e
+      ∙ ap (bracketed_root (sought_at (Tree lattice events) target) first_lower first_upper) lowest_is
+      ∙ sought_spread_lem lattice events target first_lower first_upper (neg one)
+      ∙ ap (λ (objective : Float → Answer). bracketed_root objective first_lower first_upper (neg one)) (λ i x. tried-alike x i)
+      ∙ sym (ap (found_over target events.cashflows.now (steps_of events)) s.is)
 
 pub root-with_calls : (o : Outcome Fitted) (target : Float) (cashflows : List Float) (calls : List CallStep) {marks : List ℕ} {prices : List Float} {v : Searched Root} → v ≡ found_over target cashflows (calls_of marks prices) o → marks ≡ map step_mark calls → prices ≡ step_prices calls → v ≡ found_over target cashflows calls o
 root-with_calls o target cashflows calls e f g = e ∙ ap (λ (cs : List CallStep). found_over target cashflows cs o) (same_calls calls f g)

@@ -4,17 +4,14 @@ use Rattle.std.proofs.Math.Path.{refl, ap}
 use Rattle.std.proofs.Common.{◌∙◌}
 use Rattle.std.proofs.Math.Bool.{true, false, cond}
 use Rattle.std.specs.Float.Ieee.{binary64, of_bits, of_int, sub, neg, lt}
-use Rattle.std.specs.Borrow.{Bor}
-use denote.Triple.Both.{Both}
 use Rattle.floats.specs.declared.Refusal.{Refusal}
 use Rattle.floats.specs.Answers.{Answer, one, refusal, tested, follow, on_outcome, Check, Outcome}
 use Rattle.floats.specs.Extremes.{max_of}
 use Rattle.terms.specs.Numbers.{float}
-use Rattle.terms.specs.Terms.{CallSchedule, HullWhite, Market}
+use Rattle.terms.specs.Terms.{CallSchedule, Market}
 use Rattle.terms.specs.Checks.{on_check, single, beyond, within}
-use Rattle.terms.specs.Slices.{sigma_in}
 use Rattle.terms.specs.laws.Outcomes.{follow-given, follow-refused}
-use Rattle.terms.specs.laws.EntryChecks.{spread-tried}
+use Rattle.terms.specs.laws.TreeChecks.{spread-tried}
 use Rattle.bondevents.specs.declared.BondEventGrid.{BondEventGrid}
 use Rattle.bondevents.specs.declared.CallStep.{CallStep}
 use Rattle.bondevents.specs.Grid.{event_grid}
@@ -30,10 +27,6 @@ use Rattle.brackets.specs.Brackets.{Searched, no_root, bracketed_root}
 use Rattle.sought.specs.Objectives.{first_lower, first_upper}
 use Rattle.spreads.specs.Spreads.{Quoted, at_spread, quoted_checks, on_tree_value, spread_objective, solve_spread}
 use Rattle.floats.specs.declared.Reason.TheVariants as reason
-
--- The model that a call brings, gathered.
-abbrev pub model_in : {X Y : Type 0} → Float → Both (Bor (List Float)) X → Both (Bor (List Float)) Y → HullWhite
-model_in alpha times sigmas = record { alpha = alpha; sigma = sigma_in times sigmas }
 
 -- The value less the target at a spread, over a tree that is fitted.
 unfoldable pub walked_at : Float → List Float → List CallStep → Fitted → Float → Answer

@@ -9,24 +9,22 @@ use Rattle.floats.specs.declared.Refusal.{Refusal}
 use Rattle.floats.specs.Answers.{Answer, Check, Outcome, follow, on_outcome, when_finite}
 use Rattle.terms.specs.Numbers.{float}
 use Rattle.terms.specs.Terms.{CallSchedule, Market, with_spread}
-use Rattle.terms.specs.Checks.{on_check, single, beyond, within}
+use Rattle.terms.specs.Checks.{on_check, single, beyond}
 use Rattle.terms.specs.Curve.{curve_over, pillar_times}
 use Rattle.terms.specs.Entries.{tree_checks}
 use Rattle.terms.specs.laws.Outcomes.{follow-given, follow-refused}
-use Rattle.terms.specs.laws.EntryChecks.{other-spread}
+use Rattle.terms.specs.laws.MarketChecks.{other-spread}
 use Rattle.bondevents.specs.declared.BondEventGrid.{BondEventGrid}
 use Rattle.bondevents.specs.declared.CallStep.{CallStep}
 use Rattle.bondevents.specs.Grid.{event_grid}
 use Rattle.bondevents.specs.Parts.{step_mark, step_prices}
 use Rattle.lattice.specs.Layers.{At, value_at, Room}
 use Rattle.lattice.specs.Lattice.{node_count}
-use Rattle.lattice.specs.laws.Laid.{layers_in, final_in}
-use Rattle.backwardinduction.specs.Walk.{walk_from}
 use Rattle.backwardinduction.specs.laws.WalkMore.{calls_of}
 use Rattle.backwardinduction.specs.laws.WalkRoot.{root_of}
 use Rattle.treebasedbondpricer.specs.declared.TreeValue.{TreeValue}
 use Rattle.treebasedbondpricer.specs.declared.fitted.FittedTree.{FittedTree}
-use Rattle.treebasedbondpricer.specs.Tree.{Fitted, fitted_tree_over, lattice_value_over, fitted_tree, lattice_value, tree_value}
+use Rattle.treebasedbondpricer.specs.Tree.{Fitted, lattice_value_over, fitted_tree, lattice_value, tree_value}
 use Rattle.treebasedbondpricer.specs.laws.FittedIn.{FitsTree, fitted_over}
 use Rattle.treebasedbondpricer.specs.laws.Valued.{row_over, standing, not_standing, same_row, same_calls}
 use Rattle.treebasedbondpricer.specs.laws.Entered.{tree_is}

@@ -1,7 +1,7 @@
 -- Cells whose single call is refused by its checks. Assumes nothing.
-use Rattle.std.specs.Prelude.{ℕ, ◌≤◌, ◌<◌, ◌≡◌, refl, ◌⊎◌, Bool, true, false, not, ◌||◌, T, ltb, eqb, length, Float, Ok, Err}
+use Rattle.std.specs.Prelude.{ℕ, ◌≤◌, ◌<◌, ◌≡◌, refl, ◌⊎◌, Bool, true, false, not, ◌||◌, ltb, eqb, length, Float, Ok, Err}
 use Rattle.std.proofs.Math.Path.{sym, ap}
-use Rattle.std.proofs.Common.{subst, ◌∙◌, inl, inr, arith, lt-ltb, le-ltb, ne_eqb}
+use Rattle.std.proofs.Common.{◌∙◌, inl, inr, arith, lt-ltb, ne_eqb}
 use Rattle.std.proofs.Math.Bool.{cond}
 use mathlib.Core.List.{List, [], ◌∷◌, ◌++◌}
 use Rattle.std.proofs.lemmas.List.{length-map}
@@ -10,14 +10,12 @@ use Rattle.std.specs.Float.Ieee.{add, neg, lt, of_bits, of_int}
 use Rattle.floats.specs.declared.Refusal.{Refusal}
 use Rattle.floats.specs.Answers.{plus_zero, Check, Outcome}
 use Rattle.rounded.specs.laws.RoundToOdd.{ordered}
-use Rattle.terms.specs.declared.Settlement.{Settlement}
 use Rattle.terms.specs.Numbers.{float}
 use Rattle.terms.specs.Terms.{CallSchedule, Market, SigmaSchedule, with_spread}
 use Rattle.terms.specs.Checks.{on_check, first_of, single, within, sigma_count, pillar_count}
-use Rattle.terms.specs.Slices.{market_in}
 use Rattle.terms.specs.Entries.{setting_checks, grid_counts, most_checks, tree_days, tree_numbers, tree_orders, late_checks, tree_checks}
 use Rattle.terms.specs.laws.Sequence.{passed_not_refused, all}
-use Rattle.terms.specs.laws.EntryChecks.{other-spread}
+use Rattle.terms.specs.laws.MarketChecks.{other-spread}
 use Rattle.lattice.specs.Layers.{Room}
 use Rattle.treebasedbondpricer.specs.declared.TreeValue.{TreeValue}
 use Rattle.treebasedbondpricer.specs.Tree.{tree_value}

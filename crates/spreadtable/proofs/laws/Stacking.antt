@@ -1,5 +1,5 @@
 -- A page that is filled row by row. Assumes nothing.
-use Rattle.std.specs.Prelude.{ℕ, zero, suc, ◌+◌, ◌-◌, ◌*◌, ◌≤◌, ◌<◌, ◌≡◌, refl, Bool, true, false, ◌||◌, ltb, get_or, drop, replicate, ℤ, pos, Float}
+use Rattle.std.specs.Prelude.{ℕ, suc, ◌+◌, ◌-◌, ◌*◌, ◌≤◌, ◌<◌, ◌≡◌, refl, Bool, true, false, ◌||◌, ltb, get_or, drop, replicate, ℤ, pos, Float}
 use Rattle.std.proofs.Math.Path.{sym, ap, subst}
 use Rattle.std.proofs.Common.{◌∙◌, add-zero, add_comm, zero-mul, suc-mul, add-one, arith, ltb-false, length-append, drop_of_length-le, drop-cons}
 use Rattle.std.proofs.Math.Bool.{cond}
@@ -11,12 +11,11 @@ use Rattle.floats.specs.Answers.{plus_zero}
 use Rattle.bondreport.specs.Columns.{put_at}
 use Rattle.terms.specs.Terms.{CallSchedule, Market}
 use Rattle.terms.specs.Checks.{outside}
-use Rattle.lattice.specs.Layers.{Room}
 use Rattle.treebasedbondpricer.specs.Tree.{Lent, room_of, zeroed}
 use Rattle.spreadtable.specs.declared.SpreadTable.{SpreadTable}
 use Rattle.spreadtable.specs.declared.Written.{Written}
 use Rattle.spreadtable.specs.Page.{row_text, page_text, printed, no_table}
-use Rattle.spreadtable.specs.Table.{cell_at, wrong_count, table_of, lent_after, Tabled}
+use Rattle.spreadtable.specs.Table.{cell_at, wrong_count, table_of, Tabled}
 use Rattle.spreadtable.specs.laws.Writing.{appended, empty, as_table, twice, page_is}
 use Rattle.spreadtable.proofs.laws.Widths.{row-wide, cell-wide}
 

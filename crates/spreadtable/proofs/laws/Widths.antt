@@ -1,10 +1,10 @@
 -- Each cell has 16 characters, each row 16 for a column and a newline. Assumes nothing.
-use Rattle.std.specs.Prelude.{ℕ, zero, suc, ◌+◌, ◌*◌, ◌≤◌, ◌≡◌, refl, Bool, true, false, cond, List, [], ◌∷◌, ◌++◌, length, take, Float, Ok, Err}
-use Rattle.std.proofs.Common.{sym, ap, ◌∙◌, arith, length-append, length-take-le}
+use Rattle.std.specs.Prelude.{ℕ, suc, ◌+◌, ◌*◌, ◌≡◌, refl, Bool, true, false, cond, List, [], ◌∷◌, length, Float, Ok, Err}
+use Rattle.std.proofs.Common.{◌∙◌, arith, length-append, length-take-le}
 use Rattle.std.proofs.lemmas.List.{length-replicate}
 use Rattle.bondreport.specs.Columns.{blank_line}
 use Rattle.bondreport.specs.Numbers.{byte_left, whole_left}
-use Rattle.bondreport.specs.Figures.{before, put_whole}
+use Rattle.bondreport.specs.Figures.{before}
 use Rattle.terms.specs.Terms.{CallSchedule, Market}
 use Rattle.lattice.specs.Layers.{Room}
 use Rattle.treebasedbondpricer.specs.declared.TreeValue.{TreeValue}

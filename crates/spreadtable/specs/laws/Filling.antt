@@ -1,12 +1,12 @@
 -- A row that is filled cell by cell, and a page row by row: what is left to write gives the whole. Assumes nothing.
-use Rattle.std.specs.Prelude.{ℕ, zero, suc, ◌+◌, ◌-◌, ◌*◌, ◌≤◌, ◌<◌, ◌≡◌, refl, length, get_or, drop, Float}
-use Rattle.std.proofs.Common.{sym, ◌∙◌, add-one, arith, length-append, drop_of_length-le, drop-cons}
+use Rattle.std.specs.Prelude.{ℕ, ◌+◌, ◌-◌, ◌*◌, ◌≤◌, ◌<◌, ◌≡◌, refl, length, get_or, drop, Float}
+use Rattle.std.proofs.Common.{sym, ◌∙◌, add-one, arith, drop_of_length-le, drop-cons}
 use Rattle.std.proofs.Math.Path.{ap, subst}
 use mathlib.Core.List.{List, [], ◌∷◌, ◌++◌}
 use Rattle.std.specs.Float.Ieee.{nan}
 use Rattle.spreadtable.specs.declared.Written.{Written}
-use Rattle.spreadtable.specs.Page.{row_text, page_text}
-use Rattle.spreadtable.specs.laws.Writing.{appended, empty, twice}
+use Rattle.spreadtable.specs.Page.{row_text}
+use Rattle.spreadtable.specs.laws.Writing.{appended, twice}
 
 -- ---- a row
 

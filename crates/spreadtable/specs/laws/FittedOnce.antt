@@ -1,40 +1,20 @@
 -- Definitions only. A cell by its spread and the walk over a tree that is fitted once for all spreads of a row.
-use Rattle.std.specs.Prelude.{ℕ, ◌≡◌, Bool, ℤ, pos, Float, Err}
-use Rattle.std.proofs.Math.Path.{refl, sym, ap}
-use Rattle.std.proofs.Common.{◌∙◌}
-use Rattle.std.proofs.Math.Bool.{true, false, cond}
-use mathlib.Core.List.{List, map}
-use Rattle.std.specs.Float.Ieee.{binary64, div}
-use Rattle.floats.specs.declared.Refusal.{Refusal}
-use Rattle.floats.specs.Answers.{Answer, Check, Outcome, follow, on_outcome, when_finite}
+use Rattle.std.specs.Prelude.{ℕ, Bool, ℤ, Float, Err}
+use Rattle.std.proofs.Math.Bool.{cond}
+use mathlib.Core.List.{List}
+use Rattle.floats.specs.Answers.{Answer, Outcome, on_outcome}
 use Rattle.terms.specs.Numbers.{float}
-use Rattle.terms.specs.Terms.{CallSchedule, Market, with_spread}
-use Rattle.terms.specs.Checks.{on_check, single, beyond, within}
-use Rattle.terms.specs.Curve.{curve_over, pillar_times}
-use Rattle.terms.specs.Entries.{tree_checks}
-use Rattle.terms.specs.laws.Outcomes.{follow-given, follow-refused}
-use Rattle.terms.specs.laws.EntryChecks.{other-spread}
-use Rattle.bondevents.specs.declared.BondEventGrid.{BondEventGrid}
+use Rattle.terms.specs.Terms.{CallSchedule, Market}
+use Rattle.terms.specs.Checks.{beyond}
 use Rattle.bondevents.specs.declared.CallStep.{CallStep}
 use Rattle.bondevents.specs.Grid.{event_grid}
-use Rattle.bondevents.specs.Parts.{step_mark, step_prices}
-use Rattle.lattice.specs.Layers.{At, value_at, Room}
-use Rattle.lattice.specs.Lattice.{node_count}
+use Rattle.lattice.specs.Layers.{Room}
 use Rattle.lattice.specs.laws.Laid.{layers_in, final_in}
 use Rattle.backwardinduction.specs.Walk.{walk_from}
-use Rattle.backwardinduction.specs.laws.WalkMore.{calls_of}
 use Rattle.backwardinduction.specs.laws.WalkRoot.{root_of}
-use Rattle.treebasedbondpricer.specs.declared.TreeValue.{TreeValue}
-use Rattle.treebasedbondpricer.specs.declared.fitted.FittedTree.{FittedTree}
-use Rattle.treebasedbondpricer.specs.Tree.{Fitted, fitted_tree_over, lattice_value_over, fitted_tree, lattice_value, tree_value}
-use Rattle.treebasedbondpricer.specs.laws.FittedIn.{FitsTree, fitted_over}
-use Rattle.treebasedbondpricer.specs.laws.Valued.{row_over, standing, not_standing, same_row, same_calls}
-use Rattle.treebasedbondpricer.specs.laws.Entered.{tree_is}
-use Rattle.spreadtable.specs.declared.Written.{Written}
-use Rattle.spreadtable.specs.Cells.{hash_cell, cell_text, answer_text}
-use Rattle.spreadtable.specs.Page.{row_text}
-use Rattle.spreadtable.specs.laws.Writing.{appended}
-use Rattle.spreadtable.specs.laws.Filling.{same_cells}
+use Rattle.treebasedbondpricer.specs.Tree.{Fitted, fitted_tree_over, fitted_tree}
+use Rattle.treebasedbondpricer.specs.laws.Valued.{row_over}
+use Rattle.spreadtable.specs.Cells.{hash_cell, answer_text}
 
 -- 4 for a spread out of its range, else what the walk gives.
 abbrev pub spread_cell : (Float → Answer) → Float → List ℕ

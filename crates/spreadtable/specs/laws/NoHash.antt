@@ -1,6 +1,6 @@
 -- No hash sign stands in a value's cell. Assumes nothing.
-use Rattle.std.specs.Prelude.{ℕ, zero, suc, ◌+◌, ◌-◌, ◌/◌, ◌%◌, ◌≤◌, ◌<◌, ◌≡◌, refl, ◌⊎◌, Bool, true, false, cond, List, [], ◌∷◌, eqb, ltb, get_or, set, take, replicate}
-use Rattle.std.proofs.Common.{sym, ap, subst, ◌∙◌, inl, inr, arith}
+use Rattle.std.specs.Prelude.{ℕ, zero, suc, ◌+◌, ◌-◌, ◌/◌, ◌%◌, ◌≡◌, Bool, true, false, cond, List, [], ◌∷◌, eqb, ltb, set, take, replicate}
+use Rattle.std.proofs.Common.{arith}
 use Rattle.decimal.specs.declared.Rounded.{Rounded}
 use Rattle.std.specs.Prelude.{Option, Some, None}
 use Rattle.bondreport.specs.declared.Leftward.{Leftward}

@@ -1,6 +1,6 @@
 -- Texts written one behind the other, and the page that they make. Assumes nothing.
-use Rattle.std.specs.Prelude.{ℕ, zero, suc, ◌+◌, ◌-◌, ◌≤◌, ◌≡◌, refl, List, [], ◌∷◌, ◌++◌, length, set, replicate, None}
-use Rattle.std.proofs.Common.{sym, ap, ◌∙◌, append-nil, add-zero, add_assoc, arith, length-append}
+use Rattle.std.specs.Prelude.{ℕ, zero, suc, ◌+◌, ◌-◌, ◌≤◌, ◌≡◌, List, [], ◌∷◌, ◌++◌, length, set, replicate, None}
+use Rattle.std.proofs.Common.{sym, ap, ◌∙◌, add-zero, add_assoc, arith, length-append}
 use Rattle.std.proofs.Math.Seq.{append_snoc, set-append_seam}
 use Rattle.bondreport.specs.Columns.{put_at}
 use Rattle.spreadtable.specs.declared.SpreadTable.{SpreadTable}

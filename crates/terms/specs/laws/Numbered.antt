@@ -1,5 +1,5 @@
 -- Every refusal of an input check has a number above 0, so 0 stands for no refusal. Assumes nothing.
-use Rattle.std.specs.Prelude.{ℕ, ◌<◌, ◌≡◌, Err}
+use Rattle.std.specs.Prelude.{◌<◌, ◌≡◌, Err}
 use Rattle.floats.specs.declared.Refusal.{Refusal}
 use Rattle.floats.specs.Reasons.{reason_number}
 use Rattle.floats.specs.Answers.{Check}

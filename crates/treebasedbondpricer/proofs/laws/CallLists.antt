@@ -13,7 +13,8 @@ use Rattle.terms.specs.CallLists.{MadeFrom, Reordered, StrikeAbove, strike_of}
 use Rattle.terms.specs.Checks.{on_check}
 use Rattle.terms.specs.Entries.{tree_checks}
 use Rattle.terms.specs.laws.Lockstep.{GivenOr27, is_given, is_27}
-use Rattle.terms.specs.laws.EntryChecks.{grid-calls, tree-grid}
+use Rattle.terms.specs.laws.GridChecks.{grid-calls}
+use Rattle.terms.specs.laws.TreeChecks.{tree-grid}
 use Rattle.terms.specs.laws.MadeLists.{AllWithin, strikes-decided}
 use Rattle.terms.proofs.MadeLists.{tree-made-refused, tree-made-passed, tree-reordered-alike}
 use Rattle.bondevents.specs.declared.BondEventGrid.{BondEventGrid}

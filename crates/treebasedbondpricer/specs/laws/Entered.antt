@@ -31,11 +31,17 @@ value_on m calls room = tree_of (follow (event_grid m.settlement m.bond calls m.
 
 -- ---- the grid
 
+pub grid-given : (o : Outcome BondEventGrid) {g : BondEventGrid} {r : Outcome BondEventGrid} → r ≡ o → r ≡ Ok g → o ≡ Ok g
+grid-given o e p = sym e ∙ p
+
+pub grid-refused : (o : Outcome BondEventGrid) {r : Outcome BondEventGrid} {q : Refusal} → r ≡ o → r ≡ Err q → o ≡ Err q
+grid-refused o e p = sym e ∙ p
+
 -- A grid that is given has 1 to 512 steps.
 pub steps_of-grid : (settlement : Settlement) (bond : Bond) (calls : CallSchedule) (controls : TimeGrid) {g : BondEventGrid} {r : Outcome BondEventGrid} → r ≡ event_grid settlement bond calls controls → r ≡ Ok g → 1 ≤ controls.maximum → controls.maximum ≤ 512 → (0 < g.steps) × (g.steps ≤ 512)
 unfolding event_grid axis_of
 steps_of-grid settlement bond calls controls e p some few =
-    let w = of_given (call_steps (axis_of settlement bond.leg controls) bond calls) _ (sym e ∙ p) in
+    let w = of_given (call_steps (axis_of settlement bond.leg controls) bond calls) _ (grid-given (event_grid settlement bond calls controls) e p) in
     let s = ap (λ (g : BondEventGrid). g.steps) (same_given w.2) in
     let b = bounded (maturity_time settlement bond.leg) controls (sym s) some few in
     (omega (arith, b.0), b.1)
@@ -51,7 +57,7 @@ module _ (m : Market) (calls : CallSchedule) (room : Room) {r : Outcome BondEven
   unfolding value_on tree_of
   value_unchecked p f =
       f
-      ∙ sym (ap tree_of (follow-refused (event_grid m.settlement m.bond calls m.controls) (λ grid. lattice_value m room grid) (sym e ∙ p)))
+      ∙ sym (ap tree_of (follow-refused (event_grid m.settlement m.bond calls m.controls) (λ grid. lattice_value m room grid) (grid-refused (event_grid m.settlement m.bond calls m.controls) e p)))
 
   pub value-checked : {times : List Float} {g : BondEventGrid} {v : Outcome TreeValue} → times ≡ pillar_times m.settlement m.pillars.days → r ≡ Ok g
       → v ≡ tree_of (follow (when_finite (div binary64 g.maturity_time (float g.steps)) 0 λ dt. fitted_over (curve_over times m.pillars.factors) m.model room g.steps dt) λ f. walked m.spread g.cashflows g.calls f)
@@ -61,7 +67,7 @@ module _ (m : Market) (calls : CallSchedule) (room : Room) {r : Outcome BondEven
       f
       ∙ ap (λ (times : List Float). tree_of (follow (when_finite (div binary64 g.maturity_time (float g.steps)) 0 λ dt. fitted_over (curve_over times m.pillars.factors) m.model room g.steps dt) λ f. walked m.spread g.cashflows g.calls f)) t
       ∙ ap (λ (o : Outcome Fitted). tree_of (follow o λ f. walked m.spread g.cashflows g.calls f)) (sym (tree_is m room g.maturity_time g.steps))
-      ∙ sym (ap tree_of (follow-given (event_grid m.settlement m.bond calls m.controls) (λ grid. lattice_value m room grid) (sym e ∙ p)))
+      ∙ sym (ap tree_of (follow-given (event_grid m.settlement m.bond calls m.controls) (λ grid. lattice_value m room grid) (grid-given (event_grid m.settlement m.bond calls m.controls) e p)))
 
 -- ---- the entry
 

@@ -10,7 +10,8 @@ use Rattle.terms.specs.CallLists.{LoweredFrom, Reordered}
 use Rattle.terms.specs.Entries.{tree_checks}
 use Rattle.terms.specs.laws.Outcomes.{given_or_refused, same_given}
 use Rattle.terms.specs.laws.Lockstep.{GivenOr27, is_given, is_27}
-use Rattle.terms.specs.laws.EntryChecks.{grid-terms, tree-grid, tree-puts-alike}
+use Rattle.terms.specs.laws.GridChecks.{grid-terms}
+use Rattle.terms.specs.laws.TreeChecks.{tree-grid, tree-puts-alike}
 use Rattle.terms.proofs.MadeLists.{reordered-calls}
 use Rattle.bondevents.specs.declared.BondEventGrid.{BondEventGrid}
 use Rattle.bondevents.specs.Grid.{grid_answer}

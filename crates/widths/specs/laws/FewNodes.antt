@@ -3,7 +3,7 @@ use Rattle.std.specs.Prelude.{ℕ, zero, suc, ◌+◌, ◌*◌, ◌≤◌, ◌�
 use Rattle.std.proofs.Common.{arith}
 use Rattle.floats.specs.declared.Reason.{Reason}
 use Rattle.floats.specs.declared.Reason.TheVariants as reason
-use Rattle.floats.specs.Answers.{Outcome, refusal}
+use Rattle.floats.specs.Answers.{Answer, Outcome, follow, refusal}
 use Rattle.terms.specs.laws.Outcomes.{same_given, given_or_refused, of_given}
 use Rattle.widths.specs.Widths.{widths_from, flat_widths, total}
 
@@ -14,6 +14,9 @@ few_last room decay spacing ns k ws f e = rw (← same_given e) (omega arith)
 pub cond-given : {A : Type 0} (b : Bool) (o : Outcome A) (why : Reason) (k : ℕ) {x : A} → cond b o (refusal why k) ≡ Ok x → o ≡ Ok x
 cond-given true o why k e = e
 cond-given false o why k e = absurd (given_or_refused e refl)
+
+pub of_value_lem : {A : Type 0} (a : Answer) (k : Float → Outcome A) {x : A} → follow a k ≡ Ok x → (y : Float) × (a ≡ Ok y) × (k y ≡ Ok x)
+of_value_lem a k e = of_given a k e
 
 pub few-flat : (room k left : ℕ) (ws : List ℕ) → flat_widths room k left ≡ Ok ws → total ws ≤ left + 1
 unfolding flat_widths total

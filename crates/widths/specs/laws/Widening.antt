@@ -76,6 +76,12 @@ new-not_below v k x e = go (le v epsilon) (spacing_of v k) (λ y p. spacing_boun
     go true a h e = absurd (given_or_refused e refl)
     go false a h e = h x e
 
+-- A new spacing handed up as it is.
+pub spacing_made_lem : (a : Answer) → a ≡ follow a Ok
+unfolding on_outcome
+spacing_made_lem (Ok x) = refl
+spacing_made_lem (Err r) = refl
+
 -- From the middles on.
 pub record NextPlaced (spacing : Float) (k count : ℕ) (r : Outcome NextLayer) (before after : List ℤ) : Type 0 where
   pub outcome : next_outcome r ≡ cond (leb (count + length (around (take count before))) (length before)) (Ok (record { spacing = spacing; count = length (around (take count before)) })) (refusal reason.NoRoom (suc k))

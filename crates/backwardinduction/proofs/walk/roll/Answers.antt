@@ -12,7 +12,7 @@ use lib.ListN.{length, get_or, set, drop, drop_of_length-le, length-set}
 use lib.IntN.{ℤ, pos}
 use lib.Ieee.{Float, nan}
 use Rattle.floats.specs.declared.Refusal.{Refusal}
-use Rattle.floats.specs.Answers.{Answer, on_outcome, Check, Outcome, follow}
+use Rattle.floats.specs.Answers.{Answer, Check, Outcome, follow}
 use Rattle.bondevents.specs.declared.CallStep.{CallStep}
 use Rattle.lattice.specs.declared.reach.Reach.{Reach}
 use Rattle.backwardinduction.specs.declared.walk.Rates.{Rates}
@@ -27,7 +27,6 @@ use Rattle.lattice.specs.laws.Binds.{went_on, stopped_at}
 use Rattle.backwardinduction.specs.laws.WalkSteps.{discount_with, value_with, rolled_at}
 use Rattle.backwardinduction.specs.laws.Discounts.{Ahead, ahead_none, ahead_count, ahead_next, ahead_here}
 use Rattle.forwardinduction.proofs.Outcomes.{passes}
-use Rattle.floats.proofs.Laws.{answers}
 use Rattle.backwardinduction.proofs.walk.roll.Invariants.{At}
 use Rattle.backwardinduction.proofs.walk.roll.Goals as goal
 
@@ -45,9 +44,9 @@ module _ (nodes : List ℤ) (probabilities next row₀ : List Float) (flat : Boo
     first : {z : ℤ} → z ≡ get_or nodes 1 (pos 0) → Within z
     first e = let b : 0 * 2 + 1 < length nodes = omega (arith, l.pairs, l.some-node) in rw e (roomy_next (rw (middles_from_lem nodes 0 b) at l.roomy)).within
 
-    module _ (row : List Float) (r : Reach) (es : List Float) (known : Bool) (i : ℕ) (a : At nodes probabilities next row₀ flat rates call cashflow place row r es known i) (t : i < length row) where
-      inside : i < length row₀
-      inside = omega (arith, a.same)
+    module _ (row : List Float) (r : Reach) (es : List Float) (known : Bool) (i : ℕ) (a : At nodes probabilities next row₀ flat rates call cashflow place row r es known i) (inside : i < length row₀) where
+      t : i < length row
+      t = omega (arith, inside, a.same)
 
       abbrev number : ℤ
       number = get_or nodes (i * 2) (pos 0)
@@ -92,16 +91,16 @@ module _ (nodes : List ℤ) (probabilities next row₀ : List Float) (flat : Boo
               ahead = ahead_next (ahead_count a.same f);
             })
 
-    done : (row : List Float) (r : Reach) (es : List Float) (known : Bool) (i : ℕ) → At nodes probabilities next row₀ flat rates call cashflow place row r es known i → length row ≤ i → outcome_of (Ok tt) row ≡ whole
+    done : (row : List Float) (r : Reach) (es : List Float) (known : Bool) (i : ℕ) → At nodes probabilities next row₀ flat rates call cashflow place row r es known i → length row₀ ≤ i → outcome_of (Ok tt) row ≡ whole
     unfolding rolled_at
     done row r es known i a h =
-        let b : length nodes ≤ i * 2 = omega (arith, l.pairs, a.same) in
+        let b : length nodes ≤ i * 2 = omega (arith, l.pairs, h) in
         passes row ∙ rw (drop_of_length-le nodes b) at a.left
 
 pub nothing_below-r-requires : goal.nothing_below-r-requires
 nothing_below-r-requires c =
     let a = c.args in
-    first a.nodes.now a.probabilities.now a.next.now a.row.now a.flat a.rates a.call a.cashflow a.place c.requires (to_z-of_z {w = w32} (record { sfits = c.nothing_below-arg-1.given }))
+    first a.nodes.now a.probabilities.now a.next.now a.row.now a.reads.flat a.reads.rates a.reads.call a.reads.cashflow a.reads.place c.requires (to_z-of_z {w = w32} (record { sfits = c.nothing_below-arg-1.given }))
 
 pub reached-after-requires : goal.reached-after-requires
 reached-after-requires c =

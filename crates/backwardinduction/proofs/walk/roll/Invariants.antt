@@ -1,5 +1,5 @@
 -- `walk::roll` meets its contract. The invariant: what is left from node i on, over the row as it is, is the whole, and where the flag says so the factors of the part are at hand. Assumes nothing.
-use Prim.Native.Nat.{ℕ, ◌-◌, ◌*◌, ◌≤◌}
+use Prim.Native.Nat.{ℕ, ◌*◌, ◌≤◌}
 use mathlib.Core.Path.{◌≡◌}
 use mathlib.Core.Bool.{Bool}
 use mathlib.Core.List.{List}
@@ -32,7 +32,4 @@ module _ (nodes : List ℤ) (probabilities next row₀ : List Float) (flat : Boo
     pub ahead : Ahead known rates nodes (length row₀) i i es
 
 abbrev pub invariant-loop-i : goal.invariant-loop-i
-invariant-loop-i l = At l.nodes l.probabilities l.next l.initial.row l.flat l.rates l.call l.cashflow l.place l.row l.r l.es l.known l.i
-
-abbrev pub decreases-loop-i : goal.decreases-loop-i
-decreases-loop-i l = length l.initial.row - l.i
+invariant-loop-i l = At l.nodes l.probabilities l.next l.initial.row l.reads.flat l.reads.rates l.reads.call l.reads.cashflow l.reads.place l.row l.r l.es l.known l.i

@@ -2,11 +2,11 @@
 use Rattle.bondevents.proofs.Discrete.{entries}
 use Rattle.bondevents.proofs.calls.with_call.Goals as goal
 
-pub returns-then-date-settlement : goal.returns-then-date-settlement
-returns-then-date-settlement c = search entries
+pub returns-then-date-axis : goal.returns-then-date-axis
+returns-then-date-axis c = search entries
 
-pub returns-then-step-steps : goal.returns-then-step-steps
-returns-then-step-steps c = search entries
+pub returns-then-step-axis : goal.returns-then-step-axis
+returns-then-step-axis c = search entries
 
 pub returns : goal.returns
 returns c = search entries

@@ -1,5 +1,4 @@
 -- `bondevents::principal::window_principals` meets its contract: the loop's invariant is `Filling`. Assumes nothing.
-use Prim.Native.Nat.{◌-◌, ◌≤◌}
 use mathlib.Core.Path.{◌≡◌}
 use lib.ListN.{length}
 use lib.Dec.{ltb}
@@ -11,9 +10,5 @@ use Rattle.bondevents.proofs.principal.window_principals.Given as goal
 
 abbrev pub invariant-loop-step : goal.invariant-loop-step
 invariant-loop-step l =
-    (l.step ≤ l.steps)
-    × (length l.reached ≡ 256)
-    × Filling (λ k. redemptions (ltb k) l.reached l.kinds l.amounts plus_zero) nan 513 l.step l.table
-
-abbrev pub decreases-loop-step : goal.decreases-loop-step
-decreases-loop-step l = l.steps - l.step
+    (length l.reached ≡ 256)
+    × Filling (λ k. redemptions (ltb k) l.reached l.leg.kinds.now l.leg.amounts.now plus_zero) nan 513 l.step l.table

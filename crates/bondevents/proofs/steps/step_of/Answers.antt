@@ -10,4 +10,4 @@ pub returns : goal.returns
 unfolding raw_step mul div
 returns c =
     c.near_to.ensures
-    ∙ ap (λ (t : Float). clamp 1 c.args.steps (to_unsigned 64 (rounded (mul binary64 (div binary64 t c.args.maturity) (float c.args.steps))))) c.time_from.ensures
+    ∙ ap (λ (t : Float). clamp 1 c.args.axis.steps (to_unsigned 64 (rounded (mul binary64 (div binary64 t c.args.axis.maturity) (float c.args.axis.steps))))) c.time_from.ensures

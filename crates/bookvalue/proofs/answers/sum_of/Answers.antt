@@ -14,4 +14,4 @@ pub loop-i-preserved : goal.loop-i-preserved
 loop-i-preserved c = sum_more _ _ _ _ c.loop-i.invariant (omega arith) (search rules) c.tested.ensures c.at_bond.ensures c.in_ok-sum.was
 
 pub returns : goal.returns
-returns c = sum_done _ _ _ _ c.loop-i.invariant c.loop-i-test.false
+returns c = sum_done _ _ _ _ c.loop-i.invariant (omega arith)

@@ -1,22 +1,14 @@
 -- `desk_count` meets its contract: in the loop, the sum of the counts of the desk's bonds before i, which fits 64 bits. Assumes nothing.
-use Prim.Native.Nat.{◌-◌}
+use Rattle.std.specs.Prelude.{ℕ, ◌+◌, cond, eqb, get_or}
+use Rattle.std.proofs.Common.{ap, ◌∙◌}
 use native.Mathlib.Omega.{arith}
-use Rattle.bookvalue.proofs.laws.Summing.{total-begin, total_more, total-done}
+use Rattle.bookvalue.proofs.laws.Summing.{total-begin, total_more}
 use Rattle.bookvalue.proofs.desks.desk_count.Goals as goal
 
 pub loop-i-init : goal.loop-i-init
 loop-i-init c = total-begin _ _ _ _
 
-pub added-total-requires : goal.added-total-requires
-added-total-requires c =
-    let few = c.requires.1.each c.loop-i.i in
-    let s = c.loop-i.invariant.small in
-    let l = c.loop-i-test.true in
-    let p = c.requires.0 in
-    omega arith
-
 pub loop-i-preserved : goal.loop-i-preserved
-loop-i-preserved c = total_more _ _ _ _ _ _ c.loop-i.invariant c.loop-i-test.true c.requires.1 c.added-total.ensures
-
-pub returns : goal.returns
-returns c = total-done _ _ _ _ _ _ c.loop-i.invariant c.loop-i-test.false
+loop-i-preserved c =
+    total_more _ _ _ _ _ _ c.loop-i.invariant (omega arith) c.requires.1
+    (c.added-total.ensures ∙ ap (λ (z : ℕ). cond (eqb z c.args.desk) (c.loop-i.total + get_or c.args.counts c.loop-i.i 0) c.loop-i.total) c.field_at-of.ensures)

@@ -11,7 +11,7 @@ returns-in_err-at_lower c =
     first_refused_lem _ _ _ _ c.greater-lower.ensures c.objective-tried.ensures c.counted.ensures c.in_err-at_lower.was (search rules)
 
 pub objective-tried-requires-2 : goal.objective-tried-requires-2
-objective-tried-requires-2 c = still_ready c.requires c.objective-tried.auto.first c.objective-tried.auto.second
+objective-tried-requires-2 c = still_ready _ c.requires c.objective-tried.auto.first c.objective-tried.auto.second
 
 pub returns-in_err-at_upper : goal.returns-in_err-at_upper
 returns-in_err-at_upper c =
@@ -21,7 +21,7 @@ returns-in_err-at_upper c =
 pub widened_to_root-requires : goal.widened_to_root-requires
 widened_to_root-requires c =
     record {
-      ready = still_ready c.requires (c.objective-tried-2.auto.first ∙ c.objective-tried.auto.first) (c.objective-tried-2.auto.second ∙ c.objective-tried.auto.second);
+      ready = still_ready _ c.requires (c.objective-tried-2.auto.first ∙ c.objective-tried.auto.first) (c.objective-tried-2.auto.second ∙ c.objective-tried.auto.second);
       evaluations_bound = omega arith;
     }
 

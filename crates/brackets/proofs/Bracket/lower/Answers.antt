@@ -31,7 +31,7 @@ returns-in_err-at_lower c =
 pub raise-requires : goal.raise-requires
 raise-requires c =
     record {
-      ready = still_ready c.requires.ready c.objective-tried.auto.first c.objective-tried.auto.second;
+      ready = still_ready _ c.requires.ready c.objective-tried.auto.first c.objective-tried.auto.second;
       evaluations_bound = omega (arith, c.requires.evaluations_bound);
     }
 

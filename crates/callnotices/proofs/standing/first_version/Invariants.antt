@@ -4,4 +4,4 @@ use Rattle.callnotices.proofs.Looking.{Looking}
 use Rattle.callnotices.proofs.standing.first_version.Given as goal
 
 abbrev pub invariant-loop-i : goal.invariant-loop-i
-invariant-loop-i l = Looking (is_version l.series l.versions l.s l.version) l.count l.i
+invariant-loop-i l = Looking (is_version l.notices.series.now l.notices.versions.now l.s l.version) l.count l.i

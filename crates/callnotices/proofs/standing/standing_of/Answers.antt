@@ -15,4 +15,4 @@ first_version-requires c = search tests
 pub returns : goal.returns
 returns c =
     c.first_version.ensures
-    ∙ ap (λ (v : ℕ). first (is_version c.args.series.now c.args.versions.now c.args.s v) (length c.args.series.now)) c.highest_version.ensures
+    ∙ ap (λ (v : ℕ). first (is_version c.args.notices.series.now c.args.notices.versions.now c.args.s v) (length c.args.notices.series.now)) c.highest_version.ensures

@@ -9,7 +9,6 @@ pub call_steps-requires : goal.call_steps-requires
 call_steps-requires c =
     let start = c in
     record {
-      le_steps = bounded _ _ c.steps_of-steps.ensures start.requires.le_maximum.0 start.requires.le_maximum.1;
       days_len_bound = start.requires.days_len_bound;
       ends_len = start.requires.ends_len;
       put_ends_len = start.requires.put_ends_len;
@@ -17,21 +16,16 @@ call_steps-requires c =
 
 pub returns-in_err-calls : goal.returns-in_err-calls
 returns-in_err-calls c =
-    grid-refused _ _ _ _ _ _ _ _ c.epoch_of-epoch.ensures c.last_day.ensures c.time_from-maturity.ensures c.steps_of-steps.ensures c.call_steps.ensures c.in_err-calls.was (search rules)
+    grid-refused _ _ _ _ _ _ _ _ c.epoch_of-epoch.ensures c.last_day.ensures c.time_from-maturity.ensures c.steps_of.ensures c.call_steps.ensures c.in_err-calls.was (search rules)
 
 pub paid_into-cashflows-requires : goal.paid_into-cashflows-requires
-paid_into-cashflows-requires c =
-    let start = c in
-    record {
-      le_steps = bounded _ _ c.steps_of-steps.ensures start.requires.le_maximum.0 start.requires.le_maximum.1;
-      amounts_len = start.requires.days_len_bound.2;
-    }
+paid_into-cashflows-requires c = c.requires.days_len_bound.2
 
 pub overflow_cast-result : goal.overflow_cast-result
 overflow_cast-result c =
     let start = c in
-    record { fits = lt_of_le_of_lt (bounded _ _ c.steps_of-steps.ensures start.requires.le_maximum.0 start.requires.le_maximum.1).1 (lit< tt) }
+    record { fits = lt_of_le_of_lt (bounded _ _ c.steps_of.ensures start.requires.le_maximum.0 start.requires.le_maximum.1).1 (lit< tt) }
 
 pub returns : goal.returns
 returns c =
-    grid-given _ _ _ _ _ _ _ _ c.epoch_of-epoch.ensures c.last_day.ensures c.time_from-maturity.ensures c.steps_of-steps.ensures c.call_steps.ensures c.in_ok-calls.was c.paid_into-cashflows.ensures
+    grid-given _ _ _ _ _ _ _ _ c.epoch_of-epoch.ensures c.last_day.ensures c.time_from-maturity.ensures c.steps_of.ensures c.call_steps.ensures c.in_ok-calls.was c.paid_into-cashflows.ensures

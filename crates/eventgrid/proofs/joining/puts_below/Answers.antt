@@ -3,7 +3,7 @@ use native.Mathlib.Omega.{arith}
 use mathlib.Core.Path.{refl, ap, ◌∙◌}
 use Rattle.bondevents.specs.Calls.{new_step, put_above}
 use Rattle.terms.proofs.Laws.{same_at}
-use Rattle.terms.proofs.Seeking.{begin, turn, found, done, seeking}
+use Rattle.terms.proofs.Seeking.{begin, turn, found, done}
 use Rattle.bondevents.proofs.Copying.{past_end}
 use Rattle.bondevents.proofs.BothLists.{sought-below}
 use Rattle.floats.specs.declared.Reason.TheVariants as reason
@@ -12,34 +12,16 @@ use Rattle.eventgrid.proofs.joining.puts_below.Goals as goal
 pub loop-i-init : goal.loop-i-init
 loop-i-init c = (c.well_formed.0.1.0.1, begin reason.PutAbove _ 513)
 
-pub offset_bounds-steps-i : goal.offset_bounds-steps-i
-offset_bounds-steps-i c = search seeking
-
-pub bounds-steps-i : goal.bounds-steps-i
-bounds-steps-i c = search seeking
-
-pub put_above-requires : goal.put_above-requires
-put_above-requires c = search seeking
-
-pub above_at-requires : goal.above_at-requires
-above_at-requires c = omega arith
-
 pub returns-then-put_above : goal.returns-then-put_above
 returns-then-put_above c =
     let inv = c.loop-i.invariant in
     sought-below c.args.steps inv.0
-    (found reason.PutAbove _ 513 _ inv.1 c.loop-i-test.true (c.put_above.ensures ∙ ap put_above (same_at c.args.steps c.loop-i.i past_end new_step (omega (arith, inv.0)))) c.if-put_above.true c.above_at.ensures)
-
-pub overflow_add-i : goal.overflow_add-i
-overflow_add-i c = search seeking
-
-pub loop-i-smaller : goal.loop-i-smaller
-loop-i-smaller c = search seeking
+    (found reason.PutAbove _ 513 _ inv.1 (omega arith) (c.put_above.ensures ∙ ap put_above (same_at c.args.steps c.loop-i.i past_end new_step (omega (arith, inv.0)))) c.if-put_above.true c.above_at.ensures)
 
 pub loop-i-preserved : goal.loop-i-preserved
 loop-i-preserved c =
     let inv = c.loop-i.invariant in
-    (inv.0, turn reason.PutAbove _ 513 _ inv.1 c.loop-i-test.true (c.put_above.ensures ∙ ap put_above (same_at c.args.steps c.loop-i.i past_end new_step (omega (arith, inv.0)))) c.if-put_above.false)
+    (inv.0, turn reason.PutAbove _ 513 _ inv.1 (omega arith) (c.put_above.ensures ∙ ap put_above (same_at c.args.steps c.loop-i.i past_end new_step (omega (arith, inv.0)))) c.if-put_above.false)
 
 pub returns : goal.returns
 returns c =

@@ -1,5 +1,5 @@
 -- `worth::of_calls` meets its contract. Assumes nothing.
-use mathlib.Core.Path.{refl, ◌∙◌}
+use mathlib.Core.Path.{◌∙◌}
 use Rattle.filevalue.proofs.Replying.{worth}
 use Rattle.filevalue.proofs.worth.of_calls.Goals as goal
 
@@ -16,5 +16,4 @@ pub shape_of-second : goal.shape_of-second
 shape_of-second c = c.tree_value-uncalled.auto.second_row ∙ c.tree_value-called.auto.second_row
 
 pub returns : goal.returns
-returns c =
-    worth (rw (c.days_of.ensures, c.days_of-2.ensures, c.numbers_of.ensures) refl) c.tree_value-called.ensures c.tree_value-uncalled.ensures c.worth_of_calls.ensures
+returns c = worth c.tree_value-called.ensures c.tree_value-uncalled.ensures c.worth_of_calls.ensures

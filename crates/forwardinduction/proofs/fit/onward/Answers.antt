@@ -12,7 +12,7 @@ use lib.ListN.{length, get_or, drop, drop_of_length-le}
 use lib.IntN.{ℤ, pos}
 use lib.Ieee.{Float, nan}
 use Rattle.floats.specs.declared.Refusal.{Refusal}
-use Rattle.floats.specs.Answers.{Answer, on_outcome, Check, Outcome, follow}
+use Rattle.floats.specs.Answers.{Answer, Check, Outcome, follow}
 use Rattle.lattice.specs.declared.reach.Reach.{Reach}
 use Rattle.lattice.specs.Layers.{node_float}
 use Rattle.lattice.specs.laws.Stored.{middles_in}
@@ -23,9 +23,8 @@ use Rattle.lattice.specs.laws.Positions.{start_of, Layered, Held, roomy_next}
 use Rattle.lattice.specs.laws.Rows.{outcome_of}
 use Rattle.lattice.specs.laws.Binds.{went_on, stopped_at}
 use Rattle.forwardinduction.specs.laws.FitSteps.{discounted_of, add_three, onward_at}
-use Rattle.forwardinduction.specs.laws.Exps.{rate_argument, Kept, kept-none, kept_more, ready-here}
+use Rattle.forwardinduction.specs.laws.Exps.{rate_argument, Kept, kept-none, kept_more}
 use Rattle.forwardinduction.proofs.Outcomes.{passes, refuses-call, followed, halted}
-use Rattle.floats.proofs.Laws.{answers}
 use Rattle.forwardinduction.proofs.fit.onward.Invariants.{At}
 use Rattle.forwardinduction.proofs.fit.onward.Goals as goal
 

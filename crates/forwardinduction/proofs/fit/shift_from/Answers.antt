@@ -1,5 +1,4 @@
 -- `fit::shift_from` meets its contract. Assumes nothing.
-use Rattle.std.specs.Prelude.{Float}
 use Rattle.std.specs.Float.{binary64}
 use Rattle.std.specs.Float.Ieee.{div}
 use Rattle.std.proofs.Common.{rules, sym, ◌∙◌}

@@ -1,7 +1,7 @@
 -- `fit::weighted_sum` meets its contract. The invariant: what is left of the sum from node i on, at the total, is the whole sum. Assumes nothing.
 use Rattle.std.specs.Prelude.{Ok, Err}
 use Prim.Native.Nat.{ℕ, ◌+◌, ◌*◌, ◌≤◌, ◌<◌}
-use mathlib.Core.Path.{◌≡◌, refl, sym, ◌∙◌}
+use mathlib.Core.Path.{◌≡◌, sym, ◌∙◌}
 use mathlib.Core.Bool.{Bool}
 use mathlib.Core.List.{List}
 use native.Mathlib.Omega.{arith}
@@ -19,8 +19,7 @@ use Rattle.lattice.specs.laws.Stored.{numbers_in, row_of}
 use Rattle.lattice.specs.laws.StoredAt.{row_from, row_from_lem, row_done}
 use Rattle.lattice.specs.laws.Binds.{went_on, stopped_at}
 use Rattle.forwardinduction.specs.laws.FitSteps.{weigh_one, weighted_more}
-use Rattle.forwardinduction.specs.laws.Exps.{weight_argument, Kept, kept-none, kept_more, ready-here}
-use Rattle.floats.proofs.Laws.{answers}
+use Rattle.forwardinduction.specs.laws.Exps.{weight_argument, Kept, kept_more}
 use Rattle.forwardinduction.proofs.fit.weighted_sum.Invariants.{At}
 use Rattle.forwardinduction.proofs.fit.weighted_sum.Goals as goal
 

@@ -1,9 +1,6 @@
 -- `fitting::fit_tree` meets its contract. Assumes nothing.
-use mathlib.Core.Path.{refl}
 use native.Mathlib.Omega.{arith}
-use lib.ListN.{length-set}
-use Rattle.floats.specs.Answers.{one}
-use Rattle.forwardinduction.specs.laws.LaidFront.{fronted, laid-over}
+use Rattle.forwardinduction.specs.laws.LaidFront.{fronted}
 use Rattle.forwardinduction.specs.laws.FitLaid.{root-row}
 use Rattle.forwardinduction.proofs.fitting.fit_tree.Goals as goal
 

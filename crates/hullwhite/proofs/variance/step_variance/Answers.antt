@@ -3,11 +3,11 @@ use Rattle.std.specs.Prelude.{◌≡◌, ℕ, Float}
 use Rattle.std.specs.Float.{binary64}
 use Rattle.std.specs.Float.Ieee.{add, mul}
 use Rattle.std.proofs.Common.{rules}
-use Rattle.floats.specs.Answers.{Answer, on_outcome, when_finite}
+use Rattle.floats.specs.Answers.{Answer, when_finite}
 use Rattle.terms.specs.Numbers.{float}
 use Rattle.terms.specs.Terms.{HullWhite}
 use Rattle.hullwhite.specs.Variance.{piecewise_variance, step_variance}
-use Rattle.hullwhite.specs.laws.Filled.{model_of}
+use Rattle.terms.specs.Market.{model_of}
 use Rattle.hullwhite.proofs.variance.step_variance.Goals as goal
 
 is_step : (model : HullWhite) (dt : Float) (k : ℕ) {a : Answer}
@@ -17,10 +17,10 @@ unfolding step_variance
 is_step model dt k h = h
 
 pub returns-in_err-start : goal.returns-in_err-start
-returns-in_err-start c = is_step (model_of c.args.model.alpha c.args.model.sigma_times.now c.args.model.sigmas.now) c.args.time_step c.args.k (search rules)
+returns-in_err-start c = is_step (model_of c.args.model) c.args.time_step c.args.k (search rules)
 
 pub returns-in_err-end : goal.returns-in_err-end
-returns-in_err-end c = is_step (model_of c.args.model.alpha c.args.model.sigma_times.now c.args.model.sigmas.now) c.args.time_step c.args.k (search rules)
+returns-in_err-end c = is_step (model_of c.args.model) c.args.time_step c.args.k (search rules)
 
 pub returns : goal.returns
-returns c = is_step (model_of c.args.model.alpha c.args.model.sigma_times.now c.args.model.sigmas.now) c.args.time_step c.args.k (search rules)
+returns c = is_step (model_of c.args.model) c.args.time_step c.args.k (search rules)

@@ -1,5 +1,6 @@
 -- `rows::compounded_row` meets its contract: the loops one after the other. Assumes nothing.
 use mathlib.Core.Path.{sym, ◌∙◌}
+use lib.Seq.{length-take-le}
 use Rattle.interestrate.specs.laws.Rows.{no_row, compounded_row_lem}
 use Rattle.interestrate.proofs.rows.compounded_row.Goals as goal
 
@@ -12,6 +13,9 @@ returns-then-base c = no_row
 pub returns-in_default : goal.returns-in_default
 returns-in_default c = no_row
 
+pub returns-then-n-gt64 : goal.returns-then-n-gt64
+returns-then-n-gt64 c = no_row
+
 pub returns-then-not-exp_row : goal.returns-then-not-exp_row
 returns-then-not-exp_row c = no_row
 
@@ -21,4 +25,5 @@ returns c =
     let log = sym c.ln_at.ensures ∙ c.in-Ok.is in
     let at = c.exponents.ensures in
     let said = c.if-not-exp_row.false in
-    compounded_row_lem _ _ _ _ _ finite c.if-base.false log c.requires.times-fit c.requires.xs-fit at said c.exp_row.ensures c.slope_row.ensures
+    let few = c.if-n-gt64.false in
+    compounded_row_lem _ _ _ _ _ finite c.if-base.false log (length-take-le _ _ few) (length-take-le _ _ few) at said c.exp_row.ensures c.slope_row.ensures

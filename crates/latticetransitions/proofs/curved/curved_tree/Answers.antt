@@ -10,10 +10,10 @@ use Rattle.lattice.specs.laws.Rooted.{decay-above, lays-nothing, no_decay_lem, n
 use Rattle.latticetransitions.proofs.curved.curved_tree.Goals as goal
 
 pub returns-in_err-decay : goal.returns-in_err-decay
-returns-in_err-decay c = lays-nothing (no_decay_lem (room_left c.args.nodes.now c.args.probabilities.now c.args.one c.args.two) c.args.alpha c.args.dt c.args.variances.now c.requires.variances_nonzero.0 c.decay_of.ensures c.in_err-decay.was) (let x : c.from_residual.result ≡ Err c.in_err-decay.field-0.0 = search rules in x)
+returns-in_err-decay c = lays-nothing (no_decay_lem (room_left c.args.nodes.now c.args.probabilities.now c.args.rows.first c.args.rows.second) c.args.alpha c.args.dt c.args.variances.now c.requires.variances_nonzero.0 c.decay_of.ensures c.in_err-decay.was) (let x : c.from_residual.result ≡ Err c.in_err-decay.field-0.0 = search rules in x)
 
 pub returns-in_err-spacing : goal.returns-in_err-spacing
-returns-in_err-spacing c = lays-nothing (no_spacing (room_left c.args.nodes.now c.args.probabilities.now c.args.one c.args.two) c.args.alpha c.args.dt c.args.variances.now c.requires.variances_nonzero.0 c.decay_of.ensures c.in_ok-decay.was c.spacing_of.ensures c.in_err-spacing.was) (let x : c.from_residual-in_err-spacing.result ≡ Err c.in_err-spacing.field-0.0 = search rules in x)
+returns-in_err-spacing c = lays-nothing (no_spacing (room_left c.args.nodes.now c.args.probabilities.now c.args.rows.first c.args.rows.second) c.args.alpha c.args.dt c.args.variances.now c.requires.variances_nonzero.0 c.decay_of.ensures c.in_ok-decay.was c.spacing_of.ensures c.in_err-spacing.was) (let x : c.from_residual-in_err-spacing.result ≡ Err c.in_err-spacing.field-0.0 = search rules in x)
 
 pub rooted-requires : goal.rooted-requires
 rooted-requires c =
@@ -26,17 +26,5 @@ rooted-requires c =
       counts_len = c.requires.counts_len;
     }
 
-pub shape_of-counts : goal.shape_of-counts
-shape_of-counts c = c.rooted.auto.counts
-
-pub shape_of-spacings : goal.shape_of-spacings
-shape_of-spacings c = c.rooted.auto.spacings
-
-pub shape_of-nodes : goal.shape_of-nodes
-shape_of-nodes c = c.rooted.auto.nodes
-
-pub shape_of-probabilities : goal.shape_of-probabilities
-shape_of-probabilities c = c.rooted.auto.probabilities
-
 pub returns : goal.returns
-returns c = rw (from_root_lem (room_left c.args.nodes.now c.args.probabilities.now c.args.one c.args.two) c.args.alpha c.args.dt c.args.variances.now c.requires.variances_nonzero.0 c.decay_of.ensures c.in_ok-decay.was c.spacing_of.ensures c.in_ok-spacing.was) c.rooted.ensures
+returns c = rw (from_root_lem (room_left c.args.nodes.now c.args.probabilities.now c.args.rows.first c.args.rows.second) c.args.alpha c.args.dt c.args.variances.now c.requires.variances_nonzero.0 c.decay_of.ensures c.in_ok-decay.was c.spacing_of.ensures c.in_ok-spacing.was) c.rooted.ensures

@@ -1,23 +1,15 @@
 -- `curved::rooted` meets its contract. Assumes nothing.
 use native.Mathlib.Omega.{arith}
 use mathlib.Core.Path.{refl, sym, ◌∙◌}
-use lib.ListN.{length-set}
-use lib.IntN.{pos}
 use Rattle.lattice.specs.laws.Growing.{room_left}
 use Rattle.lattice.specs.laws.RoomTest.{fitting}
-use Rattle.lattice.specs.laws.Rooted.{root-length, root-front, root-refused, root-laid, lays-nothing}
+use Rattle.lattice.specs.laws.Rooted.{root-front, root-refused, root-laid, lays-nothing}
 use Rattle.layers.specs.laws.Known.{before-none}
 use Rattle.latticetransitions.proofs.curved.rooted.Goals as goal
 
-pub slice_set_of-nodes : goal.slice_set_of-nodes
-slice_set_of-nodes c = omega (arith, (fitting (room_left c.args.nodes.now c.args.probabilities.now c.args.one c.args.two) 1 1 (sym c.has_room.ensures ∙ c.if-has_room.true)).pairs)
-
-pub slice_set_of-nodes-then-has_room : goal.slice_set_of-nodes-then-has_room
-slice_set_of-nodes-then-has_room c = omega (arith, (fitting (room_left c.args.nodes.now c.args.probabilities.now c.args.one c.args.two) 1 1 (sym c.has_room.ensures ∙ c.if-has_room.true)).pairs, length-set c.args.nodes.now 0 (pos 0))
-
 pub layers-requires : goal.layers-requires
 layers-requires c =
-    let f = fitting (room_left c.args.nodes.now c.args.probabilities.now c.args.one c.args.two) 1 1 (sym c.has_room.ensures ∙ c.if-has_room.true) in
+    let f = fitting (room_left c.args.nodes.now c.args.probabilities.now c.args.rows.first c.args.rows.second) 1 1 (sym c.has_room.ensures ∙ c.if-has_room.true) in
     record {
       front = root-front c.args.decay c.args.spacing c.args.nodes.now c.args.probabilities.now f.pairs f.threes c.requires.t.0 c.requires.t.1;
       counts_len = c.requires.counts_len;
@@ -25,20 +17,8 @@ layers-requires c =
       before = before-none _ _ _ _ _;
     }
 
-pub shape_of-counts-then-has_room : goal.shape_of-counts-then-has_room
-shape_of-counts-then-has_room c = c.layers.auto.counts
-
-pub shape_of-spacings-then-has_room : goal.shape_of-spacings-then-has_room
-shape_of-spacings-then-has_room c = c.layers.auto.spacings
-
-pub shape_of-nodes-then-has_room : goal.shape_of-nodes-then-has_room
-shape_of-nodes-then-has_room c = c.layers.auto.nodes ∙ root-length c.args.nodes.now
-
-pub shape_of-probabilities-then-has_room : goal.shape_of-probabilities-then-has_room
-shape_of-probabilities-then-has_room c = c.layers.auto.probabilities
-
 pub returns-then-has_room : goal.returns-then-has_room
-returns-then-has_room c = root-laid c.args.one c.args.two c.args.decay c.args.spacing c.args.nodes.now c.args.probabilities.now c.args.variances.now (sym c.has_room.ensures ∙ c.if-has_room.true) c.layers.ensures.lays
+returns-then-has_room c = root-laid c.args.rows.first c.args.rows.second c.args.decay c.args.spacing c.args.nodes.now c.args.probabilities.now c.args.variances.now (sym c.has_room.ensures ∙ c.if-has_room.true) c.layers.ensures.lays
 
 pub returns : goal.returns
-returns c = lays-nothing (root-refused c.args.one c.args.two c.args.decay c.args.spacing c.args.nodes.now c.args.probabilities.now c.args.variances.now (sym c.has_room.ensures ∙ c.if-has_room.false)) refl
+returns c = lays-nothing (root-refused c.args.rows.first c.args.rows.second c.args.decay c.args.spacing c.args.nodes.now c.args.probabilities.now c.args.variances.now (sym c.has_room.ensures ∙ c.if-has_room.false)) refl

@@ -1,6 +1,6 @@
 -- `flat::all_flat` meets its contract: what `all` answers over the variances. Assumes nothing.
-use Rattle.std.specs.Prelude.{◌≡◌, ◌&&◌, List, [], ◌∷◌, Float, refl}
-use Rattle.std.proofs.Common.{rules, tests, ap, ◌∙◌}
+use Rattle.std.specs.Prelude.{◌≡◌, List, [], ◌∷◌, Float, refl}
+use Rattle.std.proofs.Common.{rules, tests, ◌∙◌}
 use Rattle.std.specs.Float.Ieee.{le}
 use Rattle.std.specs.List.{list_all}
 use Rattle.std.proofs.lemmas.Iterator.{YieldsList-from_slice}

@@ -1,11 +1,6 @@
 -- `flat::lay_still` meets its contract. Assumes nothing.
-use native.Mathlib.Omega.{arith}
-use lib.ListN.{length-set}
 use Rattle.lattice.specs.laws.Fronts.{set_one, set_three}
 use Rattle.latticetransitions.proofs.flat.lay_still.Goals as goal
-
-pub bounds-probabilities-1 : goal.bounds-probabilities-1
-bounds-probabilities-1 c = simp length-set (omega arith)
 
 pub returns : goal.returns
 returns c = (set_one c.args.spacings.now _ c.requires.0, set_three c.args.probabilities.now _ _ _ c.requires.1)

@@ -17,38 +17,14 @@ lattice-curved : (room : Room) (alpha dt : Float) (variances : List Float) → a
 unfolding lattice
 lattice-curved room alpha dt variances e = rw e
 
-pub shape_of-counts-then-all_flat : goal.shape_of-counts-then-all_flat
-shape_of-counts-then-all_flat c = c.flat_tree.auto.counts
-
-pub shape_of-spacings-then-all_flat : goal.shape_of-spacings-then-all_flat
-shape_of-spacings-then-all_flat c = c.flat_tree.auto.spacings
-
-pub shape_of-nodes-then-all_flat : goal.shape_of-nodes-then-all_flat
-shape_of-nodes-then-all_flat c = c.flat_tree.auto.nodes
-
-pub shape_of-probabilities-then-all_flat : goal.shape_of-probabilities-then-all_flat
-shape_of-probabilities-then-all_flat c = c.flat_tree.auto.probabilities
-
 pub returns-then-all_flat : goal.returns-then-all_flat
 returns-then-all_flat c =
     let a = c.args in
     let e = sym c.all_flat.ensures ∙ c.if-all_flat.true in
-    rw (lattice-flat (room_left a.nodes.now a.probabilities.now a.one a.two) a.alpha a.dt a.variances.now e, e, ← c.requires.counts_len.1) c.flat_tree.ensures
-
-pub shape_of-counts : goal.shape_of-counts
-shape_of-counts c = c.curved_tree.auto.counts
-
-pub shape_of-spacings : goal.shape_of-spacings
-shape_of-spacings c = c.curved_tree.auto.spacings
-
-pub shape_of-nodes : goal.shape_of-nodes
-shape_of-nodes c = c.curved_tree.auto.nodes
-
-pub shape_of-probabilities : goal.shape_of-probabilities
-shape_of-probabilities c = c.curved_tree.auto.probabilities
+    rw (lattice-flat (room_left a.nodes.now a.probabilities.now a.rows.first a.rows.second) a.alpha a.dt a.variances.now e, e, ← c.requires.counts_len.1) c.flat_tree.ensures
 
 pub returns : goal.returns
 returns c =
     let a = c.args in
     let e = sym c.all_flat.ensures ∙ c.if-all_flat.false in
-    rw (lattice-curved (room_left a.nodes.now a.probabilities.now a.one a.two) a.alpha a.dt a.variances.now e, e) c.curved_tree.ensures
+    rw (lattice-curved (room_left a.nodes.now a.probabilities.now a.rows.first a.rows.second) a.alpha a.dt a.variances.now e, e) c.curved_tree.ensures

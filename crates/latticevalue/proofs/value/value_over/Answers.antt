@@ -16,7 +16,7 @@ root_value-requires c =
     let d = kept.shifts in
     let e = kept.spacings in
     let p = c.requires in
-    record { laid = laid-over kept.first kept.second s.fitted.stands.laid; counts_value = (root-count s.fitted.stands, s.fitted.stands.first_layer); shifts_len = (omega arith, omega arith, omega arith); marks_len = (omega arith, omega arith) }
+    record { laid = laid-over kept.first kept.second s.fitted.stands.laid; root = (root-count s.fitted.stands, s.fitted.stands.first_layer); steps = (omega arith, omega arith, omega arith); calls = (omega arith, omega arith) }
 
 pub returns-in_err-value : goal.returns-in_err-value
 returns-in_err-value c = value_is (standing c.fitted_tree.ensures c.in_ok-dt.was) _ _ _ c.root_value.ensures refl (rw c.in_err-value.was (search rules))

@@ -5,12 +5,12 @@ use Rattle.layers.proofs.grow.divisors.Goals as goal
 
 pub returns-in_err-denominator : goal.returns-in_err-denominator
 unfolding step_with
-returns-in_err-denominator c = record { step = λ spacing decay. search rules }
+returns-in_err-denominator c = search rules
 
 pub returns-in_err-scale : goal.returns-in_err-scale
 unfolding step_with
-returns-in_err-scale c = record { step = λ spacing decay. search rules }
+returns-in_err-scale c = search rules
 
 pub returns : goal.returns
 unfolding step_with
-returns c = record { step = λ spacing decay. search rules }
+returns c = search rules

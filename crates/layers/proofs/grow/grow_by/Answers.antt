@@ -19,12 +19,6 @@ fill-requires c =
     let h = front-room a.before a.nodes.now a.probabilities.now p.front.0 in
     record { count_in_bounds = (h.0, h.1, p.known_le_before.0); known = p.known_le_before.1 }
 
-pub shape_of-nodes-in_err-fill : goal.shape_of-nodes-in_err-fill
-shape_of-nodes-in_err-fill c = c.fill.ensures.behind.kept
-
-pub shape_of-probabilities-in_err-fill : goal.shape_of-probabilities-in_err-fill
-shape_of-probabilities-in_err-fill c = c.fill.ensures.behind.kept_too
-
 pub returns-in_err-fill : goal.returns-in_err-fill
 returns-in_err-fill c =
     let p = c.requires.front in
@@ -33,25 +27,7 @@ returns-in_err-fill c =
     let d = drop (a.before * 2) a.nodes.now in
     let q = drop (a.before * 3) a.probabilities.now in
     let x : c.from_residual.result ≡ Err c.in_err-fill.field-0.0 = search rules in
-    rw x (record { grown = grown-stopped (room_left d q a.one a.two) p.0 (rw c.in_err-fill.was at e.filled); behind = e.behind })
-
-pub overflow_mul-pairs : goal.overflow_mul-pairs
-overflow_mul-pairs c = let a = c.args in let h = front-room a.before a.nodes.now a.probabilities.now c.requires.front.0 in let p = h.0 in let q = h.1 in search rules
-
-pub overflow_mul-threes : goal.overflow_mul-threes
-overflow_mul-threes c = let a = c.args in let h = front-room a.before a.nodes.now a.probabilities.now c.requires.front.0 in let p = h.0 in let q = h.1 in search rules
-
-pub overflow_sub-threes : goal.overflow_sub-threes
-overflow_sub-threes c = let a = c.args in let h = front-room a.before a.nodes.now a.probabilities.now c.requires.front.0 in let p = h.0 in let q = h.1 in let k = c.fill.ensures.behind in let l = k.kept in let n = k.kept_too in search rules
-
-pub offset_bounds-nodes-pairs : goal.offset_bounds-nodes-pairs
-offset_bounds-nodes-pairs c = let a = c.args in let h = front-room a.before a.nodes.now a.probabilities.now c.requires.front.0 in let p = h.0 in let q = h.1 in search rules
-
-pub slice_bounds-lay_next-count : goal.slice_bounds-lay_next-count
-slice_bounds-lay_next-count c = let a = c.args in let h = front-room a.before a.nodes.now a.probabilities.now c.requires.front.0 in let p = h.0 in let q = h.1 in let k = c.fill.ensures.behind in let l = k.kept in let n = k.kept_too in search rules
-
-pub slice_bounds-lay_next-start : goal.slice_bounds-lay_next-start
-slice_bounds-lay_next-start c = let a = c.args in let h = front-room a.before a.nodes.now a.probabilities.now c.requires.front.0 in let p = h.0 in let q = h.1 in let k = c.fill.ensures.behind in let l = k.kept in let n = k.kept_too in search rules
+    rw x (record { grown = grown-stopped (room_left d q a.rows.first a.rows.second) p.0 (rw c.in_err-fill.was at e.filled); behind = e.behind })
 
 pub lay_next-requires : goal.lay_next-requires
 lay_next-requires c =
@@ -68,4 +44,4 @@ returns c =
     let f = filled-front p.0 p.1 (rw c.in_ok-fill.was at e.filled) in
     let a = c.args in
     let h = front-room a.before a.nodes.now a.probabilities.now p.0 in
-    grown-behind a.one a.two _ (omega (arith, h.0, e.behind.kept)) refl f e.behind c.lay_next.ensures
+    grown-behind a.rows.first a.rows.second _ (omega (arith, h.0, e.behind.kept)) refl f e.behind c.lay_next.ensures

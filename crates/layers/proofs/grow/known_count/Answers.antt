@@ -2,12 +2,6 @@
 use Rattle.layers.specs.laws.Known.{none-known, all_known}
 use Rattle.layers.proofs.grow.known_count.Goals as goal
 
-pub same_number-requires : goal.same_number-requires
-same_number-requires c = tt
-
-pub same_number-requires-then-same_number : goal.same_number-requires-then-same_number
-same_number-requires-then-same_number c = tt
-
 pub returns-then-same_number-2 : goal.returns-then-same_number-2
 returns-then-same_number-2 c = all_known (c.same_number.ensures.same c.if-same_number.true) (c.same_number-then-same_number.ensures.same c.if-same_number-2.true)
 

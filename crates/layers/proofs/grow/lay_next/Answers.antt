@@ -1,6 +1,6 @@
 -- `lay_next` meets its contract: by the test of the room. Assumes nothing.
 use native.Mathlib.Omega.{arith}
-use mathlib.Core.Path.{sym, ap, ◌∙◌, refl}
+use mathlib.Core.Path.{sym, ap, ◌∙◌}
 use lib.ListN.{length, get_or}
 use lib.IntN.{pos}
 use Rattle.lattice.specs.declared.reach.Reach.{Reach}
@@ -21,23 +21,17 @@ pub spread-requires : goal.spread-requires
 spread-requires c =
     let a = c.args in
     let n = ap (λ (r : Reach). r.count) c.count_next-reached.ensures in
-    let h = (fitting (room_of (length a.nodes.now) a.probabilities a.one a.two) _ _ (sym c.has_room.ensures ∙ c.if-has_room.true)).pairs in
+    let h = (fitting (room_of (length a.nodes.now) a.probabilities a.rows.first a.rows.second) _ _ (sym c.has_room.ensures ∙ c.if-has_room.true)).pairs in
     (c.requires.0, omega arith, c.requires.2)
-
-pub shape_of-nodes-then-has_room : goal.shape_of-nodes-then-has_room
-shape_of-nodes-then-has_room c = c.spread.auto.nodes
 
 pub returns-then-has_room : goal.returns-then-has_room
 returns-then-has_room c =
     let a = c.args in
     let n = ap (λ (r : Reach). r.count) c.count_next-reached.ensures in
-    laid_next (room_of (length a.nodes.now) a.probabilities a.one a.two) a.spacing a.step a.count a.nodes.now n c.has_room.ensures c.if-has_room.true c.spread.ensures
-
-pub shape_of-nodes : goal.shape_of-nodes
-shape_of-nodes c = refl
+    laid_next (room_of (length a.nodes.now) a.probabilities a.rows.first a.rows.second) a.spacing a.step a.count a.nodes.now n c.has_room.ensures c.if-has_room.true c.spread.ensures
 
 pub returns : goal.returns
 returns c =
     let a = c.args in
     let n = ap (λ (r : Reach). r.count) c.count_next-reached.ensures in
-    no_room (room_of (length a.nodes.now) a.probabilities a.one a.two) a.spacing a.step a.count a.nodes.now n c.has_room.ensures c.if-has_room.false
+    no_room (room_of (length a.nodes.now) a.probabilities a.rows.first a.rows.second) a.spacing a.step a.count a.nodes.now n c.has_room.ensures c.if-has_room.false

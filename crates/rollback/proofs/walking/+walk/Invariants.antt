@@ -3,4 +3,4 @@ use lib.ListN.{length}
 use Rattle.rollback.proofs.walking.+walk.Given as goal
 
 abbrev pub decreases-walk : goal.decreases-walk
-decreases-walk l = length l.spacings.now
+decreases-walk l = length l.lattice.spacings.now

@@ -5,7 +5,6 @@ use mathlib.Core.Path.{◌≡◌, refl}
 use mathlib.Core.List.{List, [], ◌∷◌}
 use lib.ListN.{get_or, take}
 use lib.Ieee.{Float, nan}
-use Rattle.forwardinduction.specs.laws.Fitting.{current-length}
 use Rattle.forwardinduction.specs.laws.LaidFront.{fronted}
 use Rattle.backwardinduction.specs.laws.WalkRoot.{root-passed, root-refused}
 use Rattle.rollback.proofs.walking.root_value.Goals as goal
@@ -16,7 +15,7 @@ first_of [] = refl
 first_of (x ∷ row) = refl
 
 pub returns : goal.returns
-returns c = rw (c.current-row.ensures, first_of c.walk.new.first) (root-passed (get_or c.args.counts.now 0 0) c.args.nodes.now (record { first = c.walk.new.first; second = c.walk.new.second }) c.walk.ensures c.in_ok-walk.was c.requires.counts_value.0 c.requires.counts_value.1 (omega (arith, (fronted c.requires.laid).first_room, c.requires.counts_value.0, c.walk.auto.first)))
+returns c = rw (c.current-row.ensures, first_of c.walk.new.first) (root-passed (get_or c.args.lattice.counts.now 0 0) c.args.lattice.nodes.now (record { first = c.walk.new.first; second = c.walk.new.second }) c.walk.ensures c.in_ok-walk.was c.requires.root.0 c.requires.root.1 (omega (arith, (fronted c.requires.laid).first_room, c.requires.root.0, c.walk.auto.first)))
 
 pub returns-in_err-walk : goal.returns-in_err-walk
-returns-in_err-walk c = root-refused (get_or c.args.counts.now 0 0) c.args.nodes.now (record { first = c.walk.new.first; second = c.walk.new.second }) c.walk.ensures c.in_err-walk.was (search rules)
+returns-in_err-walk c = root-refused (get_or c.args.lattice.counts.now 0 0) c.args.lattice.nodes.now (record { first = c.walk.new.first; second = c.walk.new.second }) c.walk.ensures c.in_err-walk.was (search rules)

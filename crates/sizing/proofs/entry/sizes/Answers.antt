@@ -5,17 +5,13 @@ use native.Mathlib.Nat.{lt_of_le_of_lt}
 use native.Mathlib.Omega.{arith}
 use mathlib.Core.Path.{refl, sym, ap, ◌∙◌}
 use lib.Dec.{lit<}
-use lib.Seq.{length-take-le}
 use Rattle.terms.specs.Times.{year_fraction}
-use Rattle.terms.specs.laws.EntryChecks.{tree-grid}
+use Rattle.terms.specs.laws.TreeChecks.{tree-grid}
 use Rattle.terms.proofs.Timing.{fronted}
 use Rattle.bondevents.specs.Grid.{axis_of}
 use Rattle.bondevents.proofs.Grids.{bounded, settled}
 use Rattle.sizing.specs.laws.Sized.{entered-refused, entered-zeroed}
 use Rattle.sizing.proofs.entry.sizes.Goals as goal
-
-pub slice_bounds-tree_checks-end : goal.slice_bounds-tree_checks-end
-slice_bounds-tree_checks-end c = let few = c.timed_pillars-count.ensures in sym (length-take-le _ _ (omega arith))
 
 pub tree_checks-requires : goal.tree_checks-requires
 tree_checks-requires c = fronted _ _ _ c.timed_pillars-count.ensures c.pillar_times-table.ensures
@@ -47,5 +43,5 @@ sizes_at-found-requires c =
 pub returns : goal.returns
 unfolding axis_of
 returns c =
-    let time = c.year_fraction-maturity.ensures ∙ ap (year_fraction c.args.settlement) c.last_day.ensures in
+    let time = c.year_fraction-maturity.ensures ∙ ap (year_fraction c.args.market.settlement) c.last_day.ensures in
     entered-zeroed _ _ c.tree_checks.ensures _ c.in_ok-tree_checks.was time (c.steps_of-steps.ensures ∙ (rw time)) c.sizes_at-found.ensures c.zero_numbers.ensures c.sizes_at-found.auto.nodes

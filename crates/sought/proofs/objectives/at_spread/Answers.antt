@@ -12,9 +12,6 @@ pub returns-then-not_within : goal.returns-then-not_within
 unfolding spread_at of_int of_bits
 returns-then-not_within c = search prices
 
-pub root_value-requires : goal.root_value-requires
-root_value-requires c = record { laid = c.requires.laid; counts_value = c.requires.root; shifts_len = c.requires.steps; marks_len = c.requires.calls }
-
 pub returns-in_err-value : goal.returns-in_err-value
 unfolding spread_at of_int of_bits
 returns-in_err-value c = search (prices, c.in_err-value.was)

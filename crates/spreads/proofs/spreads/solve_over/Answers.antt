@@ -1,10 +1,10 @@
 -- `solve_over` meets its contract: the fit once, then the root over what stands in the slices (`SpreadSolved`). Assumes nothing.
-use mathlib.Core.Path.{refl, ◌∙◌}
+use mathlib.Core.Path.{◌∙◌}
 use native.Mathlib.Omega.{arith}
 use Rattle.forwardinduction.specs.laws.LaidFront.{laid-over}
 use Rattle.treebasedbondpricer.specs.laws.FittedIn.{root-count}
 use Rattle.treebasedbondpricer.specs.laws.Valued.{standing}
-use Rattle.sought.specs.laws.Seeking.{spread-ready}
+use Rattle.sought.specs.laws.Sought.{Ready}
 use Rattle.std.proofs.Common.{rules}
 use Rattle.brackets.proofs.Laws.{was_given, was_refused, refused_after}
 use Rattle.spreads.specs.laws.SpreadSolved.{root-refused, root_is}
@@ -18,18 +18,18 @@ returns-in_err-dt c =
     root-refused _ _ _ c.fitted_tree-fitted.ensures (was_refused _ c.counted.ensures c.in_err-dt.was) (refused_after _ _ c.counted.ensures c.in_err-dt.was (search rules))
 
 pub bracketed_root-requires : goal.bracketed_root-requires
+unfolding Ready
 bracketed_root-requires c =
     let s = standing c.fitted_tree-fitted.ensures (was_given _ c.counted.ensures c.in_ok-dt.was) in
     let d = c.fitted_tree-fitted.auto.shifts in
     let e = c.fitted_tree-fitted.auto.spacings in
     let p = c.requires in
-    spread-ready _ _ _ _ _ _ refl
-    (record {
+    record {
       laid = laid-over c.fitted_tree-fitted.auto.first c.fitted_tree-fitted.auto.second s.fitted.stands.laid;
       root = (root-count s.fitted.stands, s.fitted.stands.first_layer);
       steps = (omega arith, omega arith, omega arith);
       calls = (omega arith, omega arith);
-    })
+    }
 
 pub shape_of-first : goal.shape_of-first
 shape_of-first c = c.bracketed_root.auto.first ∙ c.fitted_tree-fitted.auto.first
@@ -38,4 +38,4 @@ pub shape_of-second : goal.shape_of-second
 shape_of-second c = c.bracketed_root.auto.second ∙ c.fitted_tree-fitted.auto.second
 
 pub returns : goal.returns
-returns c = root_is (standing c.fitted_tree-fitted.ensures (was_given _ c.counted.ensures c.in_ok-dt.was)) _ _ _ _ _ _ _ c.bracketed_root.ensures
+returns c = root_is _ _ _ (standing c.fitted_tree-fitted.ensures (was_given _ c.counted.ensures c.in_ok-dt.was)) c.bracketed_root.ensures

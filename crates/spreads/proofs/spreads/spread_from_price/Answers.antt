@@ -2,7 +2,7 @@
 use mathlib.Core.Path.{refl, sym, ◌∙◌}
 use native.Mathlib.Omega.{arith}
 use lib.Seq.{length-take-le}
-use Rattle.terms.specs.laws.EntryChecks.{spread-grid, spread-few-pillars}
+use Rattle.terms.specs.laws.TreeChecks.{spread-grid, spread-few-pillars}
 use Rattle.terms.proofs.Timing.{fronted}
 use Rattle.bondevents.proofs.Grids.{settled, leg-sized, calls-sized, puts-sized}
 use Rattle.std.proofs.Common.{rules}
@@ -10,8 +10,8 @@ use Rattle.brackets.proofs.Laws.{was_given, was_refused, refused_after}
 use Rattle.spreads.specs.laws.SpreadSolved.{solved-refused, solved-zeroed}
 use Rattle.spreads.proofs.spreads.spread_from_price.Goals as goal
 
-pub slice_bounds-spread_checks-end : goal.slice_bounds-spread_checks-end
-slice_bounds-spread_checks-end c = let few = c.timed_pillars-count.ensures in sym (length-take-le _ _ (omega arith))
+pub slice_bounds-times-end : goal.slice_bounds-times-end
+slice_bounds-times-end c = let few = c.timed_pillars-count.ensures in sym (length-take-le _ _ (omega arith))
 
 pub spread_checks-checked-requires : goal.spread_checks-checked-requires
 spread_checks-checked-requires c = fronted _ _ _ c.timed_pillars-count.ensures c.pillar_times-table.ensures
@@ -19,9 +19,6 @@ spread_checks-checked-requires c = fronted _ _ _ c.timed_pillars-count.ensures c
 pub returns-in_err-counted : goal.returns-in_err-counted
 returns-in_err-counted c =
     solved-refused _ _ c.spread_checks-checked.ensures _ (was_refused _ c.counted.ensures c.in_err-counted.was) (refused_after _ _ c.counted.ensures c.in_err-counted.was (search rules))
-
-pub slice_bounds-checked_spread-end : goal.slice_bounds-checked_spread-end
-slice_bounds-checked_spread-end c = let few = c.timed_pillars-count.ensures in sym (length-take-le _ _ (omega arith))
 
 pub checked_spread-root-requires : goal.checked_spread-root-requires
 checked_spread-root-requires c =

@@ -1,8 +1,10 @@
 -- `single_row` meets its contract. Assumes nothing.
 use mathlib.Core.Path.{refl, sym, ◌∙◌}
-use Rattle.terms.specs.laws.EntryChecks.{tree-grid, tree-few-pillars}
+use Rattle.floats.specs.Answers.{plus_zero}
+use Rattle.terms.specs.Terms.{with_spread}
+use Rattle.terms.specs.Market.{calls_of, market_of}
+use Rattle.terms.specs.laws.TreeChecks.{tree-grid, tree-few-pillars}
 use Rattle.bondevents.proofs.Grids.{settled, leg-sized, calls-sized, puts-sized}
-use Rattle.spreadtable.specs.laws.Refusing.{terms_of, calls_of_lem}
 use Rattle.spreadtable.proofs.laws.Refusing.{row_unchecked, row-checked}
 use Rattle.treebasedbondpricer.specs.Tree.{room_of}
 use Rattle.spreadtable.proofs.Lanes.{lent_of}
@@ -11,7 +13,7 @@ use Rattle.spreadtable.proofs.checks.single_row.Goals as goal
 pub returns-in_default : goal.returns-in_default
 returns-in_default c =
     let a = c.args in
-    row_unchecked (terms_of a.settlement a.days.now a.kinds.now a.amounts.now a.units (calls_of_lem a.put_starts.now a.put_ends.now a.put_strikes.now) a.yearly a.maximum a.alpha a.times.now a.sigmas.now a.pillars.now a.factors.now) (calls_of_lem a.starts.now a.ends.now a.strikes.now) a.w a.spreads.now (room_of (lent_of a.nodes.now a.probabilities.now a.first.now a.second.now)) c.tree_checks-check.ensures c.in_default.is c.unchecked_row.ensures refl
+    row_unchecked (with_spread (market_of a.market) plus_zero) (calls_of a.calls) a.w a.spreads.now (room_of (lent_of a.nodes.now a.probabilities.now a.first.now a.second.now)) c.tree_checks-check.ensures c.in_default.is c.unchecked_row.ensures refl
 
 pub checked_row-requires : goal.checked_row-requires
 checked_row-requires c =
@@ -34,4 +36,4 @@ checked_row-requires c =
 pub returns : goal.returns
 returns c =
     let a = c.args in
-    row-checked (terms_of a.settlement a.days.now a.kinds.now a.amounts.now a.units (calls_of_lem a.put_starts.now a.put_ends.now a.put_strikes.now) a.yearly a.maximum a.alpha a.times.now a.sigmas.now a.pillars.now a.factors.now) (calls_of_lem a.starts.now a.ends.now a.strikes.now) a.w a.spreads.now (room_of (lent_of a.nodes.now a.probabilities.now a.first.now a.second.now)) c.tree_checks-check.ensures c.in-Ok.is c.checked_row.ensures
+    row-checked (with_spread (market_of a.market) plus_zero) (calls_of a.calls) a.w a.spreads.now (room_of (lent_of a.nodes.now a.probabilities.now a.first.now a.second.now)) c.tree_checks-check.ensures c.in-Ok.is c.checked_row.ensures

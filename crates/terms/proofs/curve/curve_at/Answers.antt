@@ -1,7 +1,7 @@
 -- `curve_at` meets its contract: in the loop, the time is not before pillar i, and what is left of the curve from there on is the whole. Assumes nothing.
 use Rattle.std.proofs.Common.{arith, refl, ◌≡◌, ◌-◌, ◌+◌, ◌<◌, sym, ap, ◌∙◌, ℕ, length}
 use Rattle.std.proofs.Math.ListN.{get_or}
-use lib.Ieee.{Float, lt, nan}
+use lib.Ieee.{lt, nan}
 use Rattle.floats.specs.Answers.{plus_zero}
 use Rattle.terms.proofs.Laws.{same_at}
 use Rattle.terms.proofs.Curving.{turn, found, times-end, factors-end, without_times, without_factors}

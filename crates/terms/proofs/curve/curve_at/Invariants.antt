@@ -1,6 +1,4 @@
 -- `curve_at` meets its contract: in the loop, the time is not before pillar i, and what is left of the curve from there on is the whole. Assumes nothing.
-use Prim.Native.Nat.{◌-◌}
-use lib.ListN.{length}
 use Rattle.terms.proofs.Curving.{Curving}
 use Rattle.terms.proofs.curve.curve_at.Given as goal
 

@@ -1,6 +1,4 @@
 -- `pillar_times` meets its contract: in the loop, the times before i are the days'. Assumes nothing.
-use Prim.Native.Nat.{◌-◌}
-use lib.ListN.{length}
 use Rattle.terms.specs.Times.{time_from}
 use Rattle.terms.proofs.Timing.{Timed}
 use Rattle.terms.proofs.curve.pillar_times.Given as goal

@@ -1,6 +1,5 @@
 -- `alpha_range` meets its contract: the limit in the code is the definition's. Assumes nothing.
 use lib.Ieee.{of_int, of_bits}
-use Rattle.terms.proofs.Laws.{tests}
 use Rattle.terms.proofs.fields.alpha_range.Goals as goal
 
 pub returns : goal.returns

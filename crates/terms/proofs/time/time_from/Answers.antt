@@ -2,7 +2,6 @@
 use mathlib.Core.Path.{refl}
 use lib.Ieee.{of_int}
 use Rattle.terms.specs.Times.{time_from}
-use Rattle.floats.proofs.Laws.{answers}
 use Rattle.terms.proofs.time.time_from.Goals as goal
 
 pub returns : goal.returns

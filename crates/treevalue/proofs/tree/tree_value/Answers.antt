@@ -1,6 +1,6 @@
 -- `tree_value` meets its contract: the checks, the value, and the slices left all zero (`Entered`). Assumes nothing.
 use Rattle.std.proofs.Common.{refl, rules, sym, ◌∙◌}
-use Rattle.terms.specs.laws.EntryChecks.{tree-grid, tree-few-pillars}
+use Rattle.terms.specs.laws.TreeChecks.{tree-grid, tree-few-pillars}
 use Rattle.terms.proofs.Timing.{fronted}
 use Rattle.bondevents.proofs.Grids.{settled, leg-sized, calls-sized, puts-sized}
 use Rattle.treebasedbondpricer.proofs.laws.Entered.{entered-refused, entered-zeroed}

@@ -10,16 +10,7 @@ use Rattle.widths.specs.laws.InPlace.{in_place_begun, in_place_stopped, in_place
 use Rattle.widths.proofs.layer.fill.Goals as goal
 
 pub loop-i-init : goal.loop-i-init
-loop-i-init c = let a = c.args in in_place_begun a.spacing a.decay a.new_spacing a.place a.count a.nodes.now c.requires
-
-pub offset_bounds-nodes-i : goal.offset_bounds-nodes-i
-offset_bounds-nodes-i c = let r = c.loop-i.invariant.room in let k = c.loop-i.invariant.kept in search rules
-
-pub slice_copy_out-node : goal.slice_copy_out-node
-slice_copy_out-node c = let r = c.loop-i.invariant.room in let k = c.loop-i.invariant.kept in search rules
-
-pub shape_of-nodes-in_err-nodes : goal.shape_of-nodes-in_err-nodes
-shape_of-nodes-in_err-nodes c = c.loop-i.invariant.kept
+loop-i-init c = let a = c.args in record { filling = in_place_begun a.spacing a.decay a.new_spacing a.place a.count a.nodes.now c.requires; room = c.requires }
 
 pub returns-in_err-nodes : goal.returns-in_err-nodes
 returns-in_err-nodes c =
@@ -27,15 +18,9 @@ returns-in_err-nodes c =
     let l = c.loop-i in
     let x : c.from_residual.result ≡ Err c.in_err-nodes.field-0.0 = search rules in
     rw x
-    (in_place_stopped a.spacing a.decay a.new_spacing a.place a.count a.nodes.now l.nodes l.i l.invariant c.middle_of.result c.loop-i-test.true
+    (in_place_stopped a.spacing a.decay a.new_spacing a.place a.count a.nodes.now l.nodes l.i l.invariant.filling c.middle_of.result c.loop-i-test.true
     (rw (to_z-of_z {w = w32} (record { sfits = c.node-1.given })) at c.middle_of.ensures)
     c.in_err-nodes.was)
-
-pub offset_bounds-nodes-i-in-loop-i : goal.offset_bounds-nodes-i-in-loop-i
-offset_bounds-nodes-i-in-loop-i c = let r = c.loop-i.invariant.room in let k = c.loop-i.invariant.kept in search rules
-
-pub bounds-nodes-i : goal.bounds-nodes-i
-bounds-nodes-i c = let r = c.loop-i.invariant.room in let k = c.loop-i.invariant.kept in let t = c.loop-i-test.true in omega arith
 
 pub loop-i-preserved : goal.loop-i-preserved
 loop-i-preserved c =
@@ -44,14 +29,11 @@ loop-i-preserved c =
     let e = rw (to_z-of_z {w = w32} (record { sfits = c.node-1.given })) at c.middle_of.ensures in
     let m = c.middle_of.result in
     let z = c.in_ok-nodes.field-0 in
-    let w = in_place_held a.spacing a.decay a.new_spacing a.place a.count a.nodes.now l.nodes l.i l.invariant m z e c.in_ok-nodes.was in
-    rw (back-numbered (within-numbered w))
-    (in_place_one a.spacing a.decay a.new_spacing a.place a.count a.nodes.now l.nodes l.i l.invariant m z c.loop-i-test.true e c.in_ok-nodes.was)
-
-pub shape_of-nodes : goal.shape_of-nodes
-shape_of-nodes c = c.loop-i.invariant.kept
+    let w = in_place_held a.spacing a.decay a.new_spacing a.place a.count a.nodes.now l.nodes l.i l.invariant.filling m z e c.in_ok-nodes.was in
+    let g = in_place_one a.spacing a.decay a.new_spacing a.place a.count a.nodes.now l.nodes l.i l.invariant.filling m z c.loop-i-test.true e c.in_ok-nodes.was in
+    rw (back-numbered (within-numbered w)) (record { filling = g; room = omega (arith, g.room, g.kept) })
 
 pub returns : goal.returns
 returns c =
     let a = c.args in
-    in_place_all a.spacing a.decay a.new_spacing a.place a.count a.nodes.now c.loop-i.nodes c.loop-i.i c.loop-i.invariant c.loop-i-test.false
+    in_place_all a.spacing a.decay a.new_spacing a.place a.count a.nodes.now c.loop-i.nodes c.loop-i.i c.loop-i.invariant.filling c.loop-i-test.false

@@ -1,14 +1,10 @@
 -- `spread` meets its contract: middle by middle, with the layer in front as it was. Assumes nothing.
-use borrow.Author.Rules.{rules}
 use native.Mathlib.Omega.{arith}
 use Rattle.lattice.specs.laws.Bounds.{within-numbered}
 use Rattle.widths.specs.laws.CountingNext.{first_held}
 use Rattle.widths.specs.laws.Spreading.{spreading_begun, spread-held, spread-long, spread-room, spreading_one, spreading_all}
 use Rattle.lattice.proofs.Signed.{back-numbered}
 use Rattle.widths.proofs.layer.spread.Goals as goal
-
-pub slice_copy_out-first : goal.slice_copy_out-first
-slice_copy_out-first c = let p = c.requires in omega (arith, p.0, p.1)
 
 pub nothing_below-r-requires : goal.nothing_below-r-requires
 nothing_below-r-requires c =
@@ -18,28 +14,24 @@ nothing_below-r-requires c =
 pub loop-i-init : goal.loop-i-init
 loop-i-init c =
     let w = first_held c.args.nodes.now c.args.count c.requires.0 (let p = c.requires in omega (arith, p.1)) c.requires.2 in
-    rw (c.nothing_below-r.ensures, back-numbered (within-numbered w)) (spreading_begun c.args.nodes.now c.args.count c.requires.2 c.requires.1)
-
-pub offset_bounds-nodes-i : goal.offset_bounds-nodes-i
-offset_bounds-nodes-i c = let h = spread-long c.args.nodes.now c.args.count c.loop-i.r c.loop-i.i c.loop-i.nodes c.loop-i.invariant in search rules
-
-pub slice_copy_out-middle : goal.slice_copy_out-middle
-slice_copy_out-middle c = let h = spread-long c.args.nodes.now c.args.count c.loop-i.r c.loop-i.i c.loop-i.nodes c.loop-i.invariant in search rules
+    let b = spreading_begun c.args.nodes.now c.args.count c.requires.2 c.requires.1 in
+    rw (c.nothing_below-r.ensures, back-numbered (within-numbered w)) (record { spreading = b; room = spread-long c.args.nodes.now c.args.count _ 0 c.args.nodes.now b })
 
 pub push_three-r-requires : goal.push_three-r-requires
 push_three-r-requires c =
     let t = c.loop-i-test.true in
-    let w = spread-held c.args.nodes.now c.args.count c.loop-i.r c.loop-i.i c.loop-i.nodes c.loop-i.invariant t in
-    rw (back-numbered (within-numbered w)) (spread-room c.args.nodes.now c.args.count c.loop-i.r c.loop-i.i c.loop-i.nodes c.loop-i.invariant t, w)
+    let w = spread-held c.args.nodes.now c.args.count c.loop-i.r c.loop-i.i c.loop-i.nodes c.loop-i.invariant.spreading t in
+    rw (back-numbered (within-numbered w)) (spread-room c.args.nodes.now c.args.count c.loop-i.r c.loop-i.i c.loop-i.nodes c.loop-i.invariant.spreading t, w)
 
 pub loop-i-preserved : goal.loop-i-preserved
 loop-i-preserved c =
     let t = c.loop-i-test.true in
-    let w = spread-held c.args.nodes.now c.args.count c.loop-i.r c.loop-i.i c.loop-i.nodes c.loop-i.invariant t in
-    rw (c.push_three-r.ensures.reach, c.push_three-r.ensures.slice, back-numbered (within-numbered w)) (spreading_one c.args.nodes.now c.args.count c.loop-i.r c.loop-i.i c.loop-i.nodes c.loop-i.invariant t)
+    let w = spread-held c.args.nodes.now c.args.count c.loop-i.r c.loop-i.i c.loop-i.nodes c.loop-i.invariant.spreading t in
+    let b = spreading_one c.args.nodes.now c.args.count c.loop-i.r c.loop-i.i c.loop-i.nodes c.loop-i.invariant.spreading t in
+    rw (c.push_three-r.ensures.reach, c.push_three-r.ensures.slice, back-numbered (within-numbered w)) (record { spreading = b; room = spread-long c.args.nodes.now c.args.count _ _ _ b })
 
 pub shape_of-nodes : goal.shape_of-nodes
-shape_of-nodes c = c.loop-i.invariant.long
+shape_of-nodes c = c.loop-i.invariant.spreading.long
 
 pub returns : goal.returns
-returns c = spreading_all c.args.nodes.now c.args.count c.loop-i.r c.loop-i.i c.loop-i.nodes c.loop-i.invariant c.loop-i-test.false
+returns c = spreading_all c.args.nodes.now c.args.count c.loop-i.r c.loop-i.i c.loop-i.nodes c.loop-i.invariant.spreading c.loop-i-test.false

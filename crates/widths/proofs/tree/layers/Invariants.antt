@@ -1,13 +1,7 @@
 -- `layers` meets its contract: the invariant is that the layers from the i-th on, with the sums so far, give the whole. Assumes nothing.
-use Prim.Native.Nat.{◌-◌}
-use lib.ListN.{length}
 use Rattle.widths.specs.laws.Summing.{Summing}
 use Rattle.widths.proofs.tree.layers.Given as goal
 
 abbrev pub invariant-loop-i : goal.invariant-loop-i
 invariant-loop-i l =
-    Summing l.decay l.first l.variances l.initial.nodes l.nodes l.spacing l.count l.total l.widest l.i
-
-abbrev pub decreases-loop-i : goal.decreases-loop-i
-decreases-loop-i l =
-    length l.variances - l.i
+    Summing l.decay l.first l.variances l.initial.nodes l.nodes l.layer.spacing l.layer.count l.total l.widest l.i

@@ -15,9 +15,6 @@ layers-requires c =
     let h = c.if-nodes-lt1.false in
     (p.0, p.1, p.2, rw (length-set l 0 (pos 0)) h, root-set l h)
 
-pub shape_of-nodes : goal.shape_of-nodes
-shape_of-nodes c = c.layers.auto.nodes ∙ length-set c.args.nodes.now 0 (pos 0)
-
 pub returns : goal.returns
 returns c =
     let a = c.args in

@@ -11,18 +11,18 @@ pub returns-in_err-fill : goal.returns-in_err-fill
 returns-in_err-fill c =
     let a = c.args in
     let x : c.from_residual.result ≡ Err c.in_err-fill.field-0.0 = search rules in
-    rw x (widened-stopped a.spacing a.decay a.new_spacing a.step a.count a.nodes.now _ (rw c.in_err-fill.was at c.fill.ensures))
+    rw x (widened-stopped a.layer.spacing a.decay a.new_spacing a.step a.layer.count a.nodes.now _ (rw c.in_err-fill.was at c.fill.ensures))
 
 pub place_next-requires : goal.place_next-requires
 place_next-requires c =
     let a = c.args in
     let p = c.requires in
-    let m = middled a.spacing a.decay a.new_spacing a.step a.count a.nodes.now _ p.0 p.1 (rw c.in_ok-fill.was at c.fill.ensures) in
+    let m = middled a.layer.spacing a.decay a.new_spacing a.step a.layer.count a.nodes.now _ p.0 p.1 (rw c.in_ok-fill.was at c.fill.ensures) in
     (m.room, m.known, p.2)
 
 pub returns : goal.returns
 returns c =
     let a = c.args in
     let p = c.requires in
-    let m = middled a.spacing a.decay a.new_spacing a.step a.count a.nodes.now _ p.0 p.1 (rw c.in_ok-fill.was at c.fill.ensures) in
-    widened_by a.spacing a.decay a.new_spacing a.step a.count a.nodes.now _ m c.place_next.ensures
+    let m = middled a.layer.spacing a.decay a.new_spacing a.step a.layer.count a.nodes.now _ p.0 p.1 (rw c.in_ok-fill.was at c.fill.ensures) in
+    widened_by a.layer.spacing a.decay a.new_spacing a.step a.layer.count a.nodes.now _ m c.place_next.ensures

@@ -1,0 +1,15 @@
+-- `bondevents::marks::side_mark` meets its contract: the side's price, and whether there is one. Assumes nothing.
+use mathlib.Core.Path.{◌≡◌, refl, ap, ◌∙◌}
+use mathlib.Core.Bool.{Bool, true, false, cond}
+use Rattle.bondevents.specs.Exercises.{marked}
+use Rattle.bondevents.specs.Parts.{side_mark}
+use mir.Val.{bool_byte}
+use Rattle.bondevents.proofs.marks.side_mark.Goals as goal
+
+byte_is : (b : Bool) → bool_byte b ≡ cond b 1 0
+byte_is true = refl
+byte_is false = refl
+
+pub returns : goal.returns
+unfolding side_mark
+returns c = byte_is c.is_some.result ∙ ap (λ (b : Bool). cond b 1 0) (c.is_some.ensures ∙ ap marked c.side_of.ensures)

@@ -1,0 +1,19 @@
+-- `book_checks` meets its contract: the size, the desks, then the bonds. Assumes nothing.
+use Rattle.std.proofs.Common.{rules, ap, ◌∙◌}
+use Rattle.terms.specs.Checks.{single, outside}
+use Rattle.bookchecks.specs.Checks.{at_bond}
+use Rattle.bookchecks.proofs.Books.{size-refused, desk-refused, bonds-checked}
+use Rattle.bookchecks.proofs.checks.book_checks.Goals as goal
+use Rattle.floats.specs.declared.Reason.TheVariants as reason
+
+pub returns-in_err-at_bond : goal.returns-in_err-at_bond
+returns-in_err-at_bond c =
+    search rules ∙ size-refused _ (c.at_bond.ensures ∙ ap (at_bond 0) (c.single.ensures ∙ ap (single reason.BookSize 0) (c.out_of.ensures ∙ ap (outside 1 32) c.size.ensures))) c.in_err-at_bond.was
+
+pub returns-in_err-desk_checks : goal.returns-in_err-desk_checks
+returns-in_err-desk_checks c =
+    search rules ∙ desk-refused _ (c.at_bond.ensures ∙ ap (at_bond 0) (c.single.ensures ∙ ap (single reason.BookSize 0) (c.out_of.ensures ∙ ap (outside 1 32) c.size.ensures))) c.in_ok-at_bond.was c.desk_checks.ensures c.in_err-desk_checks.was
+
+pub returns : goal.returns
+returns c =
+    bonds-checked _ (c.at_bond.ensures ∙ ap (at_bond 0) (c.single.ensures ∙ ap (single reason.BookSize 0) (c.out_of.ensures ∙ ap (outside 1 32) c.size.ensures))) c.in_ok-at_bond.was c.desk_checks.ensures c.in_ok-desk_checks.was c.all_checks.ensures

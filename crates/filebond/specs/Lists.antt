@@ -1,0 +1,28 @@
+-- Definitions only. The bond that the room for a file's lists holds: of each list so many entries, and the single fields.
+use Rattle.std.specs.Prelude.{take}
+use Rattle.terms.specs.Terms.{CallSchedule, Market, no_entries}
+use Rattle.filebond.specs.declared.lists.Lists.{Lists}
+
+abbrev pub calls_held : Lists → CallSchedule
+calls_held l =
+    record {
+      starts = take l.calls l.starts;
+      ends = take l.calls l.ends;
+      strikes = take l.calls l.strikes;
+    }
+
+abbrev pub market_held : Lists → Market
+market_held l =
+    record {
+      settlement = record { day = l.fields.settlement; code = 0 };
+      bond =
+          record {
+            leg = record { days = take l.flows l.days; kinds = take l.flows l.kinds; amounts = take l.flows l.amounts };
+            units = l.fields.units;
+            puts = no_entries;
+          };
+      controls = record { per_year = l.fields.yearly; maximum = l.fields.maximum };
+      model = record { alpha = l.fields.alpha; sigma = record { times = take l.levels l.times; sigmas = take l.levels l.sigmas } };
+      spread = l.fields.spread;
+      pillars = record { days = take l.points l.pillars; factors = take l.points l.factors };
+    }

@@ -1,7 +1,0 @@
--- `gutirapeo_exp` hands over the answer of `exp`. Assumes nothing.
-use borrow.Author.Rules.{rules}
-use Rattle.host.proofs.Equal.{handed_as}
-use Rattle.host.proofs.gutirapeo_exp.Goals as goal
-
-pub returns : goal.returns
-returns c = search (handed_as, rules)

@@ -1,9 +1,0 @@
--- `replay::replayed` is safe and ends: nothing has to hold from turn to turn. Assumes nothing.
-
-use Rattle.replay.proofs.replayed.Given as goal
-
-abbrev pub invariant-loop-left : goal.invariant-loop-left
-invariant-loop-left l = Unit {0}
-
-abbrev pub decreases-loop-left : goal.decreases-loop-left
-decreases-loop-left l = l.left

@@ -1,9 +1,0 @@
--- `replay::trees::all_numbers` is safe and ends: nothing has to hold from turn to turn. Assumes nothing.
-use Rattle.std.proofs.Common.{◌-◌, length}
-use Rattle.replay.proofs.trees.all_numbers.Given as goal
-
-abbrev pub invariant-loop-i : goal.invariant-loop-i
-invariant-loop-i l = Unit {0}
-
-abbrev pub decreases-loop-i : goal.decreases-loop-i
-decreases-loop-i l = length l.xs - l.i
