@@ -14,14 +14,14 @@ use floats::Refusal;
 use floats::finite::{given, tested};
 
 // A number by its parts, and +0 for 0.
-fn unless_zero(x: Parts<u128>) -> f64
-    requires { (64 ≤ x.place) × (x.place ≤ 9000) }
-    ensures { result ≡ rounded_sum x.neg (x.digits * 2 ^ x.place) x.neg 0 (2 ^ scale) }
+fn unless_zero(neg: bool, digits: u128, place: u32) -> f64
+    requires { (64 ≤ place) × (place ≤ 9000) }
+    ensures { result ≡ rounded_sum neg (digits * 2 ^ place) neg 0 (2 ^ scale) }
 {
-    if x.digits == 0 {
+    if digits == 0 {
         0.0
     } else {
-        pack_wide(x.neg, x.digits, x.place)
+        pack_wide(neg, digits, place)
     }
 }
 
@@ -33,20 +33,11 @@ fn combine(x: Parts<u128>, y: Parts<u128>) -> f64
     ensures { result ≡ rounded_sum x.neg (x.digits * 2 ^ x.place) y.neg (y.digits * 2 ^ y.place) (2 ^ scale) }
 {
     if x.neg == y.neg {
-        unless_zero(Parts {
-            digits: x.digits + y.digits,
-            ..x
-        })
+        unless_zero(x.neg, x.digits + y.digits, x.place)
     } else if x.digits < y.digits {
-        unless_zero(Parts {
-            digits: y.digits - x.digits,
-            ..y
-        })
+        unless_zero(y.neg, y.digits - x.digits, y.place)
     } else {
-        unless_zero(Parts {
-            digits: x.digits - y.digits,
-            ..x
-        })
+        unless_zero(x.neg, x.digits - y.digits, x.place)
     }
 }
 
@@ -98,9 +89,9 @@ fn fused(x: f64, y: f64, z: f64) -> f64
         place: c.place + 1136,
     };
     if both.digits == 0 {
-        unless_zero(addend)
+        unless_zero(addend.neg, addend.digits, addend.place)
     } else if addend.digits == 0 {
-        unless_zero(both)
+        unless_zero(both.neg, both.digits, both.place)
     } else {
         join(both, addend)
     }

@@ -105,6 +105,7 @@ pub fn pack_wide(neg: bool, w: u128, e: u32) -> f64
     if zeros >= 64 {
         return pack(neg, w as u64, e);
     }
-    let places = 64 - zeros;
-    pack_normal(neg, shift(w, places) as u64, e + places)
+    let top = w << zeros;
+    let digits = sticky((top >> 64) as u64, (top % 18446744073709551616) as u64);
+    pack_normal(neg, digits, e + (64 - zeros))
 }

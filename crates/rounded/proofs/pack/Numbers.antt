@@ -2,7 +2,7 @@
 use mathlib.Core.Path.{◌≡◌, refl, sym, ap, ◌∙◌, subst}
 use mathlib.Core.Logic.{◌⊎◌, inl, inr}
 use Prim.Native.Nat.{ℕ, zero, suc, ◌+◌, ◌-◌, ◌*◌, ◌/◌, ◌%◌, ◌^◌, ◌≤◌, ◌<◌}
-use native.Mathlib.Nat.{le_of_mul-le-mul_right, lt_of_lt_of_le, lt_of_le_of_lt, lt_of_mul-lt-mul_right, le-add_right, add-zero, add-mul, div-div-eq-div-mul, div-le_self, one-mul, le_trans, le_of_eq, mul-le-mul_right, div-add-mod', mod-lt, pow-succ'}
+use native.Mathlib.Nat.{le_antisymm, mul_assoc, mod-eq_of_lt, mul-lt-mul_of_pos_right, le_of_mul-le-mul_right, lt_of_lt_of_le, lt_of_le_of_lt, lt_of_mul-lt-mul_right, le-add_right, add-zero, add-mul, div-div-eq-div-mul, div-le_self, one-mul, le_trans, le_of_eq, mul-le-mul_right, div-add-mod', mod-lt, pow-succ'}
 use native.Mathlib.Omega.{arith}
 use lib.Count.{count_leading_zeros, leading_top}
 use lib.Pow.{pow_mono, pow-add, pow_pos, shl_exact, shl_lt}
@@ -148,3 +148,36 @@ module _ (w r : ℕ) (h : w < 340282366920938463463374607431768211456) (k : coun
       let lo : 9223372036854775808 * 2 ^ p ≤ w = le_trans (le_of_eq (sym (pow-add 2 63 p) ∙ ap (λ (z : ℕ). 2 ^ z) (omega arith))) t.2 in
       let hi : w < word * 2 ^ p = lt_of_lt_of_le t.3 (le_of_eq (ap (λ (z : ℕ). 2 ^ z) (omega arith) ∙ pow-add 2 64 p)) in
       (odd_full w (2 ^ p) r (pow_pos p) lo hi o, odd_fits w (2 ^ p) r (pow_pos p) lo hi o)
+
+-- ---- the same digits by a number that is moved up to the top of two words
+
+-- What is rounded to odd may be scaled.
+unscaled : (X D k r : ℕ) → 0 < k → Odd (X * k) (D * k) r → Odd X D r
+unscaled X D k r p (exact e) = exact (le_antisymm (le_of_mul-le-mul_right (le_of_eq (e ∙ sym (mul_assoc r D k))) p) (le_of_mul-le-mul_right (le_of_eq (mul_assoc r D k ∙ sym e)) p))
+unscaled X D k r p (near o u l) =
+    near o
+    (lt_of_mul-lt-mul_right k (lt_of_lt_of_le u (le_of_eq (ap (λ (z : ℕ). z + D * k) (sym (mul_assoc r D k)) ∙ sym (add-mul (r * D) D k)))))
+    (lt_of_mul-lt-mul_right k (lt_of_le_of_lt (le_of_eq (mul_assoc r D k)) (lt_of_lt_of_le l (le_of_eq (sym (add-mul X D k))))))
+
+module _ (w : ℕ) (h : w < 340282366920938463463374607431768211456) (k : count_leading_zeros 128 w < 64) where
+  abbrev zeros : ℕ
+  zeros = count_leading_zeros 128 w
+
+  -- Its digits don't leave the two words.
+  pub on_top : w * 2 ^ zeros < 340282366920938463463374607431768211456
+  on_top =
+      let t = leading_top 128 w (some_digit w k) h in
+      let e = t.1 in
+      let all : suc t.0 + zeros ≡ 128 = omega arith in
+      lt_of_lt_of_le (mul-lt-mul_of_pos_right t.3 (pow_pos zeros)) (le_of_eq (sym (pow-add 2 (suc t.0) zeros) ∙ ap (λ (z : ℕ). 2 ^ z) all))
+
+  pub top-odd : (r : ℕ) → Stuck (w * 2 ^ zeros / word) (w * 2 ^ zeros % word) r → Odd w (2 ^ (64 - zeros)) r
+  top-odd r s =
+      let all : 64 - zeros + zeros ≡ 64 = omega (arith, k) in
+      let e : 2 ^ (64 - zeros) * 2 ^ zeros ≡ word = sym (pow-add 2 (64 - zeros) zeros) ∙ ap (λ (z : ℕ). 2 ^ z) all in
+      unscaled w (2 ^ (64 - zeros)) (2 ^ zeros) r (pow_pos zeros)
+      (subst (λ (D : ℕ). Odd (w * 2 ^ zeros) D r) (sym e) (odd_stuck (w * 2 ^ zeros) word (w * 2 ^ zeros / word) (w * 2 ^ zeros % word) r (sym (div-add-mod' (w * 2 ^ zeros) word)) (mod-lt (w * 2 ^ zeros) (omega arith)) s))
+
+  -- The same by the words that a move up leaves.
+  pub top-rounded : (r : ℕ) → Stuck (w * 2 ^ zeros % 340282366920938463463374607431768211456 / word) (w * 2 ^ zeros % 340282366920938463463374607431768211456 % word) r → Odd w (2 ^ (64 - zeros)) r
+  top-rounded r s = top-odd r (subst (λ (z : ℕ). Stuck (z / word) (z % word) r) (mod-eq_of_lt on_top) s)

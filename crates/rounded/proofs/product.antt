@@ -1,0 +1,2 @@
+-- What the proof of `product` uses: laws on plain numbers.
+mod Columns
