@@ -1,8 +1,20 @@
--- Definitions only. What is stored of a file's entries.
-use Rattle.std.specs.Prelude.{ℕ, min, ◌≡◌, List, ◌++◌, map, length, take, drop, Float}
+-- Definitions only. What is found of a file's entries, and what is stored of them.
+use Rattle.std.specs.Prelude.{ℕ, ◌+◌, ◌≤◌, min, ◌≡◌, Option, MatchOption, List, [], ◌∷◌, ◌++◌, map, length, take, drop, Float}
+use Rattle.bondline.specs.Forms.{Said}
 use Rattle.bondfile.specs.declared.Fields.{Fields}
+use Rattle.bondfile.specs.declared.Found.{Found}
 use Rattle.bondfile.specs.Entries.{first_whole, second_whole, flow_kind, first_number, second_number}
-use Rattle.bondfile.specs.File.{Numbered, entries_of, of_kind, field_of}
+use Rattle.bondfile.specs.File.{Numbered, entries_of, entries_from, of_kind, field_of}
+
+-- An entry that was found is the first of its kind, and the others are those of the lines behind it.
+pub record First (text : List ℕ) (kind at n : ℕ) (e : Said) (line next : ℕ) : Type 0 where
+  pub entries : of_kind kind (entries_from text at n) ≡ record { line = line; entry = e } ∷ of_kind kind (entries_from text next (line + 1))
+  pub order : line ≤ next
+  pub within : next ≤ length text
+
+-- The next entry of a kind and where the line after it begins, or nothing where there is none.
+abbrev pub NextOf : List ℕ → ℕ → ℕ → ℕ → Option (Found × ℕ) → Type 0
+NextOf text kind at n r = MatchOption r (of_kind kind (entries_from text at n) ≡ []) (λ f. First text kind at n f.0.entry f.0.line f.1)
 
 -- What a slice holds once the entries are stored: as many of the first as it has room for, and behind them what it held.
 pub record Stored {A : Type 0} (part : Numbered → A) (es : List Numbered) (before after : List A) (count : ℕ) : Type 0 where

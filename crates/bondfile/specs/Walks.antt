@@ -1,10 +1,9 @@
 -- Definitions only. What is left of a file on the way through its lines.
-use Rattle.std.specs.Prelude.{ℕ, ◌≡◌, Ok, List}
+use Rattle.std.specs.Prelude.{ℕ, ◌≡◌, List}
 use Rattle.bondfile.specs.declared.Found.{Found}
 use Rattle.bondfile.specs.declared.file.Lines.{Lines}
 use Rattle.bondfile.specs.declared.file.OfKind.{OfKind}
 use Rattle.bondline.specs.Forms.{Said}
-use Rattle.bondfile.specs.Entries.{number_of}
 use Rattle.bondfile.specs.File.{Numbered, entries_from, of_kind}
 
 abbrev pub lines_left : Lines → List Numbered
@@ -14,10 +13,10 @@ abbrev pub numbered_line : ℕ × Said → Numbered
 numbered_line p = record { line = p.0; entry = p.1 }
 
 abbrev pub found_left : OfKind → List Numbered
-found_left s = of_kind (number_of s.kind) (lines_left s.lines)
+found_left s = of_kind s.kind (entries_from s.text.now s.at s.line)
 
 abbrev pub numbered_found : Found → Numbered
-numbered_found f = record { line = f.line; entry = Ok f.entry }
+numbered_found f = record { line = f.line; entry = f.entry }
 
 -- That a closure's results are a part of each entry.
 abbrev pub Reads : {F T : Type 0} → (F → Found → T → Type 0) → F → (Numbered → T) → Type 0

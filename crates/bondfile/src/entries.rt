@@ -1,8 +1,29 @@
 // The kind of an entry, and its numbers.
-ghost use Rattle.std.specs.Prelude.{◌≡◌, Ok};
+ghost use Rattle.std.specs.Prelude.{◌≡◌, ◌<◌, Ok};
 ghost use Rattle.bondfile.specs.Entries.{number_of, kind_of, first_whole, second_whole, flow_kind, first_number, second_number};
 
-use bondline::{Entry, Kind};
+use bondline::{Entry, Fault, Kind};
+
+// The number of a refused line's kind.
+const REFUSED: usize = 12;
+
+// The number of a kind.
+pub fn number_of(kind: Kind) -> usize
+    ensures number { result ≡ number_of kind }
+    ensures within { result < 12 }
+{
+    kind as usize
+}
+
+// The number of the kind of what a line says.
+pub fn kind_number(said: Result<Entry, Fault>) -> usize
+    ensures { result ≡ kind_of said }
+{
+    match said {
+        Ok(entry) => number_of(kind_of(entry)),
+        Err(_) => REFUSED,
+    }
+}
 
 pub fn kind_of(e: Entry) -> Kind
     ensures { number_of result ≡ kind_of (Ok e) }
@@ -23,67 +44,71 @@ pub fn kind_of(e: Entry) -> Kind
     }
 }
 
-// The first whole number of an entry.
-pub fn first_whole(e: Entry) -> u32
-    ensures { result ≡ first_whole (Ok e) }
+// The first whole number of what a line says, 0 where it has none.
+pub fn first_whole(said: Result<Entry, Fault>) -> u32
+    ensures { result ≡ first_whole said }
 {
-    match e {
-        Entry::Settlement(n)
-        | Entry::Steps(n, _)
-        | Entry::Cashflow(n, _, _)
-        | Entry::Call(n, _, _)
-        | Entry::Pillar(n, _)
-        | Entry::Yield(_, n, _) => n,
+    match said {
+        Ok(
+            Entry::Settlement(n)
+            | Entry::Steps(n, _)
+            | Entry::Cashflow(n, _, _)
+            | Entry::Call(n, _, _)
+            | Entry::Pillar(n, _)
+            | Entry::Yield(_, n, _),
+        ) => n,
         _ => 0,
     }
 }
 
-// The second whole number of an entry.
-pub fn second_whole(e: Entry) -> u32
-    ensures { result ≡ second_whole (Ok e) }
+// The second whole number.
+pub fn second_whole(said: Result<Entry, Fault>) -> u32
+    ensures { result ≡ second_whole said }
 {
-    match e {
-        Entry::Steps(_, n) => n,
-        Entry::Call(_, n, _) => n,
-        Entry::Yield(_, _, n) => n,
+    match said {
+        Ok(Entry::Steps(_, n)) => n,
+        Ok(Entry::Call(_, n, _)) => n,
+        Ok(Entry::Yield(_, _, n)) => n,
         _ => 0,
     }
 }
 
 // A cashflow's kind.
-pub fn flow_kind(e: Entry) -> u8
-    ensures { result ≡ flow_kind (Ok e) }
+pub fn flow_kind(said: Result<Entry, Fault>) -> u8
+    ensures { result ≡ flow_kind said }
 {
-    match e {
-        Entry::Cashflow(_, kind, _) => kind,
+    match said {
+        Ok(Entry::Cashflow(_, kind, _)) => kind,
         _ => 0,
     }
 }
 
-// The first number of an entry.
-pub fn first_number(e: Entry) -> f64
-    ensures { result ≡ first_number (Ok e) }
+// The first number.
+pub fn first_number(said: Result<Entry, Fault>) -> f64
+    ensures { result ≡ first_number said }
 {
-    match e {
-        Entry::Units(x)
-        | Entry::Alpha(x)
-        | Entry::Spread(x)
-        | Entry::Cashflow(_, _, x)
-        | Entry::Call(_, _, x)
-        | Entry::Sigma(x, _)
-        | Entry::Pillar(_, x)
-        | Entry::Yield(x, _, _)
-        | Entry::Quote(x) => x,
+    match said {
+        Ok(
+            Entry::Units(x)
+            | Entry::Alpha(x)
+            | Entry::Spread(x)
+            | Entry::Cashflow(_, _, x)
+            | Entry::Call(_, _, x)
+            | Entry::Sigma(x, _)
+            | Entry::Pillar(_, x)
+            | Entry::Yield(x, _, _)
+            | Entry::Quote(x),
+        ) => x,
         _ => 0.0,
     }
 }
 
-// The second number of an entry.
-pub fn second_number(e: Entry) -> f64
-    ensures { result ≡ second_number (Ok e) }
+// The second number.
+pub fn second_number(said: Result<Entry, Fault>) -> f64
+    ensures { result ≡ second_number said }
 {
-    match e {
-        Entry::Sigma(_, y) => y,
+    match said {
+        Ok(Entry::Sigma(_, y)) => y,
         _ => 0.0,
     }
 }

@@ -9,11 +9,11 @@ pub mod lists;
 pub mod singles;
 pub mod stored;
 
-// An entry and its line.
+// A line and what it says.
 #[derive(Clone, Copy, Debug)]
 pub struct Found {
     pub line: usize,
-    pub entry: Entry,
+    pub entry: Result<Entry, Fault>,
 }
 
 // The first thing wrong with a file: more than 65,536 bytes; a line and its fault; a line whose kind may come only once, or is beyond its limit, and the kind;

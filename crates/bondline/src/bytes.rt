@@ -24,7 +24,10 @@ fn run_end<F: Fn(u8) -> bool>(text: &[u8], from: usize, passes: F) -> usize
     ensures onward { from ≤ result }
     ensures within { from ≤ length text.now → result ≤ length text.now }
 {
-    from + text.iter().skip(from).take_while(|b| passes(**b)).count()
+    if text.len() < from {
+        return from;
+    }
+    from + text[from..].iter().take_while(|b| passes(**b)).count()
 }
 
 // The first index from one on whose byte is no space.

@@ -3,7 +3,7 @@
 ghost use Rattle.std.specs.Prelude.{◌≡◌};
 ghost use Rattle.terms.specs.Market.{calls_of, market_of};
 ghost use Rattle.filebond.specs.Bond as said;
-ghost use Rattle.filebond.specs.Lists.{calls_held, market_held};
+ghost use Rattle.filebond.specs.Lists.{calls_held, market_held, with_levels, with_points, flows_of};
 
 use crate::parts::first;
 use bondfile::Fields;
@@ -32,9 +32,9 @@ pub struct Lists {
 }
 
 impl Lists {
-    pub fn read(text: &[u8]) -> Lists
-        ensures market { market_held result ≡ said.market_of text.now }
-        ensures calls { calls_held result ≡ said.calls_of text.now }
+    // The single fields and the cashflows; the other lists are empty.
+    pub fn flows(text: &[u8]) -> Lists
+        ensures { market_held result ≡ flows_of text.now }
     {
         let mut held = Lists {
             days: [0; 256],
@@ -61,15 +61,48 @@ impl Lists {
             &mut held.amounts,
             &mut lines,
         );
-        held.calls = calls_of(
+        held
+    }
+
+    pub fn read_calls(&mut self, text: &[u8])
+        ensures calls { calls_held self.new ≡ said.calls_of text.now }
+        ensures market { market_held self.new ≡ market_held self.old }
+    {
+        let mut lines = [0; 64];
+        self.calls = calls_of(
             text,
-            &mut held.starts,
-            &mut held.ends,
-            &mut held.strikes,
+            &mut self.starts,
+            &mut self.ends,
+            &mut self.strikes,
             &mut lines,
         );
-        held.levels = sigmas_of(text, &mut held.times, &mut held.sigmas, &mut lines);
-        held.points = pillars_of(text, &mut held.pillars, &mut held.factors, &mut lines);
+    }
+
+    pub fn read_levels(&mut self, text: &[u8])
+        ensures market { market_held self.new ≡ with_levels (market_held self.old) (said.sigma_of text.now) }
+        ensures calls { calls_held self.new ≡ calls_held self.old }
+    {
+        let mut lines = [0; 64];
+        self.levels = sigmas_of(text, &mut self.times, &mut self.sigmas, &mut lines);
+    }
+
+    pub fn read_points(&mut self, text: &[u8])
+        ensures market { market_held self.new ≡ with_points (market_held self.old) (said.pillars_of text.now) }
+        ensures calls { calls_held self.new ≡ calls_held self.old }
+    {
+        let mut lines = [0; 256];
+        self.points = pillars_of(text, &mut self.pillars, &mut self.factors, &mut lines);
+    }
+
+    // All of them.
+    pub fn read(text: &[u8]) -> Lists
+        ensures market { market_held result ≡ said.market_of text.now }
+        ensures calls { calls_held result ≡ said.calls_of text.now }
+    {
+        let mut held = Lists::flows(text);
+        held.read_calls(text);
+        held.read_levels(text);
+        held.read_points(text);
         held
     }
 

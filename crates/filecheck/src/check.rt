@@ -1,10 +1,9 @@
 // The first thing wrong with a file.
-ghost use Rattle.std.specs.Prelude.{◌≡◌, ◌<◌, Ok};
-ghost use Rattle.bondfile.specs.Entries.{number_of};
+ghost use Rattle.std.specs.Prelude.{◌≡◌, Ok};
 ghost use Rattle.bondfile.specs.Checks.{once, at_most, verdict_of, missing, file_check};
 
 use bondfile::FileError;
-use bondfile::entries::kind_of;
+use bondfile::entries::{kind_of, number_of};
 use bondfile::file::Lines;
 use bondline::{Entry, Kind};
 
@@ -57,14 +56,6 @@ fn verdict(e: Entry, line: usize, count: usize) -> Result<usize, FileError>
     }
 }
 
-// A kind's place among the counts.
-fn place(kind: Kind) -> usize
-    ensures number { result ≡ number_of kind }
-    ensures within { result < 12 }
-{
-    kind as usize
-}
-
 // That no field is missing.
 #[tactic(auto, unfolding(bondfile::specs::Checks::missing))]
 fn all_there(counts: &[usize; KINDS]) -> Result<(), FileError>
@@ -77,7 +68,7 @@ fn all_there(counts: &[usize; KINDS]) -> Result<(), FileError>
         Kind::Alpha,
         Kind::Spread,
     ] {
-        if counts[place(kind)] == 0 {
+        if counts[number_of(kind)] == 0 {
             return Err(FileError::Missing(kind));
         }
     }
@@ -97,7 +88,7 @@ pub fn checked(text: &[u8]) -> Result<(), FileError>
             Ok(entry) => entry,
             Err(fault) => return Err(FileError::Wrong(line, fault)),
         };
-        let kind = place(kind_of(entry));
+        let kind = number_of(kind_of(entry));
         counts[kind] = verdict(entry, line, counts[kind])?;
     }
     all_there(&counts)

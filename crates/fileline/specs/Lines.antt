@@ -1,10 +1,11 @@
 -- Definitions only. The line of a file that a refusal is about.
 use Rattle.std.specs.Prelude.{ℕ, List, map, get_or}
 use Rattle.floats.specs.declared.Refusal.{Refusal}
+use Rattle.floats.specs.Reasons.{reason_number}
 use Rattle.filebond.specs.Bond.{first_of_kind, calls_of, market_of}
 use Rattle.places.specs.declared.Whose.{Whose}
 use Rattle.places.specs.declared.Whose.TheVariants.{Nobody, Steps, Settlement, Units, Alpha, Spread, Cashflow, Call, Sigma, Pillar}
-use Rattle.places.specs.Blame.{blamed}
+use Rattle.places.specs.Blame.{blamed_by}
 
 -- The line of the entry of a kind at a place among the first 256, 0 where there is none.
 unfoldable pub line_at : List ℕ → ℕ → ℕ → ℕ
@@ -24,5 +25,8 @@ line_for text Sigma place = line_at text 8 place
 line_for text Pillar place = line_at text 9 place
 
 -- The line of whoever is blamed.
+abbrev pub line_of_number : List ℕ → ℕ → ℕ → ℕ
+line_of_number text number place = line_for text (blamed_by (market_of text) (calls_of text) number place) place
+
 abbrev pub line_behind : List ℕ → Refusal → ℕ
-line_behind text q = line_for text (blamed (market_of text) (calls_of text) q) q.place
+line_behind text q = line_of_number text (reason_number q.reason) q.place

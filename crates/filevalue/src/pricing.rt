@@ -12,7 +12,8 @@ use floats::Refusal;
 pub fn straight(text: &[u8]) -> Result<f64, Refusal>
     ensures { result ≡ straight_of text.now }
 {
-    let held = Lists::read(text);
+    let mut held = Lists::flows(text);
+    held.read_points(text);
     let market = held.market();
     straight_value(
         market.settlement,
@@ -26,7 +27,7 @@ pub fn straight(text: &[u8]) -> Result<f64, Refusal>
 pub fn yielded(text: &[u8], price: f64, compounding: u32, frequency: u32) -> Result<Root, NoRoot>
     ensures { result ≡ yield_of text.now compounding frequency price }
 {
-    let held = Lists::read(text);
+    let held = Lists::flows(text);
     let market = held.market();
     yield_from_price(
         market.settlement,

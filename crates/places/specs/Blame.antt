@@ -76,10 +76,13 @@ blamed_number m calls place =
     (whose_number place m.bond.leg.amounts calls.strikes m.model.sigma.times m.model.sigma.sigmas)
 
 -- 3 by the days, 4 by the numbers, any other by itself.
+abbrev pub blamed_by : Market → CallSchedule → ℕ → ℕ → Whose
+blamed_by m calls number place =
+    cond (eqb number 3) (blamed_day m calls place)
+    (cond (eqb number 4) (blamed_number m calls place) (whose_order number))
+
 abbrev pub blamed : Market → CallSchedule → Refusal → Whose
-blamed m calls r =
-    cond (eqb (reason_number r.reason) 3) (blamed_day m calls r.place)
-    (cond (eqb (reason_number r.reason) 4) (blamed_number m calls r.place) (whose_order r.reason))
+blamed m calls r = blamed_by m calls (reason_number r.reason) r.place
 
 -- The check of that number that looks there.
 abbrev pub check_of : Market → CallSchedule → ℕ → Whose → Check

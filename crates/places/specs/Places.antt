@@ -1,7 +1,5 @@
 -- Definitions only. Whose entry a refused input is about. Inside a number single fields come first, then cashflows, calls, sigma, pillars; the lists before the one at fault have nothing wrong at all, so nothing at the place either.
-use Rattle.floats.specs.declared.Reason.TheVariants as reason
-use Rattle.floats.specs.declared.Reason.{Reason}
-use Rattle.std.specs.Prelude.{ℕ, Bool, false, cond, ◌||◌, List, length, get_or, ltb, leb, Float}
+use Rattle.std.specs.Prelude.{ℕ, Bool, false, cond, ◌||◌, List, length, get_or, eqb, ltb, leb, Float}
 use Rattle.floats.specs.Answers.{plus_zero}
 use Rattle.terms.specs.Numbers.{float, amount_limit, million}
 use Rattle.terms.specs.Checks.{no_day, falls, beyond, not_above, not_up_to}
@@ -66,14 +64,14 @@ whose_number place amounts strikes times sigmas =
 -- ---- the other numbers
 
 -- 1 is about the steps, 5 a call, 6 a sigma entry, 7, 33 and 35 settlement, 8, 34 and 44 a pillar.
-unfoldable pub whose_order : Reason → Whose
-whose_order reason.Setting = Steps
-whose_order reason.CallOrder = Call
-whose_order reason.SigmaOrder = Sigma
-whose_order reason.NothingPaid = Settlement
-whose_order reason.DayCount = Settlement
-whose_order reason.NoTime = Settlement
-whose_order reason.PillarOrder = Pillar
-whose_order reason.SameTime = Pillar
-whose_order reason.FactorNotPositive = Pillar
-whose_order why = Nobody
+unfoldable pub whose_order : ℕ → Whose
+whose_order number =
+    cond (eqb number 1) Steps
+    (cond (eqb number 5) Call
+    (cond (eqb number 6) Sigma
+    (cond (eqb number 7) Settlement
+    (cond (eqb number 8) Pillar
+    (cond (eqb number 33) Settlement
+    (cond (eqb number 34) Pillar
+    (cond (eqb number 35) Settlement
+    (cond (eqb number 44) Pillar Nobody))))))))

@@ -3,19 +3,18 @@ ghost use Rattle.std.specs.Prelude.{◌≡◌};
 ghost use Rattle.places.specs.Places.{whose_order};
 
 use crate::Whose;
-use floats::Reason;
 
-// Whose it is by the reason alone: 1, 5 to 8, 33 to 35 and 44.
+// Whose it is by the number alone: 1, 5 to 8, 33 to 35 and 44.
 #[tactic(auto, unfolding(crate::specs::Places::whose_order))]
-pub fn whose_order(reason: Reason) -> Whose
-    ensures { result ≡ whose_order reason }
+pub fn whose_order(number: u32) -> Whose
+    ensures { result ≡ whose_order number }
 {
-    match reason {
-        Reason::Setting => Whose::Steps,
-        Reason::CallOrder => Whose::Call,
-        Reason::SigmaOrder => Whose::Sigma,
-        Reason::NothingPaid | Reason::DayCount | Reason::NoTime => Whose::Settlement,
-        Reason::PillarOrder | Reason::SameTime | Reason::FactorNotPositive => Whose::Pillar,
+    match number {
+        1 => Whose::Steps,
+        5 => Whose::Call,
+        6 => Whose::Sigma,
+        7 | 33 | 35 => Whose::Settlement,
+        8 | 34 | 44 => Whose::Pillar,
         _ => Whose::Nobody,
     }
 }

@@ -22,7 +22,9 @@ fn range_of(field: Whose) -> Option<&'static [u8]> {
 
 // Of the bond's terms.
 pub(crate) fn refuse_input(out: Stdout, text: &[u8], q: Refusal) {
-    refuse(out, q, line_behind(text, q));
+    let number = q.reason.number();
+    let place = q.place as usize;
+    refuse(out, q, line_behind(text, number, place));
     if q.reason == Reason::Day {
         print(
             out,
@@ -30,7 +32,7 @@ pub(crate) fn refuse_input(out: Stdout, text: &[u8], q: Refusal) {
         );
     }
     if q.reason == Reason::Number
-        && let Some(line) = range_of(whose(text, q))
+        && let Some(line) = range_of(whose(text, number, place))
     {
         print(out, text_line(line));
     }

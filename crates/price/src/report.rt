@@ -6,6 +6,7 @@ use crate::ranges::{refuse_input, refuse_price};
 use crate::tree::asked;
 use crate::typed::print_name;
 use crate::warnings::warnings;
+use bondfile::entries::number_of;
 use bondfile::singles::first_of;
 use bondline::{Entry, Kind};
 use bondreport::order::{Call, Calls};
@@ -37,7 +38,7 @@ fn calls(out: Stdout, text: &[u8], typed: Calls) {
         print_call(
             out,
             typed.at(i),
-            typed_word(text, line_of(text, Kind::Call, i), 3),
+            typed_word(text, line_of(text, number_of(Kind::Call), i), 3),
         );
     }
 }
@@ -103,12 +104,13 @@ fn calls_part(out: Stdout, text: &[u8]) {
 }
 
 fn yield_part(out: Stdout, text: &[u8], quiet: bool) -> bool {
-    let Entry::Yield(price, compounding, frequency) = first_of(text, Kind::Yield) else {
+    let Ok(Entry::Yield(price, compounding, frequency)) = first_of(text, number_of(Kind::Yield))
+    else {
         return true;
     };
     match yielded(text, price, compounding, frequency) {
         Err(none) => {
-            refuse_price(out, none.refusal, line_of(text, Kind::Yield, 0));
+            refuse_price(out, none.refusal, line_of(text, number_of(Kind::Yield), 0));
             false
         }
         Ok(root) => {
@@ -123,12 +125,12 @@ fn yield_part(out: Stdout, text: &[u8], quiet: bool) -> bool {
 }
 
 fn quote_part(out: Stdout, text: &[u8], quiet: bool) -> bool {
-    let Entry::Quote(price) = first_of(text, Kind::Quote) else {
+    let Ok(Entry::Quote(price)) = first_of(text, number_of(Kind::Quote)) else {
         return true;
     };
     match asked(text, Ask::Spread(price)) {
         Err(q) => {
-            refuse_price(out, q, line_of(text, Kind::Quote, 0));
+            refuse_price(out, q, line_of(text, number_of(Kind::Quote), 0));
             false
         }
         Ok(Reply { found: x, count: n }) => {
@@ -171,9 +173,12 @@ pub(crate) fn report(out: Stdout, text: &[u8], quiet: bool) {
         say_error(out, text, error);
         return;
     }
-    let typed = Lists::read(text);
+    let mut typed = Lists::flows(text);
+    typed.read_levels(text);
+    typed.read_points(text);
     warnings(out, text, typed.market());
     if !quiet {
+        typed.read_calls(text);
         head(out, text, typed.market(), typed.calls());
     }
     let good = priced(out, text, quiet);

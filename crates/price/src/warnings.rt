@@ -1,5 +1,6 @@
 // What is accepted and yet likely to be a slip. A warning refuses nothing.
 use crate::printing::{say, say_number};
+use bondfile::entries::number_of;
 use bondline::Kind;
 use fileline::lines::line_of;
 use std::rt::Stdout;
@@ -7,7 +8,7 @@ use terms::market::{Leg, Market, TimeGrid};
 
 fn warn(out: Stdout, text: &[u8], kind: Kind, place: usize) {
     say(out, b"Warning          line ");
-    say_number(out, line_of(text, kind, place) as u64);
+    say_number(out, line_of(text, number_of(kind), place) as u64);
     say(out, b": ");
 }
 
@@ -30,7 +31,7 @@ fn doubles(out: Stdout, text: &[u8], leg: Leg<'_>) {
         if let Some(j) = alike(leg, i) {
             warn(out, text, Kind::Cashflow, i);
             say(out, b"the same cashflow stands on line ");
-            say_number(out, line_of(text, Kind::Cashflow, j) as u64);
+            say_number(out, line_of(text, number_of(Kind::Cashflow), j) as u64);
             say(out, b".\n");
         }
     }

@@ -131,10 +131,10 @@ module _ (m : Market) (calls : CallSchedule) (r : Refusal) where
       (last (number_check m calls) r _ Pillar refl))))))
 
   -- A check whose refusals have one number is blamed by that number.
-  named : (n : Reason) (c : Check) → Numbers (reason_number n) (reason_number n) c → c ≡ Err r → order_check m calls (whose_order n) ≡ Err r → order_check m calls (whose_order r.reason) ≡ Err r
-  named n c p h e = let b = p.between r h in let q : r.reason ≡ n = reason_by_number r.reason n (omega arith) in ap (λ (k : Reason). order_check m calls (whose_order k)) q ∙ e
+  named : (n : Reason) (c : Check) → Numbers (reason_number n) (reason_number n) c → c ≡ Err r → order_check m calls (whose_order (reason_number n)) ≡ Err r → order_check m calls (whose_order (reason_number r.reason)) ≡ Err r
+  named n c p h e = let b = p.between r h in let q : r.reason ≡ n = reason_by_number r.reason n (omega arith) in ap (λ (k : Reason). order_check m calls (whose_order (reason_number k))) q ∙ e
 
-  by_number : (n : Reason) (c : Check) → Numbers (reason_number n) (reason_number n) c → order_check m calls (whose_order n) ≡ c → c ≡ Err r → order_check m calls (whose_order r.reason) ≡ Err r
+  by_number : (n : Reason) (c : Check) → Numbers (reason_number n) (reason_number n) c → order_check m calls (whose_order (reason_number n)) ≡ c → c ≡ Err r → order_check m calls (whose_order (reason_number r.reason)) ≡ Err r
   by_number n c p e h = named n c p h (e ∙ h)
 
   abbrev paid_check : Check
@@ -153,7 +153,7 @@ module _ (m : Market) (calls : CallSchedule) (r : Refusal) where
   positive_check = positive_factors m.pillars
 
   -- 8, 34, 35 and 44, where 33 and 7 passed.
-  late-blamed : day_count m.settlement.code ≡ Ok tt → paid_check ≡ Ok tt → first_of (rising_check ∷ timed_check ∷ apart_check ∷ positive_check ∷ []) ≡ Err r → order_check m calls (whose_order r.reason) ≡ Err r
+  late-blamed : day_count m.settlement.code ≡ Ok tt → paid_check ≡ Ok tt → first_of (rising_check ∷ timed_check ∷ apart_check ∷ positive_check ∷ []) ≡ Err r → order_check m calls (whose_order (reason_number r.reason)) ≡ Err r
   unfolding checks_of whose_order
   late-blamed k p h =
       elim (first_refused_lem _ _ r h) [
@@ -173,7 +173,7 @@ module _ (m : Market) (calls : CallSchedule) (r : Refusal) where
             ]
       ]
 
-  orders-blamed : first_of (code_check m calls) ≡ Ok tt → first_of (order_checks m calls) ≡ Err r → order_check m calls (whose_order r.reason) ≡ Err r
+  orders-blamed : first_of (code_check m calls) ≡ Ok tt → first_of (order_checks m calls) ≡ Err r → order_check m calls (whose_order (reason_number r.reason)) ≡ Err r
   unfolding checks_of whose_order
   orders-blamed k h =
       let code = (passes_of_first (code_check m calls) k).0 in
@@ -190,7 +190,7 @@ module _ (m : Market) (calls : CallSchedule) (r : Refusal) where
             ]
       ]
 
-  steps-blamed : first_of (steps_check m calls) ≡ Err r → order_check m calls (whose_order r.reason) ≡ Err r
+  steps-blamed : first_of (steps_check m calls) ≡ Err r → order_check m calls (whose_order (reason_number r.reason)) ≡ Err r
   unfolding checks_of whose_order
   steps-blamed h =
       elim (first_refused_lem _ _ r h) [
@@ -198,7 +198,7 @@ module _ (m : Market) (calls : CallSchedule) (r : Refusal) where
         | inr a ↦ absurd (none-refused r a.1)
       ]
 
-  code-blamed : first_of (code_check m calls) ≡ Err r → order_check m calls (whose_order r.reason) ≡ Err r
+  code-blamed : first_of (code_check m calls) ≡ Err r → order_check m calls (whose_order (reason_number r.reason)) ≡ Err r
   unfolding checks_of whose_order
   code-blamed h =
       elim (first_refused_lem _ _ r h) [
@@ -220,7 +220,7 @@ module _ (limit : Float) (m : Market) (calls : CallSchedule) (r : Refusal) (h : 
       ]
 
   -- Any number but 2, 3 and 4: the steps, a call, a sigma entry, settlement or a pillar.
-  pub blamed-order : ((reason_number r.reason) ≡ 2 → ⊥) → ((reason_number r.reason) ≡ 3 → ⊥) → ((reason_number r.reason) ≡ 4 → ⊥) → order_check m calls (whose_order r.reason) ≡ Err r
+  pub blamed-order : ((reason_number r.reason) ≡ 2 → ⊥) → ((reason_number r.reason) ≡ 3 → ⊥) → ((reason_number r.reason) ≡ 4 → ⊥) → order_check m calls (whose_order (reason_number r.reason)) ≡ Err r
   blamed-order not-2 not-3 not_4 =
       elim (refusing m calls limit r h) [
         | by_steps a e ↦ steps-blamed m calls r e
