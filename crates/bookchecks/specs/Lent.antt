@@ -30,6 +30,9 @@ lists_of l = record { leg = leg_of l.leg; calls = calls_of l.calls; puts = calls
 abbrev pub book_of : LentBook → Book
 book_of b = record { shared = shared_of b.shared; fields = fields_of b.fields; lists = lists_of b.lists }
 
+abbrev pub shared_in : {X : Type 0} → Both LentShared X → Shared
+shared_in s = shared_of s.entry
+
 abbrev pub fields_in : {X : Type 0} → Both LentFields X → Fields
 fields_in f = fields_of f.entry
 

@@ -1,16 +1,16 @@
 // The input checks of a book: each bond's as if it were alone, before any bond is valued.
 
-ghost use Rattle.std.specs.Prelude.{◌≡◌, ◌≤◌, length};
+ghost use Rattle.std.specs.Prelude.{◌≡◌, ◌≤◌, get_or};
 ghost use Rattle.terms.specs.Checks.{first_of};
 ghost use Rattle.terms.specs.Market.{leg_in, calls_in};
-ghost use Rattle.bookchecks.specs.Book.{size_of, holding_at};
 ghost use Rattle.bookchecks.specs.Checks.{leg_lengths, entry_lengths, cut_amiss, cut_checks, bond_check, first_refused, book_checks};
-ghost use Rattle.bookchecks.specs.Lent.{lists_in, book_in};
+ghost use Rattle.bookchecks.specs.Lent.{shared_in, lists_in, book_in};
+ghost use Rattle.bookchecks.specs.laws.Holdings.{past_end, HeldBook};
 
 use crate::desks::desk_checks;
 use crate::naming::at_bond;
 use crate::parts::part_amiss;
-use crate::{Book, Holding, Lengths, Lists, RefusedBond};
+use crate::{Book, Holding, Lengths, Lists, RefusedBond, Shared};
 use entrychecks::entries::tree_checks;
 use floats::{Reason, Refusal};
 use terms::curve::{pillar_times, timed_pillars};
@@ -62,37 +62,50 @@ fn cut_checks(held: Holding, lists: Lists<'_>) -> Result<(), Refusal>
 }
 
 // The checks of one bond, cut from the lists.
-fn bond_check(book: Book<'_>, held: Holding) -> Result<(), Refusal>
-    ensures { result ≡ bond_check (book_in book).shared (book_in book).lists held }
+fn bond_check(shared: Shared<'_>, lists: Lists<'_>, held: Holding) -> Result<(), Refusal>
+    ensures { result ≡ bond_check (shared_in shared) (lists_in lists) held }
 {
-    cut_checks(held, book.lists)?;
-    let market = book.market_of(held);
-    let calls = book.calls_of(held);
+    cut_checks(held, lists)?;
+    let market = shared.market_of(lists, held);
+    let calls = lists.calls_of(held);
     let table = pillar_times(market.settlement, market.pillars.days);
     let count = timed_pillars(market.pillars.days);
     tree_checks(market, calls, &table[..count])
 }
 
 // The checks of all bonds: the first that is refused.
-pub fn all_checks(book: Book<'_>) -> Result<(), RefusedBond>
-    requires { length book.fields.cashflows.now ≤ 32 }
-    ensures { result ≡ first_refused (λ i. bond_check (book_in book).shared (book_in book).lists (holding_at (book_in book).fields i)) (size_of (book_in book).fields) 0 }
+pub fn all_checks(
+    held: [Holding; 32],
+    size: usize,
+    shared: Shared<'_>,
+    lists: Lists<'_>,
+) -> Result<(), RefusedBond>
+    requires { size ≤ 32 }
+    ensures { result ≡ first_refused (λ i. bond_check (shared_in shared) (lists_in lists) (get_or held i past_end)) size 0 }
 {
-    for i in 0..book.fields.size() {
-        let check = bond_check(book, book.fields.holding_at(i));
+    for i in 0..size {
+        let check = bond_check(shared, lists, held[i]);
         at_bond(i as u32, check)?;
     }
     Ok(())
 }
 
-// 39, then the desks of all bonds, then the checks of all.
+// What the bonds of a book hold that passes its checks: 39, then the desks of all bonds, then the checks of all.
+pub fn checked_holdings(book: Book<'_>) -> Result<[Holding; 32], RefusedBond>
+    ensures { HeldBook (book_in book) result }
+{
+    let size = book.fields.size();
+    at_bond(0, single(Reason::BookSize, out_of(1, Book::MOST, size)))?;
+    let held = book.fields.holdings();
+    desk_checks(held, size)?;
+    all_checks(held, size, book.shared, book.lists)?;
+    Ok(held)
+}
+
+// The same checks alone.
 pub fn book_checks(book: Book<'_>) -> Result<(), RefusedBond>
     ensures { result ≡ book_checks (book_in book) }
 {
-    at_bond(
-        0,
-        single(Reason::BookSize, out_of(1, Book::MOST, book.fields.size())),
-    )?;
-    desk_checks(book.fields)?;
-    all_checks(book)
+    checked_holdings(book)?;
+    Ok(())
 }

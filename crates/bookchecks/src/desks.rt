@@ -1,23 +1,24 @@
 // 40: the desks of all bonds.
 
-ghost use Rattle.std.specs.Prelude.{◌≡◌, ◌≤◌, length};
-ghost use Rattle.bookchecks.specs.Checks.{desk_check, first_refused};
-ghost use Rattle.bookchecks.specs.Lent.{fields_in};
+ghost use Rattle.std.specs.Prelude.{◌≡◌, ◌≤◌, ltb, get_or};
+ghost use Rattle.floats.specs.declared.Reason.TheVariants as reason;
+ghost use Rattle.terms.specs.Checks as checks;
+ghost use Rattle.bookchecks.specs.Checks.{first_refused};
+ghost use Rattle.bookchecks.specs.laws.Holdings.{past_end};
 
 use crate::naming::at_bond;
-use crate::parts::field_at;
-use crate::{Book, Fields, RefusedBond};
+use crate::{Book, Holding, RefusedBond};
 use floats::Reason;
 use terms::refusing::single;
 
 // The lowest bond whose desk is outside 0 to 7.
-pub fn desk_checks(fields: Fields<'_>) -> Result<(), RefusedBond>
-    requires { length fields.cashflows.now ≤ 32 }
-    ensures { result ≡ first_refused (desk_check (fields_in fields)) (length fields.entry.cashflows.now) 0 }
+pub fn desk_checks(held: [Holding; 32], size: usize) -> Result<(), RefusedBond>
+    requires { size ≤ 32 }
+    ensures { result ≡ first_refused (λ i. checks.single reason.Desk 0 (ltb 7 (get_or held i past_end).desk)) size 0 }
 {
-    for i in 0..fields.size() {
-        let desk = field_at(fields.desks, i, 0);
-        at_bond(i as u32, single(Reason::Desk, Book::LAST_DESK < desk))?;
+    for i in 0..size {
+        let bond = held[i];
+        at_bond(i as u32, single(Reason::Desk, Book::LAST_DESK < bond.desk))?;
     }
     Ok(())
 }

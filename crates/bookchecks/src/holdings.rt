@@ -1,13 +1,14 @@
 // What the book's fields say of each bond.
 
-ghost use Rattle.std.specs.Prelude.{◌≡◌, ◌<◌, length};
+ghost use Rattle.std.specs.Prelude.{◌≡◌, ◌≤◌, ◌<◌, length};
 ghost use Rattle.terms.specs.Market as lent;
 ghost use Rattle.bookchecks.specs.Book.{unset, is_last, fields_amiss, holding_at, market_of, calls_of};
-ghost use Rattle.bookchecks.specs.Lent.{fields_in, book_in};
+ghost use Rattle.bookchecks.specs.Lent.{shared_in, fields_in, lists_in};
+ghost use Rattle.bookchecks.specs.laws.Holdings.{Held};
 
 use crate::cut::{cut_entries, cut_leg};
 use crate::parts::{amiss, field_at, part_of};
-use crate::{Book, Fields, Holding};
+use crate::{Fields, Holding, Lists, Part, Shared};
 use terms::Settlement;
 use terms::market::{Bond, CallSchedule, Market, TimeGrid};
 
@@ -60,37 +61,66 @@ impl Fields<'_> {
             amiss: self.amiss(last, i + 1),
         }
     }
+
+    // What they say of each bond of the book; past its size nothing is said.
+    pub fn holdings(self) -> [Holding; 32]
+        requires { length self.cashflows.now ≤ 32 }
+        ensures { Held (fields_in self) result }
+    {
+        let nothing = Part { from: 0, count: 0 };
+        let none = Holding {
+            code: 0,
+            units: 0.0,
+            yearly: 0,
+            maximum: 0,
+            spread: 0.0,
+            desk: 0,
+            cashflows: nothing,
+            calls: nothing,
+            puts: nothing,
+            last: false,
+            unset: false,
+            amiss: false,
+        };
+        let mut table = [none; 32];
+        for i in 0..self.size() {
+            table[i] = self.holding_at(i);
+        }
+        table
+    }
 }
 
-impl<'a> Book<'a> {
+impl<'a> Shared<'a> {
     // What the tree value takes of the bond alone, but for its calls.
-    pub fn market_of(self, held: Holding) -> Market<'a>
-        ensures { lent.market_of result ≡ market_of (book_in self).shared (book_in self).lists held }
+    pub fn market_of(self, lists: Lists<'a>, held: Holding) -> Market<'a>
+        ensures { lent.market_of result ≡ market_of (shared_in self) (lists_in lists) held }
     {
         Market {
             settlement: Settlement {
-                day: self.shared.day,
+                day: self.day,
                 code: held.code,
             },
             bond: Bond {
-                leg: cut_leg(held.cashflows, self.lists.leg),
+                leg: cut_leg(held.cashflows, lists.leg),
                 units: held.units,
-                puts: cut_entries(held.puts, self.lists.puts),
+                puts: cut_entries(held.puts, lists.puts),
             },
             controls: TimeGrid {
                 per_year: held.yearly,
                 maximum: held.maximum,
             },
-            model: self.shared.model,
+            model: self.model,
             spread: held.spread,
-            pillars: self.shared.pillars,
+            pillars: self.pillars,
         }
     }
+}
 
+impl<'a> Lists<'a> {
     // The bond's calls.
     pub fn calls_of(self, held: Holding) -> CallSchedule<'a>
-        ensures { lent.calls_of result ≡ calls_of (book_in self).lists held }
+        ensures { lent.calls_of result ≡ calls_of (lists_in self) held }
     {
-        cut_entries(held.calls, self.lists.calls)
+        cut_entries(held.calls, self.calls)
     }
 }

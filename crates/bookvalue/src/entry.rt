@@ -8,7 +8,7 @@ use crate::BookAnswer;
 use crate::answers::{answer_of, refused_book};
 use crate::values::all_values;
 use bookchecks::Book;
-use bookchecks::checks::book_checks;
+use bookchecks::checks::checked_holdings;
 use treebasedbondpricer::zero::{zero_floats, zero_numbers};
 
 // Each bond's value, their sum in book order and each desk's node count, all or none. The lent slices are untouched after 39, 40 and a refusal of the checks, else all zero.
@@ -21,14 +21,25 @@ pub fn book_value(
 ) -> BookAnswer
     ensures { BookEntered (book_in book) result (lent_in nodes probabilities first_row second_row) (lent_out nodes probabilities first_row second_row) }
 {
-    let check = book_checks(book);
-    if let Err(refused) = check {
-        return refused_book(refused);
+    match checked_holdings(book) {
+        Ok(held) => {
+            let size = book.fields.size();
+            let valued = all_values(
+                held,
+                size,
+                book.shared,
+                book.lists,
+                nodes,
+                probabilities,
+                first_row,
+                second_row,
+            );
+            zero_numbers(nodes);
+            zero_floats(probabilities);
+            zero_floats(first_row);
+            zero_floats(second_row);
+            answer_of(valued, book.fields.desks, size)
+        }
+        Err(refused) => refused_book(refused),
     }
-    let valued = all_values(book, nodes, probabilities, first_row, second_row);
-    zero_numbers(nodes);
-    zero_floats(probabilities);
-    zero_floats(first_row);
-    zero_floats(second_row);
-    answer_of(valued, book.fields.desks, book.fields.size())
 }

@@ -1,10 +1,11 @@
 -- A table of what the bonds hold: a loop that fills it from the front. Assumes nothing.
-use Rattle.std.specs.Prelude.{ℕ, ◌+◌, ◌<◌, ◌≤◌, ◌≡◌, false, List, length, get_or, set, replicate}
+use Rattle.std.specs.Prelude.{ℕ, ◌+◌, ◌<◌, ◌≤◌, ◌≡◌, false, List, length, get_or, set, replicate, Ok, Err}
 use Rattle.std.proofs.Common.{arith, below_more, ap, ◌∙◌, length-set, get_or-set_same, get_or-set_other}
 use Rattle.std.proofs.lemmas.List.{length-replicate}
 use Rattle.std.specs.Float.{nan}
 use Rattle.bookchecks.specs.declared.Holding.{Holding}
-use Rattle.bookchecks.specs.Book.{Fields, size_of, holding_at}
+use Rattle.bookchecks.specs.Book.{Fields, Book, size_of, holding_at}
+use Rattle.bookchecks.specs.Checks.{BookOutcome, Passed, book_checks}
 
 -- The places before i hold what the rule f says.
 pub record Filling {A : Type 0} (f : ℕ → A) (d : A) (size i : ℕ) (table : List A) : Type 0 where
@@ -54,3 +55,8 @@ held f i table h s = record { at = λ k l. s.at k (omega arith) }
 pub desk_at : (f : Fields) (table : List Holding) → Held f table → (i : ℕ) → i < size_of f → (get_or table i past_end).desk ≡ get_or f.desks i 0
 unfolding holding_at
 desk_at f table h i l = ap (λ (z : Holding). z.desk) (h.at i l)
+
+-- Of a book that passes its checks, each bond's place; else what the checks refuse.
+abbrev pub HeldBook : Book → BookOutcome (List Holding) → Type 0
+HeldBook b (Ok table) = (book_checks b ≡ Passed) × Held b.fields table
+HeldBook b (Err q) = book_checks b ≡ Err q

@@ -1,5 +1,5 @@
 -- The book's answer and its slices from their parts: the size, the checks, the values, and the slices left all zero. Assumes nothing.
-use Rattle.std.specs.Prelude.{ℕ, ◌≤◌, ◌<◌, ◌≡◌, refl, Bool, true, false, ◌||◌, List, length, replicate, ltb, ℤ, pos, Float, Ok, Err}
+use Rattle.std.specs.Prelude.{ℕ, ◌≤◌, ◌<◌, ◌≡◌, refl, Bool, true, false, ◌||◌, List, length, get_or, replicate, ltb, ℤ, pos, Float, Ok, Err}
 use Rattle.std.proofs.Common.{arith, ◌∙◌, ltb-false}
 use Rattle.std.proofs.Math.Path.{sym, ap}
 use Rattle.std.proofs.Math.Bool.{cond}
@@ -13,7 +13,9 @@ use Rattle.bookchecks.specs.declared.Holding.{Holding}
 use Rattle.bookchecks.specs.declared.RefusedBond.{RefusedBond}
 use Rattle.bookchecks.specs.Book.{Shared, Lists, Book, size_of, holding_at, market_of, calls_of}
 use Rattle.bookchecks.specs.Checks.{cut_checks, leg_lengths, entry_lengths, BookOutcome, BookCheck, Passed, Refused, bond_check, first_refused, on_book, desk_check, book_checks}
+use Rattle.bookchecks.specs.laws.Holdings.{past_end, Held, HeldBook}
 use Rattle.bookchecks.proofs.laws.Naming.{same_first}
+use Rattle.bookchecks.proofs.laws.Holdings.{same_checks}
 use Rattle.bookvalue.specs.declared.Valued.{Valued}
 use Rattle.bookvalue.specs.declared.BookAnswer.{BookAnswer}
 use Rattle.bookvalue.specs.Values.{bond_value, refused_tree, desk_of, refused_book, valued_book, book_by}
@@ -125,3 +127,39 @@ module _ (b : Book) where
       go true k p = absurd (let z : ◌≡◌ {A = ℕ} 0 1 = cc in omega arith)
       go false Passed p = p
       go false (Err q) p = absurd (let z : ◌≡◌ {A = ℕ} 0 1 = cc in omega arith)
+
+-- The same by a table of what the bonds hold.
+module _ (b : Book) {o : BookOutcome (List Holding)} (h : HeldBook b o) where
+  pub held-refused : {q : RefusedBond} → o ≡ Err q → book_checks b ≡ Err q
+  held-refused {q} e = go o e h
+    where
+      go : (k : BookOutcome (List Holding)) → k ≡ Err q → HeldBook b k → book_checks b ≡ Err q
+      go (Ok table) e h = absurd (let z : ◌≡◌ {A = ℕ} 0 1 = cc in omega arith)
+      go (Err r) e h = let same : r ≡ q = cc in h ∙ ap Err same
+
+  module _ {table : List Holding} (e : o ≡ Ok table) where
+    of_book : (book_checks b ≡ Passed) × Held b.fields table
+    of_book = go o e h
+      where
+        go : (k : BookOutcome (List Holding)) → k ≡ Ok table → HeldBook b k → (book_checks b ≡ Passed) × Held b.fields table
+        go (Ok other) e h = let same : other ≡ table = cc in (h.0, rw (← same) h.1)
+        go (Err r) e h = absurd (let z : ◌≡◌ {A = ℕ} 0 1 = cc in omega arith)
+
+    pub held-passed : book_checks b ≡ Passed
+    held-passed = of_book.0
+
+    module _ {n : ℕ} (i : n ≡ size_of b.fields) where
+      pub held-few : n ≤ 32
+      held-few = let few = checked-few b held-passed in omega arith
+
+      pub held-checked : first_refused (λ i. bond_check b.shared b.lists (get_or table i past_end)) n 0 ≡ Passed
+      held-checked =
+          ap (λ (m : ℕ). first_refused (λ i. bond_check b.shared b.lists (get_or table i past_end)) m 0) i
+          ∙ same_checks b.shared b.lists b.fields table of_book.1
+          ∙ checked-bonds b held-passed
+
+      pub held-valued : (before : Lent) {v : BookOutcome Valued} → v ≡ values_of b.shared b.lists (λ i. get_or table i past_end) (room_of before) n → v ≡ values_of b.shared b.lists (holding_at b.fields) (room_of before) (size_of b.fields)
+      held-valued before p =
+          p
+          ∙ ap (values_of b.shared b.lists (λ i. get_or table i past_end) (room_of before)) i
+          ∙ valued-alike _ _ (size_of b.fields) (λ k l. ap (tree_of b.shared b.lists (room_of before)) (of_book.1.at k l))

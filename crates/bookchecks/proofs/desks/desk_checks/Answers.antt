@@ -1,17 +1,14 @@
 -- `desk_checks` meets its contract: in the loop, no desk before i is refused. Assumes nothing.
 use native.Mathlib.Omega.{arith}
-use Rattle.std.specs.Prelude.{ℕ, ltb}
-use Rattle.std.proofs.Common.{rules, ap, ◌∙◌}
-use Rattle.terms.specs.Checks.{single}
+use Rattle.std.proofs.Common.{rules, ◌∙◌}
 use Rattle.bookchecks.proofs.laws.Naming.{turn_at, found_at, done}
 use Rattle.bookchecks.proofs.desks.desk_checks.Goals as goal
-use Rattle.floats.specs.declared.Reason.TheVariants as reason
 
 pub returns-in_err-at_bond : goal.returns-in_err-at_bond
-returns-in_err-at_bond c = search rules ∙ found_at _ _ _ c.loop-i.invariant (omega arith) (c.single.ensures ∙ ap (λ (d : ℕ). single reason.Desk 0 (ltb 7 d)) c.field_at-desk.ensures) c.at_bond.ensures c.in_err-at_bond.was
+returns-in_err-at_bond c = search rules ∙ found_at _ _ _ c.loop-i.invariant (omega arith) c.single.ensures c.at_bond.ensures c.in_err-at_bond.was
 
 pub loop-i-preserved : goal.loop-i-preserved
-loop-i-preserved c = turn_at _ _ _ c.loop-i.invariant (omega arith) (c.single.ensures ∙ ap (λ (d : ℕ). single reason.Desk 0 (ltb 7 d)) c.field_at-desk.ensures) c.at_bond.ensures c.in_ok-at_bond.was
+loop-i-preserved c = turn_at _ _ _ c.loop-i.invariant (omega arith) c.single.ensures c.at_bond.ensures c.in_ok-at_bond.was
 
 pub returns : goal.returns
 returns c = done _ _ _ c.loop-i.invariant (omega arith)
