@@ -31,9 +31,9 @@ fn side_price(side: Side, step: CallStep) -> f64
 }
 
 // What is read of each step.
-fn each_step<T: Copy, F: Fn(CallStep) -> T>(steps: [CallStep; 513], unread: T, read: F) -> [T; 513]
+fn each_step<T: Copy, F: Fn(CallStep) -> T>(steps: &[CallStep; 513], unread: T, read: F) -> [T; 513]
     requires { (step : CallStep) → F.pre read step }
-    ensures { (reading : CallStep → T) → ((step : CallStep) (r : T) → F.post read step r → r ≡ reading step) → result ≡ map reading steps }
+    ensures { (reading : CallStep → T) → ((step : CallStep) (r : T) → F.post read step r → r ≡ reading step) → result ≡ map reading steps.now }
 {
     let mut row = [unread; 513];
     for i in 0..513 {
@@ -43,15 +43,15 @@ fn each_step<T: Copy, F: Fn(CallStep) -> T>(steps: [CallStep; 513], unread: T, r
 }
 
 // The marks of one side.
-pub fn marks_of(side: Side, steps: [CallStep; 513]) -> [u8; 513]
-    ensures { result ≡ map (side_mark side) steps }
+pub fn marks_of(side: Side, steps: &[CallStep; 513]) -> [u8; 513]
+    ensures { result ≡ map (side_mark side) steps.now }
 {
     each_step(steps, 0, |step| side_mark(side, step))
 }
 
 // The prices of one side.
-pub fn prices_of(side: Side, steps: [CallStep; 513]) -> [f64; 513]
-    ensures { result ≡ map (side_price side) steps }
+pub fn prices_of(side: Side, steps: &[CallStep; 513]) -> [f64; 513]
+    ensures { result ≡ map (side_price side) steps.now }
 {
     each_step(steps, 0.0, |step| side_price(side, step))
 }
@@ -68,15 +68,15 @@ fn step_mark(step: CallStep) -> u8
     }
 }
 
-pub fn step_marks(steps: [CallStep; 513]) -> [u8; 513]
-    ensures { result ≡ map step_mark steps }
+pub fn step_marks(steps: &[CallStep; 513]) -> [u8; 513]
+    ensures { result ≡ map step_mark steps.now }
 {
     each_step(steps, 0, |step| step_mark(step))
 }
 
 // For the walk: call and put price of each step side by side, 0 without one.
-pub fn step_prices(steps: [CallStep; 513]) -> [f64; 1026]
-    ensures { result ≡ step_prices steps }
+pub fn step_prices(steps: &[CallStep; 513]) -> [f64; 1026]
+    ensures { result ≡ step_prices steps.now }
 {
     let mut prices = [0.0; 1026];
     for i in 0..513 {

@@ -8,14 +8,13 @@ use Rattle.decimal.specs.Examples.{bytes}
 use Rattle.bondreport.specs.Columns.{put_at}
 use Rattle.bondreport.specs.Numbers.{byte_left, digits_left, width_of, whole_left}
 use Rattle.bondreport.specs.Figures.{point_left, minus_left}
-use Rattle.floats.specs.declared.Refusal.{Refusal}
+use Rattle.closingsheet.specs.declared.NumberedRefusal.{NumberedRefusal}
 use Rattle.closingsheet.specs.declared.ClosingLine.{ClosingLine}
 use Rattle.closingsheet.specs.Cells.{ValueCell, printed_of, value_cell}
 use Rattle.closingsheet.specs.Sheet.{at, answer_sheet, sheet_by, sheet_of}
-use Rattle.floats.specs.declared.Reason.TheVariants as reason
 
 -- A line of 34 columns and the newline.
-abbrev printed : Option Refusal → String → ClosingLine
+abbrev printed : Option NumberedRefusal → String → ClosingLine
 printed refused text = record { refusal = refused; line = bytes text ++ (10 ∷ []) }
 
 abbrev shows : ℕ → ValueCell
@@ -32,7 +31,7 @@ abbrev ninety_nine : Float
 ninety_nine = of_bits binary64 0x4058_c000_0000_0000
 
 abbrev zeros : ClosingLine
-zeros = record { refusal = Some (at reason.BondNumber 0); line = replicate 35 0 }
+zeros = record { refusal = Some (at 31 0); line = replicate 35 0 }
 
 pub record Starred : Type 0 where
   -- The last example of 01 with a value, as bond 1: 99.00 ends in column 22, and 2 in column 30.
@@ -62,13 +61,16 @@ pub record Starred : Type 0 where
   pub no_nan : value_cell nan ≡ wide
   -- 31 stands for a value and for a refusal.
   pub no_bond : sheet_of 0 (Ok (record { value = ninety_nine; nodes = 2 })) ≡ zeros
-  pub beyond : sheet_of 1000000 (Err (at reason.Number 7)) ≡ zeros
+  pub beyond : sheet_of 1000000 (Err (at 4 7)) ≡ zeros
   -- 32 by the value and by the count.
-  pub too_wide : sheet_of 7 (Ok (record { value = (of_bits binary64 0x426d_1a94_a200_0000); nodes = 2 })) ≡ printed (Some (at reason.TooWide 0)) "     7                          32"
-  pub too_many : sheet_of 999999 (Ok (record { value = ninety_nine; nodes = 100000000 })) ≡ printed (Some (at reason.TooWide 0)) "999999                          32"
+  pub too_wide : sheet_of 7 (Ok (record { value = (of_bits binary64 0x426d_1a94_a200_0000); nodes = 2 })) ≡ printed (Some (at 32 0)) "     7                          32"
+  pub too_many : sheet_of 999999 (Ok (record { value = ninety_nine; nodes = 100000000 })) ≡ printed (Some (at 32 0)) "999999                          32"
   -- A refusal's number is printed, and its place handed up.
-  pub refused : sheet_of 12 (Err (at reason.Number 7)) ≡ printed (Some (at reason.Number 7)) "    12                           4"
-  pub refused_27 : sheet_of 12 (Err (at reason.NotFinite 0)) ≡ printed (Some (at reason.NotFinite 0)) "    12                          27"
+  pub refused : sheet_of 12 (Err (at 4 7)) ≡ printed (Some (at 4 7)) "    12                           4"
+  pub refused_27 : sheet_of 12 (Err (at 27 0)) ≡ printed (Some (at 27 0)) "    12                          27"
+  -- So are the numbers that no reason has.
+  pub refused_47 : sheet_of 12 (Err (at 47 7)) ≡ printed (Some (at 47 7)) "    12                          47"
+  pub refused_9999 : sheet_of 12 (Err (at 9999 7)) ≡ printed (Some (at 9999 7)) "    12                        9999"
 
 pub starred : Starred
 unfolding put_at byte_left digits_left width_of whole_left point_left minus_left printed_of answer_sheet sheet_by ieee.of_bits
@@ -98,4 +100,6 @@ starred =
       too_many = refl;
       refused = refl;
       refused_27 = refl;
+      refused_47 = refl;
+      refused_9999 = refl;
     }

@@ -6,12 +6,10 @@ use Rattle.std.specs.Prelude.{Option, Some, None}
 use Rattle.decimal.specs.declared.Rounded.{Rounded}
 use Rattle.decimal.specs.Writing.{in_units}
 use Rattle.terms.specs.Terms.{CallSchedule, Market}
-use Rattle.treebasedbondpricer.specs.declared.TreeValue.{TreeValue}
-use Rattle.floats.specs.Answers.{Outcome}
 use Rattle.treebasedbondpricer.specs.Tree.{tree_value, Lent, room_of, lent_after}
 use Rattle.closingsheet.specs.declared.ClosingLine.{ClosingLine}
 use Rattle.closingsheet.specs.Cells.{ValueCell, cell_of}
-use Rattle.closingsheet.specs.Sheet.{sheet_by}
+use Rattle.closingsheet.specs.Sheet.{NumberedAnswer, by_number, sheet_by}
 
 -- a / c to a whole number, a half going away from zero; the sign stands apart.
 abbrev pub half_away : ℕ → ℕ → ℕ
@@ -31,12 +29,12 @@ printed_away (fin s m e) = in_cents s (half_away (100 * (m * up e)) (down e))
 abbrev pub away_cell : Float → ValueCell
 away_cell x = cell_of (printed_away x)
 
-abbrev pub away_sheet : ℕ → Outcome TreeValue → ClosingLine
+abbrev pub away_sheet : ℕ → NumberedAnswer → ClosingLine
 away_sheet bond answer = sheet_by away_cell bond answer
 
 -- What the entry promised then.
 pub record FiledAway (bond : ℕ) (m : Market) (calls : CallSchedule) (answer : ClosingLine) (before after : Lent) : Type 0 where
-  pub sheet : answer ≡ away_sheet bond (tree_value m calls (room_of before))
+  pub sheet : answer ≡ away_sheet bond (by_number (tree_value m calls (room_of before)))
   pub slices : after ≡ lent_after m calls before
 
 -- ---- what the two sheets have in common

@@ -3,12 +3,12 @@ ghost use Rattle.std.specs.Prelude.{◌≡◌};
 ghost use Rattle.closingsheet.specs.Cells.{value_cell};
 ghost use Rattle.closingsheet.specs.Sheet.{numbered, number_line, refused_on, no_sheet, value_sheet, sheet_of};
 
-use crate::ClosingLine;
 use crate::cell::{first_columns, value_cell};
+use crate::{ClosingLine, NumberedRefusal};
 use bondreport::Line;
 use bondreport::columns::{blank, put};
 use bondreport::figures::put_whole;
-use floats::{Reason, Refusal};
+use floats::Reason;
 use treebasedbondpricer::TreeValue;
 
 // The bond number, and the newline.
@@ -32,12 +32,12 @@ pub fn refused_line(bond: u32, number: u32) -> [u8; 35]
     number_line(numbered(bond), number)
 }
 
-fn refused_on(line: Line, refusal: Refusal) -> ClosingLine
+fn refused_on(line: Line, refusal: NumberedRefusal) -> ClosingLine
     ensures { result ≡ refused_on line refusal }
 {
     ClosingLine {
         refusal: Some(refusal),
-        line: number_line(line, refusal.reason.number()),
+        line: number_line(line, refusal.number),
     }
 }
 
@@ -46,8 +46,8 @@ fn value_sheet(bond: u32, x: f64, count: u64) -> ClosingLine
     ensures { result ≡ value_sheet bond (value_cell x) count }
 {
     let start = numbered(bond);
-    let too_wide = Refusal {
-        reason: Reason::TooWide,
+    let too_wide = NumberedRefusal {
+        number: Reason::TooWide.number(),
         place: 0,
     };
     match value_cell(x) {
@@ -63,8 +63,8 @@ fn value_sheet(bond: u32, x: f64, count: u64) -> ClosingLine
 fn no_sheet() -> ClosingLine
     ensures { result ≡ no_sheet }
 {
-    let refusal = Refusal {
-        reason: Reason::BondNumber,
+    let refusal = NumberedRefusal {
+        number: Reason::BondNumber.number(),
         place: 0,
     };
     ClosingLine {
@@ -75,7 +75,7 @@ fn no_sheet() -> ClosingLine
 
 // The bond number first, then the answer.
 #[tactic(auto, unfolding(crate::specs::Sheet::sheet_by, crate::specs::Sheet::answer_sheet))]
-pub fn line_of(bond: u32, answer: Result<TreeValue, Refusal>) -> ClosingLine
+pub fn line_of(bond: u32, answer: Result<TreeValue, NumberedRefusal>) -> ClosingLine
     ensures { result ≡ sheet_of bond answer }
 {
     if bond < ClosingLine::FIRST_BOND || bond > ClosingLine::LAST_BOND {
@@ -83,6 +83,9 @@ pub fn line_of(bond: u32, answer: Result<TreeValue, Refusal>) -> ClosingLine
     }
     match answer {
         Ok(TreeValue { value, nodes }) => value_sheet(bond, value, nodes),
-        Err(refusal) => refused_on(numbered(bond), refusal),
+        Err(refusal) => ClosingLine {
+            refusal: Some(refusal),
+            line: refused_line(bond, refusal.number),
+        },
     }
 }

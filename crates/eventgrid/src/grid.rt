@@ -53,7 +53,11 @@ pub fn event_grid(
         maturity,
         steps: steps_of(maturity, controls.per_year, controls.maximum),
     };
-    let calls = call_steps(axis, bond, calls)?;
+    // A match and no `?`, which would copy the steps once more.
+    let calls = match call_steps(axis, bond, calls) {
+        Ok(steps) => steps,
+        Err(refusal) => return Err(refusal),
+    };
     let cashflows = paid_into(axis, leg.days, leg.amounts);
     Ok(BondEventGrid {
         maturity_time: maturity,

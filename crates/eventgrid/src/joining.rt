@@ -8,8 +8,8 @@ use bondevents::CallStep;
 use floats::{Reason, Refusal};
 
 // The call and the put of each step.
-pub fn joined_steps(calls: [Option<f64>; 513], puts: [Option<f64>; 513]) -> [CallStep; 513]
-    ensures { result ≡ joined calls puts }
+pub fn joined_steps(calls: &[Option<f64>; 513], puts: &[Option<f64>; 513]) -> [CallStep; 513]
+    ensures { result ≡ joined calls.now puts.now }
 {
     let none = CallStep::new();
     let mut steps = [none; 513];
@@ -44,8 +44,8 @@ fn above_at(step: usize) -> Result<(), Refusal>
 }
 
 // 38: a put above the call at a step, the lowest step its place.
-pub fn puts_below(steps: [CallStep; 513]) -> Result<(), Refusal>
-    ensures { result ≡ puts_below steps }
+pub fn puts_below(steps: &[CallStep; 513]) -> Result<(), Refusal>
+    ensures { result ≡ puts_below steps.now }
 {
     for i in 0..513 {
         if put_above(steps[i]) {

@@ -72,9 +72,16 @@ pub fn call_steps(
 {
     let leg = bond.leg;
     let units = bond.units;
-    let called = side_steps(Side::Call, axis, leg, units, calls)?;
-    let put = side_steps(Side::Put, axis, leg, units, bond.puts)?;
-    let calls = joined_steps(called, put);
-    puts_below(calls)?;
+    // A match and no `?`, which would copy the rows once more.
+    let called = match side_steps(Side::Call, axis, leg, units, calls) {
+        Ok(row) => row,
+        Err(refusal) => return Err(refusal),
+    };
+    let put = match side_steps(Side::Put, axis, leg, units, bond.puts) {
+        Ok(row) => row,
+        Err(refusal) => return Err(refusal),
+    };
+    let calls = joined_steps(&called, &put);
+    puts_below(&calls)?;
     Ok(calls)
 }

@@ -27,19 +27,17 @@ pub fn hand_grid(
     ensures { HandedGrid answer result place.new maturity.new steps.new cashflows.new
         marks.new prices.new put_marks.new put_prices.new }
 {
-    let grid = answer.grid;
-    let flows = grid.cashflows;
-    let calls = grid.calls;
+    let grid = &answer.grid;
     *maturity = grid.maturity_time;
     *steps = grid.steps;
-    *cashflows = flows;
-    let called = marks_of(Side::Call, calls);
+    *cashflows = grid.cashflows;
+    let called = marks_of(Side::Call, &grid.calls);
     *marks = called;
-    let call_priced = prices_of(Side::Call, calls);
+    let call_priced = prices_of(Side::Call, &grid.calls);
     *prices = call_priced;
-    let put = marks_of(Side::Put, calls);
+    let put = marks_of(Side::Put, &grid.calls);
     *put_marks = put;
-    let put_priced = prices_of(Side::Put, calls);
+    let put_priced = prices_of(Side::Put, &grid.calls);
     *put_prices = put_priced;
     hand_refusal(answer.refusal, place)
 }
@@ -69,7 +67,16 @@ pub fn hand_line(answer: ClosingLine, place: &mut u32, line: &mut [u8; 35]) -> u
 {
     let printed = answer.line;
     *line = printed;
-    hand_refusal(answer.refusal, place)
+    match answer.refusal {
+        None => {
+            *place = 0;
+            0
+        }
+        Some(refused) => {
+            *place = refused.place;
+            refused.number
+        }
+    }
 }
 
 pub fn hand_page(

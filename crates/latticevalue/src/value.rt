@@ -89,8 +89,8 @@ pub fn lattice_value(
 {
     let maturity = grid.maturity_time;
     let steps = grid.steps;
-    let marks = step_marks(grid.calls);
-    let prices = step_prices(grid.calls);
+    let marks = step_marks(&grid.calls);
+    let prices = step_prices(&grid.calls);
     let events = Events {
         cashflows: &grid.cashflows,
         marks: &marks,

@@ -2,26 +2,22 @@
 use Rattle.std.specs.Prelude.{ℕ, ◌+◌, ◌*◌, ◌%◌, ◌≤◌, ◌<◌, ◌≡◌, ◌↔◌, ◌⊎◌, Bool, true, false, cond, List, [], ◌∷◌, ◌++◌, take, drop, replicate, ℤ, Float, Ok, Err, Some, None}
 use Rattle.std.specs.Float.{fin}
 use Rattle.std.specs.Float.Ieee.{up, down}
-use Rattle.floats.specs.Reasons.{reason_number, refusal_number}
-use Rattle.floats.specs.declared.Refusal.{Refusal}
 use Rattle.decimal.specs.Examples.{bytes}
 use Rattle.terms.specs.Terms.{CallSchedule, Market}
 use Rattle.terms.specs.CallLists.{MadeFrom, StrikeAbove}
 use Rattle.lattice.specs.Layers.{Room}
 use Rattle.lattice.specs.laws.Proper.{Each}
-use Rattle.treebasedbondpricer.specs.declared.TreeValue.{TreeValue}
-use Rattle.floats.specs.Answers.{Outcome}
 use Rattle.treebasedbondpricer.specs.Tree.{tree_value, Lent, room_of, lent_after, zeroed}
+use Rattle.closingsheet.specs.declared.NumberedRefusal.{NumberedRefusal}
 use Rattle.closingsheet.specs.declared.ClosingLine.{ClosingLine}
 use Rattle.closingsheet.specs.Cells.{value_cell}
-use Rattle.closingsheet.specs.Sheet.{at, sheet_of}
+use Rattle.closingsheet.specs.Sheet.{NumberedAnswer, at, by_number, sheet_number, sheet_of}
 use Rattle.closingsheet.specs.Entry.{Filed}
 use Rattle.closingsheet.specs.HalfAway.{away_sheet, FiledAway, Alike}
 use Rattle.closingsheet.specs.Shown.{ValueColumns, RefusedColumns, Decimal, read_back, above, below, HalfCent, NoLower}
 use Rattle.promises.specs.RefusalNumbers.{Among, tree_refusals}
 use Rattle.promises.specs.Examples.{market99, call_from, lent}
 use Rattle.promises.specs.HostCallLists.{SheetCall}
-use Rattle.floats.specs.declared.Reason.TheVariants as reason
 
 -- Columns 7 to 22 of a line, and the decimal that they hold.
 abbrev pub value_columns : List ℕ → List ℕ
@@ -34,13 +30,13 @@ value_shown line = read_back (value_columns line)
 
 -- 31 stands for a value and for a refusal, and leaves the 35 bytes zero.
 pub record NoLine (r : ClosingLine) : Type 0 where
-  pub refusal : r.refusal ≡ Some (at reason.BondNumber 0)
+  pub refusal : r.refusal ≡ Some (at 31 0)
   pub line : r.line ≡ replicate 35 0
 
 -- A refusal's number in its columns, value and count blank, and its place handed up.
-pub record RefusalShown (bond : ℕ) (q : Refusal) (r : ClosingLine) : Type 0 where
+pub record RefusalShown (bond : ℕ) (q : NumberedRefusal) (r : ClosingLine) : Type 0 where
   pub refusal : r.refusal ≡ Some q
-  pub line : RefusedColumns bond (reason_number q.reason) r.line
+  pub line : RefusedColumns bond q.number r.line
 
 -- The value in its columns, within half a cent of the double once it is read back, and the count in its own.
 pub record ValueShown (bond : ℕ) (x : Float) (count : ℕ) (r : ClosingLine) : Type 0 where
@@ -49,10 +45,10 @@ pub record ValueShown (bond : ℕ) (x : Float) (count : ℕ) (r : ClosingLine) :
   pub near : HalfCent x (value_shown r.line)
 
 -- By the bond number, then by what the tree value answers.
-pub record Line (bond : ℕ) (answer : Outcome TreeValue) (r : ClosingLine) : Type 0 where
+pub record Line (bond : ℕ) (answer : NumberedAnswer) (r : ClosingLine) : Type 0 where
   pub out_of_range : (bond < 1) ⊎ (999999 < bond) → NoLine r
-  pub refused : 1 ≤ bond → bond ≤ 999999 → (q : Refusal) → answer ≡ Err q → RefusalShown bond q r
-  pub too_wide : 1 ≤ bond → bond ≤ 999999 → (x : Float) (n : ℕ) → answer ≡ Ok (record { value = x; nodes = n }) → ((value_cell x).wide ≡ true) ⊎ (99999999 < n) → RefusalShown bond (at reason.TooWide 0) r
+  pub refused : 1 ≤ bond → bond ≤ 999999 → (q : NumberedRefusal) → answer ≡ Err q → RefusalShown bond q r
+  pub too_wide : 1 ≤ bond → bond ≤ 999999 → (x : Float) (n : ℕ) → answer ≡ Ok (record { value = x; nodes = n }) → ((value_cell x).wide ≡ true) ⊎ (99999999 < n) → RefusalShown bond (at 32 0) r
   pub shown : 1 ≤ bond → bond ≤ 999999 → (x : Float) (n : ℕ) → answer ≡ Ok (record { value = x; nodes = n }) → (value_cell x).wide ≡ false → n ≤ 99999999 → ValueShown bond x n r
 
 -- Whatever is lent and given: the line is that of the tree value's answer, and the slices are left as it leaves them.
@@ -60,7 +56,7 @@ abbrev pub EveryLine : Type 0
 EveryLine =
     (bond : ℕ) (m : Market) (calls : CallSchedule) (r : ClosingLine) (before after : Lent)
     → Filed bond m calls r before after
-    → Line bond (tree_value m calls (room_of before)) r × (after ≡ lent_after m calls before)
+    → Line bond (by_number (tree_value m calls (room_of before))) r × (after ≡ lent_after m calls before)
 
 -- ---- 01's last example with a value, as bond 1
 
@@ -79,7 +75,7 @@ sheet_refusals = 31 ∷ 32 ∷ tree_refusals
 
 -- 0 where a value is shown.
 abbrev pub LineNumbers : Type 0
-LineNumbers = (bond : ℕ) (m : Market) (calls : CallSchedule) (room : Room) → Among (0 ∷ sheet_refusals) (refusal_number (sheet_of bond (tree_value m calls room)).refusal)
+LineNumbers = (bond : ℕ) (m : Market) (calls : CallSchedule) (room : Room) → Among (0 ∷ sheet_refusals) (sheet_number (sheet_of bond (by_number (tree_value m calls room))).refusal)
 
 -- Terms whose line ends in this number.
 pub record MetOnSheet (number : ℕ) : Type 0 where
@@ -87,7 +83,7 @@ pub record MetOnSheet (number : ℕ) : Type 0 where
   pub market : Market
   pub calls : CallSchedule
   pub room : Room
-  pub ends_in : refusal_number (sheet_of bond (tree_value market calls room)).refusal ≡ number
+  pub ends_in : sheet_number (sheet_of bond (by_number (tree_value market calls room))).refusal ≡ number
 
 -- None stands there in vain.
 abbrev pub EachMetOnSheet : Type 0
@@ -131,4 +127,4 @@ OnlyTheValue =
 
 -- So it is with the line of any answer, one that no tree value gives included.
 abbrev pub OnlyTheValueOf : Type 0
-OnlyTheValueOf = (bond : ℕ) (answer : Outcome TreeValue) → Alike (away_sheet bond answer) (sheet_of bond answer)
+OnlyTheValueOf = (bond : ℕ) (answer : NumberedAnswer) → Alike (away_sheet bond answer) (sheet_of bond answer)

@@ -13,7 +13,7 @@ use Rattle.lattice.specs.Layers.{Room}
 use Rattle.treebasedbondpricer.specs.Tree.{tree_value, Lent, room_of, lent_after}
 use Rattle.treebasedbondpricer.specs.CallLists.{AnyCurveRule}
 use Rattle.treebasedbondpricer.specs.PutLists.{AnyCurvePutRule}
-use Rattle.closingsheet.specs.Sheet.{sheet_of}
+use Rattle.closingsheet.specs.Sheet.{by_number, sheet_of}
 use Rattle.sizing.specs.Sizing.{sizes_of, nodes_after}
 use Rattle.spreads.specs.Spreads.{Quoted, spread_from_price}
 use Rattle.spreads.specs.Spreads as spreads
@@ -114,6 +114,6 @@ pub record WithoutPuts : Type 0 where
   pub slices : (m : Market) (calls : CallSchedule) (lent : Lent) → lent_after (with_puts m no_entries) calls lent ≡ callable.lent_after m calls lent
   pub roots : (asked : Quoted) (calls : CallSchedule) (room : Room) → spread_from_price (asked_with_puts asked no_entries) calls room ≡ callable.spread_from_price asked calls room
   pub spread-slices : (asked : Quoted) (calls : CallSchedule) (lent : Lent) → spreads.lent_after (asked_with_puts asked no_entries) calls lent ≡ callable.lent_after_spread asked calls lent
-  pub lines : (bond : ℕ) (m : Market) (calls : CallSchedule) (room : Room) → sheet_of bond (tree_value (with_puts m no_entries) calls room) ≡ sheet_of bond (callable.tree_value m calls room)
+  pub lines : (bond : ℕ) (m : Market) (calls : CallSchedule) (room : Room) → sheet_of bond (by_number (tree_value (with_puts m no_entries) calls room)) ≡ sheet_of bond (by_number (callable.tree_value m calls room))
   pub sizes : (m : Market) (calls : CallSchedule) (room : ℕ) → sizes_of (with_puts m no_entries) calls room ≡ callable.sizes_of m calls room
   pub node-slice : (m : Market) (calls : CallSchedule) (nodes : List ℤ) → nodes_after (with_puts m no_entries) calls nodes ≡ callable.nodes_after m calls nodes

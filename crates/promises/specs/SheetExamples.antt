@@ -1,5 +1,4 @@
 -- Values on the sheet as it once was, a half going away from zero, beside the rule in force, and lines of answers that are no number, computed by the checker.
-use Rattle.floats.specs.declared.Reason.TheVariants as reason
 use Rattle.std.specs.Prelude.{ℕ, ◌≡◌, refl, false, true, [], ◌∷◌, ◌++◌, Float, Ok, Some}
 use Prim.Native.String.{String}
 use Rattle.std.specs.Float.{nan, inf, binary64}
@@ -24,7 +23,7 @@ pub record Prints (bits : ℕ) (once now : String) : Type 0 where
 
 -- Bond 1's line of 32: value and count are blank.
 abbrev line32 : ClosingLine
-line32 = record { refusal = Some (at reason.TooWide 0); line = bytes "     1                          32" ++ (10 ∷ []) }
+line32 = record { refusal = Some (at 32 0); line = bytes "     1                          32" ++ (10 ∷ []) }
 
 -- Bond 1's line of a value with 2 nodes, as it was and as it is.
 pub record NotShown (x : Float) : Type 0 where

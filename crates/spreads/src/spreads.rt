@@ -112,10 +112,8 @@ fn solve_grid(
 {
     let maturity = grid.maturity_time;
     let steps = grid.steps;
-    let cashflows = grid.cashflows;
-    let calls = grid.calls;
-    let marks = step_marks(calls);
-    let prices = step_prices(calls);
+    let marks = step_marks(&grid.calls);
+    let prices = step_prices(&grid.calls);
     let mut counts = [0usize; 513];
     let mut spacings = [0.0; 512];
     let mut shifts = [0.0; 512];
@@ -124,7 +122,7 @@ fn solve_grid(
         maturity,
         steps,
         Events {
-            cashflows: &cashflows,
+            cashflows: &grid.cashflows,
             marks: &marks,
             prices: &prices,
         },
@@ -158,8 +156,16 @@ fn checked_spread(
     requires curve_times_value { curve_times.now ≡ pillar_times market.settlement market.pillars.days.now }
     ensures { result ≡ found_for (quoted_of market.entry) (calls_in calls) (room_in nodes probabilities first second) }
 {
-    let answer = event_grid(market.settlement, market.bond, calls, market.controls);
-    let grid = counted(answer, 1)?;
+    // A match and no `?`, which would copy the grid once more.
+    let grid = match event_grid(market.settlement, market.bond, calls, market.controls) {
+        Ok(grid) => grid,
+        Err(refusal) => {
+            return Err(NoRoot {
+                refusal,
+                evaluations: 1,
+            });
+        }
+    };
     let curve = Curve {
         times: curve_times,
         factors: market.pillars.factors,

@@ -113,10 +113,8 @@ fn row_on(
 {
     let maturity = grid.maturity_time;
     let steps = grid.steps;
-    let cashflows = grid.cashflows;
-    let calls = grid.calls;
-    let marks = step_marks(calls);
-    let prices = step_prices(calls);
+    let marks = step_marks(&grid.calls);
+    let prices = step_prices(&grid.calls);
     let mut counts = [0usize; 513];
     let mut spacings = [0.0; 512];
     let mut shifts = [0.0; 512];
@@ -126,7 +124,7 @@ fn row_on(
         maturity,
         steps,
         Events {
-            cashflows: &cashflows,
+            cashflows: &grid.cashflows,
             marks: &marks,
             prices: &prices,
         },

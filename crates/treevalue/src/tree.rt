@@ -33,7 +33,11 @@ pub fn checked_value(
     requires curve_times_value { curve_times.now ≡ pillar_times market.settlement market.pillars.days.now }
     ensures { result ≡ value_on (market_in market) (calls_in calls) (room_in nodes probabilities first second) }
 {
-    let grid = event_grid(market.settlement, market.bond, calls, market.controls)?;
+    // A match and no `?`, which would copy the grid once more.
+    let grid = match event_grid(market.settlement, market.bond, calls, market.controls) {
+        Ok(grid) => grid,
+        Err(refusal) => return Err(refusal),
+    };
     let curve = Curve {
         times: curve_times,
         factors: market.pillars.factors,

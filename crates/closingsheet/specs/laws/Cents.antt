@@ -9,8 +9,7 @@ use Rattle.std.specs.Float.Ieee.{up, down}
 use Rattle.std.specs.Float.Ieee.Fits.{down_pos}
 use Rattle.std.specs.Float.Ieee.Nearest.{closest, nearest-ge}
 use Rattle.rounded.specs.laws.RoundToOdd.{ordered}
-use Rattle.std.specs.Prelude.{Option, Some, None}
-use Rattle.decimal.specs.declared.Rounded.{Rounded}
+use Rattle.std.specs.Prelude.{Some, None}
 use Rattle.decimal.specs.Writing.{in_units}
 use Rattle.closingsheet.specs.Cells.{fitting, printed_of}
 use Rattle.closingsheet.specs.HalfAway.{in_cents}

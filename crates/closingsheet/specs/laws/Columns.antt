@@ -3,8 +3,6 @@ use Rattle.std.specs.Prelude.{ℕ, zero, suc, ◌+◌, ◌-◌, ◌/◌, ◌%◌
 use Rattle.std.proofs.Common.{sym, ap, ◌∙◌, inl, inr, add-zero, add-suc, suc-add, div-lt_iff_lt-mul, mul_comm, lt_of_lt_of_le, le_of_eq, eq-or-lt_of_le, arith, lt-ltb, ne_eqb, length-set, get_or-take, get_or-set_same, get_or-set_other, length-take-le}
 use Rattle.std.proofs.Math.Nat.{pow-succ'}
 use Rattle.std.proofs.lemmas.List.{length-replicate, get_or-replicate}
-use Rattle.floats.specs.declared.Refusal.{Refusal}
-use Rattle.floats.specs.Reasons.{reason_number}
 use Rattle.rounded.specs.laws.RoundToOdd.{ordered}
 use Rattle.decimal.specs.declared.Rounded.{Rounded}
 use Rattle.std.specs.Prelude.{Option, Some, None}
@@ -14,7 +12,8 @@ use Rattle.bondreport.specs.Numbers.{byte_left, digits_left, width_from, width_o
 use Rattle.bondreport.specs.Figures.{before, put_whole, point_left, minus_left, decimals_left}
 use Rattle.closingsheet.specs.Cells.{cell_of}
 use Rattle.closingsheet.specs.Shown.{ValueColumns, RefusedColumns}
-use Rattle.closingsheet.specs.Sheet.{at, numbered, refused_sheet, shown_sheet}
+use Rattle.closingsheet.specs.declared.NumberedRefusal.{NumberedRefusal}
+use Rattle.closingsheet.specs.Sheet.{at, numbered, number_line, refused_sheet, shown_sheet}
 
 -- ---- a text that is put changes its own columns only
 
@@ -199,8 +198,9 @@ value_columns_lem bond count cell h l =
     behind : (i : ℕ) → 30 ≤ i → i < 35 → get_or (take 35 filled) i 0 ≡ get_or (numbered bond) i 0
     behind i p q = cut i q ∙ put_other cell counted 6 i (inr (omega arith)) ∙ whole-other (numbered bond) 30 count i (inr p)
 
-pub refused-columns : (bond : ℕ) (q : Refusal) → reason_number q.reason ≤ 9999 → RefusedColumns bond (reason_number q.reason) (refused_sheet bond q).line
-refused-columns bond q h =
+-- Of any number, whatever numbers refusals have.
+pub number-columns : (bond n : ℕ) → n ≤ 9999 → RefusedColumns bond n (number_line (numbered bond) n)
+number-columns bond n h =
     record {
       size = length-take-le 35 filled (omega (arith, filled-length));
       number = λ i p. front i (omega arith) ∙ numbered-bond bond i (omega arith);
@@ -208,18 +208,21 @@ refused-columns bond q h =
       refusal =
           λ i p r.
           get_or-take 35 filled i 0 (omega arith)
-          ∙ whole-alike (numbered bond) blank_line 34 (reason_number q.reason) i (numbered-length bond ∙ sym (blank-length)) (omega (arith, numbered-length bond)) (numbered_as_blank bond i (omega arith) r);
-      newline = get_or-take 35 filled 34 0 (omega arith) ∙ whole-other (numbered bond) 34 (reason_number q.reason) 34 (inr (omega arith)) ∙ numbered-newline bond;
+          ∙ whole-alike (numbered bond) blank_line 34 n i (numbered-length bond ∙ sym (blank-length)) (omega (arith, numbered-length bond)) (numbered_as_blank bond i (omega arith) r);
+      newline = get_or-take 35 filled 34 0 (omega arith) ∙ whole-other (numbered bond) 34 n 34 (inr (omega arith)) ∙ numbered-newline bond;
     }
   where
     filled : List ℕ
-    filled = put_whole (numbered bond) 34 (reason_number q.reason)
+    filled = put_whole (numbered bond) 34 n
 
     filled-length : length filled ≡ 80
-    filled-length = whole_length (numbered bond) 34 (reason_number q.reason) ∙ numbered-length bond
+    filled-length = whole_length (numbered bond) 34 n ∙ numbered-length bond
 
     front : (i : ℕ) → i < 30 → get_or (take 35 filled) i 0 ≡ get_or (numbered bond) i 0
-    front i p = get_or-take 35 filled i 0 (omega arith) ∙ whole-other (numbered bond) 34 (reason_number q.reason) i (inl (omega (arith, four-digits (reason_number q.reason) h)))
+    front i p = get_or-take 35 filled i 0 (omega arith) ∙ whole-other (numbered bond) 34 n i (inl (omega (arith, four-digits n h)))
+
+pub refused-columns : (bond : ℕ) (q : NumberedRefusal) → q.number ≤ 9999 → RefusedColumns bond q.number (refused_sheet bond q).line
+refused-columns bond q h = number-columns bond q.number h
 
 -- ---- the value's cell
 

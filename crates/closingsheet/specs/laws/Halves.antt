@@ -15,15 +15,12 @@ use Rattle.decimal.specs.declared.Rounded.{Rounded}
 use Rattle.decimal.specs.Writing.{in_units}
 use Rattle.bondreport.specs.Columns.{put_at}
 use Rattle.bondreport.specs.Figures.{put_whole}
-use Rattle.treebasedbondpricer.specs.declared.TreeValue.{TreeValue}
-use Rattle.floats.specs.Answers.{Outcome}
 use Rattle.closingsheet.specs.declared.ClosingLine.{ClosingLine}
 use Rattle.closingsheet.specs.laws.Columns.{cell-length}
 use Rattle.closingsheet.specs.Cells.{ValueCell, printed_of, cell_of, value_cell}
-use Rattle.closingsheet.specs.Sheet.{at, numbered, refused_sheet, shown_sheet, value_sheet, no_sheet, answer_sheet, sheet_by, sheet_of}
+use Rattle.closingsheet.specs.Sheet.{NumberedAnswer, at, numbered, refused_sheet, shown_sheet, value_sheet, no_sheet, answer_sheet, sheet_by, sheet_of}
 use Rattle.closingsheet.specs.HalfAway.{half_away, in_cents, printed_away, away_cell, away_sheet, Alike}
 use Rattle.closingsheet.specs.laws.Cents.{cents_are}
-use Rattle.floats.specs.declared.Reason.TheVariants as reason
 
 -- ---- 32 is the same: 99,999,999,999,999 is odd, so a half above it goes up both ways
 
@@ -133,7 +130,7 @@ module _ (bond count : ℕ) where
   values u v e p q = subst (λ (b : Bool). Alike (value_sheet bond u count) (by b v.cell)) e (go u.wide (ltb 99999999 count))
     where
       r32 : ClosingLine
-      r32 = refused_sheet bond (at reason.TooWide 0)
+      r32 = refused_sheet bond (at 32 0)
 
       by : Bool → List ℕ → ClosingLine
       by b cell = cond b r32 (cond (ltb 99999999 count) r32 (shown_sheet bond count cell))
@@ -143,13 +140,13 @@ module _ (bond count : ℕ) where
       go false true = alike r32
       go false false = cells u.cell v.cell p q
 
-answers : (bond : ℕ) (answer : Outcome TreeValue) → Alike (answer_sheet away_cell bond answer) (answer_sheet value_cell bond answer)
+answers : (bond : ℕ) (answer : NumberedAnswer) → Alike (answer_sheet away_cell bond answer) (answer_sheet value_cell bond answer)
 unfolding answer_sheet
 answers bond (Ok v) = values bond v.nodes (away_cell v.value) (value_cell v.value) (same_width v.value) (le_of_eq (cell-length (printed_away v.value))) (le_of_eq (cell-length (printed_of v.value)))
 answers bond (Err q) = alike (refused_sheet bond q)
 
 -- For every bond number and every answer of the tree value.
-pub nothing_else : (bond : ℕ) (answer : Outcome TreeValue) → Alike (away_sheet bond answer) (sheet_of bond answer)
+pub nothing_else : (bond : ℕ) (answer : NumberedAnswer) → Alike (away_sheet bond answer) (sheet_of bond answer)
 unfolding sheet_by
 nothing_else bond answer = go (ltb bond 1) (ltb 999999 bond)
   where

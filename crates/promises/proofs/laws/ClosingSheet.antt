@@ -1,6 +1,5 @@
 -- The promises of the closing sheet's lines. Assumes nothing.
-use Rattle.floats.specs.declared.Reason.TheVariants as reason
-use Rattle.floats.specs.Reasons.{reason_number, refusal_number}
+use Rattle.floats.specs.Reasons.{reason_number}
 use Rattle.std.specs.Prelude.{ℕ, ◌≤◌, ◌<◌, ◌≡◌, refl, ◌↔◌, ◌⊎◌, Bool, true, false, cond, ◌&&◌, List, [], ◌∷◌, T, eqb, ltb, length, drop, Float, Ok, Err}
 use Rattle.std.proofs.Common.{sym, ap, subst, ◌∙◌, inl, inr, arith, lt-ltb, le-ltb, eqb→eq, ltb→lt, length-drop, get_or-take, get_or-drop, length-take-le, ext_get_or}
 use Rattle.std.specs.Float.Ieee.{le}
@@ -26,9 +25,10 @@ use Rattle.treebasedbondpricer.specs.declared.TreeValue.{TreeValue}
 use Rattle.treebasedbondpricer.specs.Tree.{tree_value, room_of, lent_after, number_of}
 use Rattle.treebasedbondpricer.specs.CallLists.{NoLowerOr27, accepted, refused_27}
 use Rattle.treebasedbondpricer.proofs.laws.CallLists.{call_list_rule}
+use Rattle.closingsheet.specs.declared.NumberedRefusal.{NumberedRefusal}
 use Rattle.closingsheet.specs.declared.ClosingLine.{ClosingLine}
 use Rattle.closingsheet.specs.Cells.{printed_of, value_cell}
-use Rattle.closingsheet.specs.Sheet.{at, refused_sheet, shown_sheet, value_sheet, answer_sheet, no_sheet, sheet_by, sheet_of}
+use Rattle.closingsheet.specs.Sheet.{NumberedAnswer, at, with_number, by_number, sheet_number, refused_sheet, shown_sheet, value_sheet, answer_sheet, no_sheet, sheet_by, sheet_of}
 use Rattle.closingsheet.specs.Shown.{ValueColumns, RefusedColumns, read_back, HalfCent, NoLower}
 use Rattle.closingsheet.specs.laws.Columns.{value_columns_lem, refused-columns, cell-length}
 use Rattle.closingsheet.specs.laws.HalfCents.{within_half_a_cent, printed-no_lower, half_to_even}
@@ -41,9 +41,9 @@ use Rattle.promises.proofs.laws.NumbersMet.{each_met}
 
 -- ---- a line in range shows a refusal, or 32, or a value
 
-pub data Shows (bond : ℕ) : Outcome TreeValue → ClosingLine → Type 0 where
-  a_refusal : {q : Refusal} → Shows bond (Err q) (refused_sheet bond q)
-  too_wide : {x : Float} {n : ℕ} → ((value_cell x).wide ≡ true) ⊎ (99999999 < n) → Shows bond (Ok (record { value = x; nodes = n })) (refused_sheet bond (at reason.TooWide 0))
+pub data Shows (bond : ℕ) : NumberedAnswer → ClosingLine → Type 0 where
+  a_refusal : {q : NumberedRefusal} → Shows bond (Err q) (refused_sheet bond q)
+  too_wide : {x : Float} {n : ℕ} → ((value_cell x).wide ≡ true) ⊎ (99999999 < n) → Shows bond (Ok (record { value = x; nodes = n })) (refused_sheet bond (at 32 0))
   a_value : {x : Float} {n : ℕ} → (value_cell x).wide ≡ false → n ≤ 99999999 → Shows bond (Ok (record { value = x; nodes = n })) (shown_sheet bond n (value_cell x).cell)
 
 decided : (b : Bool) → (b ≡ true) ⊎ (b ≡ false)
@@ -57,7 +57,7 @@ value-shows : (bond : ℕ) (x : Float) (n : ℕ) → Shows bond (Ok (record { va
 value-shows bond x n = go (decided (value_cell x).wide) (ordered n 99999999)
   where
     r32 : ClosingLine
-    r32 = refused_sheet bond (at reason.TooWide 0)
+    r32 = refused_sheet bond (at 32 0)
 
     shown : ClosingLine
     shown = shown_sheet bond n (value_cell x).cell
@@ -71,17 +71,17 @@ value-shows bond x n = go (decided (value_cell x).wide) (ordered n 99999999)
         subst (λ (b : Bool). Shows bond (Ok (record { value = x; nodes = n })) (cond b r32 (cond (ltb 99999999 n) r32 shown))) (sym w)
         (subst (λ (b : Bool). Shows bond (Ok (record { value = x; nodes = n })) (cond b r32 shown)) (sym (lt-ltb 99999999 n h)) (too_wide (inr h)))
 
-pub shows : (bond : ℕ) (v : Outcome TreeValue) → 1 ≤ bond → bond ≤ 999999 → Shows bond v (sheet_of bond v)
+pub shows : (bond : ℕ) (v : NumberedAnswer) → 1 ≤ bond → bond ≤ 999999 → Shows bond v (sheet_of bond v)
 unfolding sheet_by answer_sheet
 shows bond v f l =
     subst (λ (b : Bool). Shows bond v (cond b no_sheet (cond (ltb 999999 bond) no_sheet (answer_sheet value_cell bond v)))) (sym (le-ltb bond 1 f))
     (subst (λ (b : Bool). Shows bond v (cond b no_sheet (answer_sheet value_cell bond v))) (sym (le-ltb 999999 bond l)) (go v))
   where
-    go : (v : Outcome TreeValue) → Shows bond v (answer_sheet value_cell bond v)
+    go : (v : NumberedAnswer) → Shows bond v (answer_sheet value_cell bond v)
     go (Ok v) = value-shows bond v.value v.nodes
     go (Err q) = a_refusal
 
-no_line : (bond : ℕ) (v : Outcome TreeValue) → (bond < 1) ⊎ (999999 < bond) → sheet_of bond v ≡ no_sheet
+no_line : (bond : ℕ) (v : NumberedAnswer) → (bond < 1) ⊎ (999999 < bond) → sheet_of bond v ≡ no_sheet
 unfolding sheet_by
 no_line bond v (inl h) = ap (λ (b : Bool). cond b no_sheet (cond (ltb 999999 bond) no_sheet (answer_sheet value_cell bond v))) (lt-ltb bond 1 h)
 no_line bond v (inr h) = either (ltb bond 1) (ap (λ (b : Bool). cond b no_sheet (answer_sheet value_cell bond v)) (lt-ltb 999999 bond h))
@@ -109,6 +109,10 @@ few_in_lem (k ∷ ks) t n h =
 few : (n : ℕ) → Among tree_refusals n → n ≤ 9999
 few n h = few_in_lem tree_refusals tt n h.is_one
 
+few_by_number : (w : Outcome TreeValue) → ((q : Refusal) → w ≡ Err q → reason_number q.reason ≤ 9999) → (q : NumberedRefusal) → by_number w ≡ Err q → q.number ≤ 9999
+few_by_number (Ok v) p q e = absurd (let z : ◌≡◌ {A = ℕ} 0 1 = cc in omega arith)
+few_by_number (Err r) p q e = let same : with_number r ≡ q = cc in subst (λ (z : NumberedRefusal). z.number ≤ 9999) same (p r refl)
+
 value-back : (bond n : ℕ) (cell line : List ℕ) → length cell ≡ 16 → ValueColumns bond n cell line → value_columns line ≡ cell
 value-back bond n cell line l c =
     ext_get_or 0 (value_columns line) cell (sixteen ∙ sym l)
@@ -129,24 +133,24 @@ module _ (bond : ℕ) where
   value_shown_lem x n w h =
       record { refusal = refl; line = shown-columns x n h; near = subst (HalfCent x) (sym (shown-back x n h)) (within_half_a_cent x w) }
 
-  refusal-shown : (q : Refusal) → (reason_number q.reason) ≤ 9999 → RefusalShown bond q (refused_sheet bond q)
+  refusal-shown : (q : NumberedRefusal) → q.number ≤ 9999 → RefusalShown bond q (refused_sheet bond q)
   refusal-shown q h = record { refusal = refl; line = refused-columns bond q h }
 
   -- What a line in range shows of an answer whose refusals have at most four digits.
-  line_of : (v : Outcome TreeValue) → ((q : Refusal) → v ≡ Err q → (reason_number q.reason) ≤ 9999) → Line bond v (sheet_of bond v)
+  line_of : (v : NumberedAnswer) → ((q : NumberedRefusal) → v ≡ Err q → q.number ≤ 9999) → Line bond v (sheet_of bond v)
   line_of v refusals =
       record {
         out_of_range = λ o. subst NoLine (sym (no_line bond v o)) (record { refusal = refl; line = refl });
-        refused = λ f l q e. subst (λ (z : Outcome TreeValue). RefusalShown bond q (sheet_of bond z)) (sym e) (by_refusal q (sheet_of bond (Err q)) (shows bond (Err q) f l) (refusals q e));
-        too_wide = λ f l x n e o. subst (λ (z : Outcome TreeValue). RefusalShown bond (at reason.TooWide 0) (sheet_of bond z)) (sym e) (by_32 x n (sheet_of bond (Ok (record { value = x; nodes = n }))) (shows bond (Ok (record { value = x; nodes = n })) f l) o);
-        shown = λ f l x n e w h. subst (λ (z : Outcome TreeValue). ValueShown bond x n (sheet_of bond z)) (sym e) (by_value x n (sheet_of bond (Ok (record { value = x; nodes = n }))) (shows bond (Ok (record { value = x; nodes = n })) f l) w h);
+        refused = λ f l q e. subst (λ (z : NumberedAnswer). RefusalShown bond q (sheet_of bond z)) (sym e) (by_refusal q (sheet_of bond (Err q)) (shows bond (Err q) f l) (refusals q e));
+        too_wide = λ f l x n e o. subst (λ (z : NumberedAnswer). RefusalShown bond (at 32 0) (sheet_of bond z)) (sym e) (by_32 x n (sheet_of bond (Ok (record { value = x; nodes = n }))) (shows bond (Ok (record { value = x; nodes = n })) f l) o);
+        shown = λ f l x n e w h. subst (λ (z : NumberedAnswer). ValueShown bond x n (sheet_of bond z)) (sym e) (by_value x n (sheet_of bond (Ok (record { value = x; nodes = n }))) (shows bond (Ok (record { value = x; nodes = n })) f l) w h);
       }
     where
-      by_refusal : (q : Refusal) (r : ClosingLine) → Shows bond (Err q) r → (reason_number q.reason) ≤ 9999 → RefusalShown bond q r
+      by_refusal : (q : NumberedRefusal) (r : ClosingLine) → Shows bond (Err q) r → q.number ≤ 9999 → RefusalShown bond q r
       by_refusal q r a_refusal h = refusal-shown q h
 
-      by_32 : (x : Float) (n : ℕ) (r : ClosingLine) → Shows bond (Ok (record { value = x; nodes = n })) r → ((value_cell x).wide ≡ true) ⊎ (99999999 < n) → RefusalShown bond (at reason.TooWide 0) r
-      by_32 x n r (too_wide p) o = refusal-shown (at reason.TooWide 0) (omega arith)
+      by_32 : (x : Float) (n : ℕ) (r : ClosingLine) → Shows bond (Ok (record { value = x; nodes = n })) r → ((value_cell x).wide ≡ true) ⊎ (99999999 < n) → RefusalShown bond (at 32 0) r
+      by_32 x n r (too_wide p) o = refusal-shown (at 32 0) (omega arith)
       by_32 x n r (a_value w h) (inl v) = absurd (subst T (sym v ∙ w) tt)
       by_32 x n r (a_value w h) (inr l) = absurd (both n h l)
 
@@ -157,8 +161,9 @@ module _ (bond : ℕ) where
 
 pub every-line : EveryLine
 every-line bond m calls r before after f = (
-  subst (Line bond (tree_value m calls (room_of before))) (sym f.sheet)
-      (line_of bond (tree_value m calls (room_of before)) λ q e. few (reason_number q.reason) (tree_numbers_lem m calls (room_of before) q e)),
+  subst (Line bond (by_number (tree_value m calls (room_of before)))) (sym f.sheet)
+      (line_of bond (by_number (tree_value m calls (room_of before)))
+      (few_by_number (tree_value m calls (room_of before)) λ q e. few (reason_number q.reason) (tree_numbers_lem m calls (room_of before) q e))),
   f.slices,
 )
 
@@ -183,16 +188,16 @@ line-numbers bond m calls room = go (ordered 1 bond) (ordered bond 999999)
     v : Outcome TreeValue
     v = tree_value m calls room
 
-    none : (bond < 1) ⊎ (999999 < bond) → Among (0 ∷ sheet_refusals) (refusal_number (sheet_of bond v).refusal)
-    none o = subst (λ (s : ClosingLine). Among (0 ∷ sheet_refusals) (refusal_number s.refusal)) (sym (no_line bond v o)) (record { is_one = tt })
+    none : (bond < 1) ⊎ (999999 < bond) → Among (0 ∷ sheet_refusals) (sheet_number (sheet_of bond (by_number v)).refusal)
+    none o = subst (λ (s : ClosingLine). Among (0 ∷ sheet_refusals) (sheet_number s.refusal)) (sym (no_line bond (by_number v) o)) (record { is_one = tt })
 
-    by : (w : Outcome TreeValue) (r : ClosingLine) → Shows bond w r → ((q : Refusal) → w ≡ Err q → Among tree_refusals (reason_number q.reason)) → Among (0 ∷ sheet_refusals) (refusal_number r.refusal)
+    by : (w : Outcome TreeValue) (r : ClosingLine) → Shows bond (by_number w) r → ((q : Refusal) → w ≡ Err q → Among tree_refusals (reason_number q.reason)) → Among (0 ∷ sheet_refusals) (sheet_number r.refusal)
     by (Err q) r a_refusal p = of_tree (reason_number q.reason) (p q refl)
     by (Ok x) r (too_wide o) p = record { is_one = tt }
     by (Ok x) r (a_value w h) p = record { is_one = tt }
 
-    go : (1 ≤ bond) ⊎ (bond < 1) → (bond ≤ 999999) ⊎ (999999 < bond) → Among (0 ∷ sheet_refusals) (refusal_number (sheet_of bond v).refusal)
-    go (inl f) (inl l) = by v (sheet_of bond v) (shows bond v f l) (tree_numbers_lem m calls room)
+    go : (1 ≤ bond) ⊎ (bond < 1) → (bond ≤ 999999) ⊎ (999999 < bond) → Among (0 ∷ sheet_refusals) (sheet_number (sheet_of bond (by_number v)).refusal)
+    go (inl f) (inl l) = by v (sheet_of bond (by_number v)) (shows bond (by_number v) f l) (tree_numbers_lem m calls room)
     go (inr f) o = none (inl f)
     go (inl f) (inr l) = none (inr l)
 
@@ -217,7 +222,7 @@ unfolding sheet_by answer_sheet
 met_by_tree none = none
 met_by_tree (more p ps) =
     more
-    (record { bond = 1; market = p.market; calls = p.calls; room = p.room; ends_in = ap (λ (w : Outcome TreeValue). refusal_number (sheet_of 1 w).refusal) p.refused ∙ p.numbered })
+    (record { bond = 1; market = p.market; calls = p.calls; room = p.room; ends_in = ap (λ (w : Outcome TreeValue). sheet_number (sheet_of 1 (by_number w)).refusal) p.refused ∙ p.numbered })
     (met_by_tree ps)
 
 pub each_met_on_sheet : EachMetOnSheet
@@ -238,9 +243,9 @@ record Valued (bond : ℕ) (v : Outcome TreeValue) (r : ClosingLine) : Type 0 wh
   pub value : Float
   pub count : ℕ
   pub is : v ≡ Ok (record { value = value; nodes = count })
-  pub shown : (refusal_number r.refusal) ≡ 0 → ShownAs bond value count r.line
+  pub shown : (sheet_number r.refusal) ≡ 0 → ShownAs bond value count r.line
 
-valued : (bond : ℕ) (v : Outcome TreeValue) → ((q : Refusal) → v ≡ Err q → Among tree_refusals (reason_number q.reason)) → ((refusal_number (sheet_of bond v).refusal) ≡ 0) ⊎ ((refusal_number (sheet_of bond v).refusal) ≡ 32) → Valued bond v (sheet_of bond v)
+valued : (bond : ℕ) (v : Outcome TreeValue) → ((q : Refusal) → v ≡ Err q → Among tree_refusals (reason_number q.reason)) → ((sheet_number (sheet_of bond (by_number v)).refusal) ≡ 0) ⊎ ((sheet_number (sheet_of bond (by_number v)).refusal) ≡ 32) → Valued bond v (sheet_of bond (by_number v))
 valued bond v refusals z = go (ordered 1 bond) (ordered bond 999999)
   where
     -- 31 is neither, and no refusal of the tree value is.
@@ -256,35 +261,35 @@ valued bond v refusals z = go (ordered 1 bond) (ordered bond 999999)
     not_0 e = omega arith
 
     out : (bond < 1) ⊎ (999999 < bond) → ⊥
-    out o = not_31 (ap (λ (s : ClosingLine). refusal_number s.refusal) (no_line bond v o)) z
+    out o = not_31 (ap (λ (s : ClosingLine). sheet_number s.refusal) (no_line bond (by_number v) o)) z
 
-    by : (w : Outcome TreeValue) (r : ClosingLine) → 1 ≤ bond → bond ≤ 999999 → Shows bond w r → ((q : Refusal) → w ≡ Err q → Among tree_refusals (reason_number q.reason)) → ((refusal_number r.refusal) ≡ 0) ⊎ ((refusal_number r.refusal) ≡ 32) → Valued bond w r
+    by : (w : Outcome TreeValue) (r : ClosingLine) → 1 ≤ bond → bond ≤ 999999 → Shows bond (by_number w) r → ((q : Refusal) → w ≡ Err q → Among tree_refusals (reason_number q.reason)) → ((sheet_number r.refusal) ≡ 0) ⊎ ((sheet_number r.refusal) ≡ 32) → Valued bond w r
     by (Err q) r f l a_refusal p e = absurd (not_refused (p q refl) e)
     by (Ok v) r f l (too_wide o) p e = record { first_bond = f; last_bond = l; value = v.value; count = v.nodes; is = refl; shown = λ z. absurd (not_0 z) }
     by (Ok v) r f l (a_value w h) p e = record { first_bond = f; last_bond = l; value = v.value; count = v.nodes; is = refl; shown = λ _. record { narrow = w; few-nodes = h; is = refl } }
 
-    go : (1 ≤ bond) ⊎ (bond < 1) → (bond ≤ 999999) ⊎ (999999 < bond) → Valued bond v (sheet_of bond v)
-    go (inl f) (inl l) = by v (sheet_of bond v) f l (shows bond v f l) refusals z
+    go : (1 ≤ bond) ⊎ (bond < 1) → (bond ≤ 999999) ⊎ (999999 < bond) → Valued bond v (sheet_of bond (by_number v))
+    go (inl f) (inl l) = by v (sheet_of bond (by_number v)) f l (shows bond (by_number v) f l) refusals z
     go (inr f) o = absurd (out (inl f))
     go (inl f) (inr l) = absurd (out (inr l))
 
 module _ (bond : ℕ) where
   -- A second value no lower than a first, whether or not that is shown, or 27.
-  thinned : (x : Float) (n : ℕ) (first : ClosingLine) → ((refusal_number first.refusal) ≡ 0 → ShownAs bond x n first.line) → (w : Outcome TreeValue) (r : ClosingLine) → Shows bond w r → NoLowerOr27 x w
-      → (((refusal_number r.refusal) ≡ 0) × ((refusal_number first.refusal) ≡ 0 → NoLower (value_shown first.line) (value_shown r.line))) ⊎ (((refusal_number r.refusal) ≡ 27) ⊎ ((refusal_number r.refusal) ≡ 32))
+  thinned : (x : Float) (n : ℕ) (first : ClosingLine) → ((sheet_number first.refusal) ≡ 0 → ShownAs bond x n first.line) → (w : Outcome TreeValue) (r : ClosingLine) → Shows bond (by_number w) r → NoLowerOr27 x w
+      → (((sheet_number r.refusal) ≡ 0) × ((sheet_number first.refusal) ≡ 0 → NoLower (value_shown first.line) (value_shown r.line))) ⊎ (((sheet_number r.refusal) ≡ 27) ⊎ ((sheet_number r.refusal) ≡ 32))
   thinned x n first shown (Err q) r a_refusal refused_27 = inr (inl refl)
   thinned x n first shown (Ok y) r (too_wide o) p = inr (inr refl)
   thinned x n first shown (Ok v) r (a_value w g) (accepted l) = inl (refl, λ z. let s = shown z in rw (s.is, shown-back bond x n s.few-nodes, shown-back bond v.value v.nodes g) (printed-no_lower x v.value s.narrow w l))
 
   -- A line shows 4 where the tree value is refused with 4, and only there.
-  same_4 : (w : Outcome TreeValue) (r : ClosingLine) → Shows bond w r → ((refusal_number r.refusal) ≡ 4) ↔ (number_of w ≡ 4)
+  same_4 : (w : Outcome TreeValue) (r : ClosingLine) → Shows bond (by_number w) r → ((sheet_number r.refusal) ≡ 4) ↔ (number_of w ≡ 4)
   same_4 (Err q) r a_refusal = ((λ e. e), (λ e. e))
   same_4 (Ok y) r (too_wide o) = ((λ (e : ◌≡◌ {A = ℕ} 32 4). omega arith), (λ (e : ◌≡◌ {A = ℕ} 0 4). omega arith))
   same_4 (Ok y) r (a_value w g) = ((λ (e : ◌≡◌ {A = ℕ} 0 4). omega arith), (λ (e : ◌≡◌ {A = ℕ} 0 4). omega arith))
 
-  in_columns : (w : Outcome TreeValue) (r : ClosingLine) → Shows bond w r → ((q : Refusal) → w ≡ Err q → (reason_number q.reason) ≤ 9999) → ((refusal_number r.refusal) ≡ 0 → ⊥) → RefusedColumns bond (refusal_number r.refusal) r.line
-  in_columns (Err q) r a_refusal p z = refused-columns bond q (p q refl)
-  in_columns (Ok y) r (too_wide o) p z = refused-columns bond (at reason.TooWide 0) (omega arith)
+  in_columns : (w : Outcome TreeValue) (r : ClosingLine) → Shows bond (by_number w) r → ((q : Refusal) → w ≡ Err q → (reason_number q.reason) ≤ 9999) → ((sheet_number r.refusal) ≡ 0 → ⊥) → RefusedColumns bond (sheet_number r.refusal) r.line
+  in_columns (Err q) r a_refusal p z = refused-columns bond (with_number q) (p q refl)
+  in_columns (Ok y) r (too_wide o) p z = refused-columns bond (at 32 0) (omega arith)
   in_columns (Ok y) r (a_value w g) p z = absurd (z refl)
 
 pub line_call_list_rule : LineCallListRule
@@ -294,18 +299,18 @@ line_call_list_rule bond m first second made a b as_long z =
     let room = room_of a.lent in
     let v = tree_value m first room in
     let w = tree_value m second room in
-    let number : b.number ≡ (refusal_number (sheet_of bond w).refusal) = q.number_is ∙ ap (λ (r : Room). (refusal_number (sheet_of bond (tree_value m second r)).refusal)) as_long in
-    let line : b.line ≡ (sheet_of bond w).line = q.line_is ∙ ap (λ (r : Room). (sheet_of bond (tree_value m second r)).line) as_long in
-    let first-number : a.number ≡ (refusal_number (sheet_of bond v).refusal) = p.number_is in
-    let first-line : a.line ≡ (sheet_of bond v).line = p.line_is in
+    let number : b.number ≡ (sheet_number (sheet_of bond (by_number w)).refusal) = q.number_is ∙ ap (λ (r : Room). (sheet_number (sheet_of bond (by_number (tree_value m second r))).refusal)) as_long in
+    let line : b.line ≡ (sheet_of bond (by_number w)).line = q.line_is ∙ ap (λ (r : Room). (sheet_of bond (by_number (tree_value m second r))).line) as_long in
+    let first-number : a.number ≡ (sheet_number (sheet_of bond (by_number v)).refusal) = p.number_is in
+    let first-line : a.line ≡ (sheet_of bond (by_number v)).line = p.line_is in
     let has = valued bond v (tree_numbers_lem m first room) (subst (λ (k : ℕ). (k ≡ 0) ⊎ (k ≡ 32)) first-number z) in
-    let show = shows bond w has.first_bond has.last_bond in
+    let show = shows bond (by_number w) has.first_bond has.last_bond in
     let t = call_list_rule m room first second has.value has.count made has.is in
-    let four = same_4 bond w (sheet_of bond w) show in
+    let four = same_4 bond w (sheet_of bond (by_number w)) show in
     record {
       with_4 = ((λ e. t.with_4.0 (four.0 (sym number ∙ e))), (λ above. number ∙ four.1 (t.with_4.1 above)));
-      otherwise = λ none. rw (number, line, first-number, first-line) (thinned bond has.value has.count (sheet_of bond v) has.shown w (sheet_of bond w) show (t.otherwise none));
-      in_columns = λ some. rw (number, line) (in_columns bond w (sheet_of bond w) show (λ s e. few (reason_number s.reason) (tree_numbers_lem m second room s e)) (λ e. some (number ∙ e)));
+      otherwise = λ none. rw (number, line, first-number, first-line) (thinned bond has.value has.count (sheet_of bond (by_number v)) has.shown w (sheet_of bond (by_number w)) show (t.otherwise none));
+      in_columns = λ some. rw (number, line) (in_columns bond w (sheet_of bond (by_number w)) show (λ s e. few (reason_number s.reason) (tree_numbers_lem m second room s e)) (λ e. some (number ∙ e)));
     }
 
 -- ---- halves to even
@@ -315,7 +320,7 @@ even-cents s m e k h w = let p = half_to_even s m e k h w in (p.over, p.under)
 
 pub only_the_value : OnlyTheValue
 only_the_value bond m calls old new before after-old after-new p q =
-    (rw (p.sheet, q.sheet) (nothing_else bond (tree_value m calls (room_of before))), q.slices ∙ sym p.slices)
+    (rw (p.sheet, q.sheet) (nothing_else bond (by_number (tree_value m calls (room_of before)))), q.slices ∙ sym p.slices)
 
 pub only_the_value_of : OnlyTheValueOf
 only_the_value_of = nothing_else

@@ -29,7 +29,7 @@ use Rattle.brackets.specs.Brackets.{root_number, root_place, root_value, evaluat
 use Rattle.spreads.specs.Spreads.{quoting, spread_from_price}
 use Rattle.spreads.specs.Spreads as spreads
 use Rattle.closingsheet.specs.declared.ClosingLine.{ClosingLine}
-use Rattle.closingsheet.specs.Sheet.{sheet_of}
+use Rattle.closingsheet.specs.Sheet.{by_number, sheet_number, sheet_place, sheet_of}
 use Rattle.spreadtable.specs.declared.SpreadTable.{SpreadTable}
 use Rattle.spreadtable.specs.Table.{with_shift, table_of}
 use Rattle.spreadtable.specs.Table as table
@@ -120,10 +120,10 @@ pub lines-alike : {bond : ℕ} {m n : Market} {first second : CallSchedule} (a :
 lines-alike {bond} {m} {n} {first} {second} a b as_long same left =
     let p = a.handed.handed in
     let q = b.handed.handed in
-    let e : sheet_of bond (tree_value n second (room_of b.lent)) ≡ sheet_of bond (tree_value m first (room_of a.lent)) = ap (sheet_of bond) (ap (tree_value n second) as_long ∙ same (room_of a.lent)) in
+    let e : sheet_of bond (by_number (tree_value n second (room_of b.lent))) ≡ sheet_of bond (by_number (tree_value m first (room_of a.lent))) = ap (λ (v : Outcome TreeValue). sheet_of bond (by_number v)) (ap (tree_value n second) as_long ∙ same (room_of a.lent)) in
     record {
-      number = q.number_is ∙ ap (λ (s : ClosingLine). refusal_number s.refusal) e ∙ sym p.number_is;
-      place = q.place_is ∙ ap (λ (s : ClosingLine). refusal_place s.refusal) e ∙ sym p.place_is;
+      number = q.number_is ∙ ap (λ (s : ClosingLine). sheet_number s.refusal) e ∙ sym p.number_is;
+      place = q.place_is ∙ ap (λ (s : ClosingLine). sheet_place s.refusal) e ∙ sym p.place_is;
       line = q.line_is ∙ ap (λ (s : ClosingLine). s.line) e ∙ sym p.line_is;
       slices = λ alike. b.handed.slices ∙ left b.lent ∙ ap (lent_after m first) alike ∙ sym a.handed.slices;
     }

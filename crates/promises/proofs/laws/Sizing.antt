@@ -1,5 +1,5 @@
 -- Sizing keeps its promise: of the tree value, of a closing line and of spread from price. Assumes nothing.
-use Rattle.floats.specs.Reasons.{reason_number, refusal_number, refusal_place}
+use Rattle.floats.specs.Reasons.{reason_number}
 use Rattle.std.specs.Prelude.{ℕ, ◌≤◌, ◌≡◌, List, length, Float, Ok, Err}
 use Rattle.std.proofs.Common.{arith, sym, ap, subst, ◌∙◌}
 use Rattle.std.proofs.Math.Path.{refl}
@@ -21,7 +21,7 @@ use Rattle.lattice.specs.laws.RoomTest.{Fitting}
 use Rattle.treebasedbondpricer.specs.declared.TreeValue.{TreeValue}
 use Rattle.treebasedbondpricer.specs.Tree.{Lent, room_of, lent_after, tree_value, number_of, place_of, value_of, counted_by}
 use Rattle.closingsheet.specs.declared.ClosingLine.{ClosingLine}
-use Rattle.closingsheet.specs.Sheet.{sheet_of}
+use Rattle.closingsheet.specs.Sheet.{by_number, sheet_number, sheet_place, sheet_of}
 use Rattle.spreads.specs.Spreads.{quoting, spread_from_price}
 use Rattle.widths.specs.Widths.{total, widest}
 use Rattle.sizing.specs.declared.Lengths.{Lengths}
@@ -131,13 +131,13 @@ value-laid (stopped other) e ne = absurd (let z : ◌≡◌ {A = ℕ} 0 1 = cc i
 
 -- What is handed back of a line's refusal.
 abbrev line_refusal : ClosingLine → Answered
-line_refusal s = record { number = refusal_number s.refusal; place = refusal_place s.refusal }
+line_refusal s = record { number = sheet_number s.refusal; place = sheet_place s.refusal }
 
 -- A line ends as its value does.
-line-ends : {room : Room} {ws : List ℕ} {o : Outcome Lattice} {bond : ℕ} {v : Outcome TreeValue} {s : ClosingLine} → ValueSized room ws o v → Shows bond v s → Ends room ws o (line_refusal s)
-line-ends z a_refusal = value-ends z
-line-ends z (too_wide h) = value-laid z refl λ e. omega (arith, e)
-line-ends z (a_value w h) = value-laid z refl λ e. omega (arith, e)
+line-ends : {room : Room} {ws : List ℕ} {o : Outcome Lattice} {bond : ℕ} {v : Outcome TreeValue} {s : ClosingLine} → ValueSized room ws o v → Shows bond (by_number v) s → Ends room ws o (line_refusal s)
+line-ends {v = Err q} z a_refusal = value-ends z
+line-ends {v = Ok x} z (too_wide h) = value-laid z refl λ e. omega (arith, e)
+line-ends {v = Ok x} z (a_value w h) = value-laid z refl λ e. omega (arith, e)
 
 -- ---- the calls of a bond that was sized
 
@@ -161,8 +161,8 @@ module _ (m : Market) (calls : CallSchedule) (slice : ℕ) (ws : List ℕ) (e : 
   line_right : (bond : ℕ) (s : Float) → 1 ≤ bond → bond ≤ 999999
       → RightLengths (lengths_of ws) (before_fit (tree_checks (with_spread m s) calls) m calls) (SheetCall bond (with_spread m s) calls) (λ c. c.lent) (λ c. record { number = c.number; place = c.place })
   line_right bond s f l =
-      right ws _ (λ room. line_refusal (sheet_of bond (tree_value (with_spread m s) calls room)))
-      (λ room. rw (← same_before (tree_checks (with_spread m s) calls) s room) (line-ends (value-sized (with_spread m s) calls slice room ws (known s)) (shows bond (tree_value (with_spread m s) calls room) f l)))
+      right ws _ (λ room. line_refusal (sheet_of bond (by_number (tree_value (with_spread m s) calls room))))
+      (λ room. rw (← same_before (tree_checks (with_spread m s) calls) s room) (line-ends (value-sized (with_spread m s) calls slice room ws (known s)) (shows bond (by_number (tree_value (with_spread m s) calls room)) f l)))
       (before-alike (tree_checks (with_spread m s) calls) m calls)
       (before-number (tree_checks (with_spread m s) calls) m calls (tree_checks-number (with_spread m s) calls))
       _ _ _ λ c. rw (c.handed.handed.number_is, c.handed.handed.place_is)

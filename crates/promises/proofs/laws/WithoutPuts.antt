@@ -36,7 +36,7 @@ use Rattle.lattice.specs.Lattice.{Layer, node_count}
 use Rattle.backwardinduction.specs.Walk.{node_value, rolled, walk_from}
 use Rattle.treebasedbondpricer.specs.declared.TreeValue.{TreeValue}
 use Rattle.treebasedbondpricer.specs.Tree.{fitted_tree, lattice_value_over, lattice_value, tree_value_over, tree_value, Lent, zeroed, lent_after}
-use Rattle.closingsheet.specs.Sheet.{sheet_of}
+use Rattle.closingsheet.specs.Sheet.{by_number, sheet_of}
 use Rattle.sizing.specs.Sizing.{tree_widths, sizes_from, sizes_of, nodes_after}
 use Rattle.brackets.specs.Brackets.{no_root, bracketed_root}
 use Rattle.sought.specs.Objectives.{first_lower, first_upper}
@@ -295,7 +295,7 @@ without_puts =
       slices = same_slices;
       roots = same_root;
       spread-slices = same_spread_slices;
-      lines = λ bond m calls room. ap (sheet_of bond) (same_value_lem m calls room);
+      lines = λ bond m calls room. ap (λ (v : Outcome TreeValue). sheet_of bond (by_number v)) (same_value_lem m calls room);
       sizes = same_sizes;
       node-slice = same_nodes;
     }

@@ -12,4 +12,4 @@ pub loop-i-preserved : goal.loop-i-preserved
 loop-i-preserved g c = λ reading says. more _ _ 513 _ _ (c.loop-i.invariant reading says) (omega arith) (says _ _ c.read.ensures)
 
 pub returns : goal.returns
-returns g c = λ reading says. copied reading past_end 513 c.args.steps _ _ (search rules) (omega arith) (c.loop-i.invariant reading says)
+returns g c = λ reading says. copied reading past_end 513 c.args.steps.now _ _ (search rules) (omega arith) (c.loop-i.invariant reading says)

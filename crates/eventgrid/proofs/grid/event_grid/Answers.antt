@@ -14,9 +14,9 @@ call_steps-requires c =
       put_ends_len = start.requires.put_ends_len;
     }
 
-pub returns-in_err-calls : goal.returns-in_err-calls
-returns-in_err-calls c =
-    grid-refused _ _ _ _ _ _ _ _ c.epoch_of-epoch.ensures c.last_day.ensures c.time_from-maturity.ensures c.steps_of.ensures c.call_steps.ensures c.in_err-calls.was (search rules)
+pub returns-in-Err : goal.returns-in-Err
+returns-in-Err c =
+    grid-refused _ _ _ _ _ _ _ _ c.epoch_of-epoch.ensures c.last_day.ensures c.time_from-maturity.ensures c.steps_of.ensures c.call_steps.ensures c.in-Err.is (search rules)
 
 pub paid_into-cashflows-requires : goal.paid_into-cashflows-requires
 paid_into-cashflows-requires c = c.requires.days_len_bound.2
@@ -28,4 +28,4 @@ overflow_cast-result c =
 
 pub returns : goal.returns
 returns c =
-    grid-given _ _ _ _ _ _ _ _ c.epoch_of-epoch.ensures c.last_day.ensures c.time_from-maturity.ensures c.steps_of.ensures c.call_steps.ensures c.in_ok-calls.was c.paid_into-cashflows.ensures
+    grid-given _ _ _ _ _ _ _ _ c.epoch_of-epoch.ensures c.last_day.ensures c.time_from-maturity.ensures c.steps_of.ensures c.call_steps.ensures c.in-Ok.is c.paid_into-cashflows.ensures

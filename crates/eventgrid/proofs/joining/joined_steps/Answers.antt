@@ -13,7 +13,7 @@ pub loop-i-preserved : goal.loop-i-preserved
 loop-i-preserved c =
     let inv = c.loop-i.invariant in
     let args = c.args in
-    (inv.0, inv.1, joins args.calls args.puts _ _ past_end.call past_end.put inv.0 inv.1 (omega arith) inv.2)
+    (inv.0, inv.1, joins args.calls.now args.puts.now _ _ past_end.call past_end.put inv.0 inv.1 (omega arith) inv.2)
 
 pub returns : goal.returns
 returns c =
