@@ -5,7 +5,7 @@ use Rattle.std.specs.Float.Ieee.{add, mul, neg}
 use Rattle.floats.specs.Answers.{Answer, plus_zero, follow, tested, when_finite, Outcome}
 use Rattle.floats.specs.Extremes.{min_of, max_of}
 use Rattle.elementary.specs.Exponential.{exp_at}
-use Rattle.bondevents.specs.Exercises.{Exercise, marked, price_of}
+use Rattle.bondevents.specs.declared.Exercise.{Exercise}
 use Rattle.bondevents.specs.declared.CallStep.{CallStep}
 use Rattle.bondevents.specs.Calls.{new_step}
 use Rattle.lattice.specs.declared.Transition.{Transition}
@@ -40,11 +40,11 @@ discount_of r node place =
 
 -- The lower of continuation and call price.
 abbrev pub called : Exercise → Float → Float
-called c continuation = cond (marked c) (min_of continuation (price_of c)) continuation
+called c continuation = cond c.marked (min_of continuation c.price) continuation
 
 -- The higher of that and the put price.
 abbrev pub exercised : CallStep → Float → Float
-exercised s continuation = cond (marked s.put) (max_of (called s.call continuation) (price_of s.put)) (called s.call continuation)
+exercised s continuation = cond s.put.marked (max_of (called s.call continuation) s.put.price) (called s.call continuation)
 
 unfoldable pub node_value : Reads → ℤ → Transition → List At → ℕ → Answer
 unfolding value_at min_of max_of add mul neg

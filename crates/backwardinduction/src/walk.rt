@@ -3,12 +3,12 @@
 ghost use Rattle.std.specs.Prelude.{◌≡◌, true, ◌+◌, ◌*◌, ◌≤◌, ◌<◌, length, Ok};
 ghost use Rattle.backwardinduction.specs.Walk as Walk;
 ghost use Rattle.lattice.specs.laws.Positions.{spot_at, start_of, Layered};
-ghost use Rattle.lattice.specs.laws.Rows.{outcome_of};
+ghost use Rattle.floats.specs.Answers.{outcome_of};
 ghost use Rattle.elementary.specs.laws.Rows.{Filled};
 ghost use Rattle.backwardinduction.specs.laws.Discounts.{exponent_of, exponents_from, Discounts, Ahead};
 ghost use Rattle.backwardinduction.specs.laws.WalkSteps.{sum_of, discount_with, worth_of, value_with, rolled_at};
 
-use bondevents::CallStep;
+use bondevents::{CallStep, Exercise};
 use elementary::exp::exp_at;
 use elementary::exps::exp_row;
 use floats::Refusal;
@@ -113,13 +113,13 @@ fn discount(rates: Rates, node: f64, place: u32, known: bool, factor: f64) -> Re
 
 // The lower of continuation and call price.
 #[tactic(auto, unfolding(floats::specs::Answers::on_outcome, floats::specs::Extremes::min_of))]
-fn lower(call: Option<f64>, continuation: f64) -> f64
+fn lower(call: Exercise, continuation: f64) -> f64
     ensures { result ≡ Walk.called call continuation }
 {
-    match call {
-        Some(price) => lesser(continuation, price),
-        None => continuation,
+    if call.marked {
+        return lesser(continuation, call.price);
     }
+    continuation
 }
 
 // The lower of continuation and call price, then the higher of that and the put price.
@@ -128,10 +128,10 @@ fn exercised(step: CallStep, continuation: f64) -> f64
     ensures { result ≡ Walk.exercised step continuation }
 {
     let held = lower(step.call, continuation);
-    match step.put {
-        Some(price) => greater(held, price),
-        None => held,
+    if step.put.marked {
+        return greater(held, step.put.price);
     }
+    held
 }
 
 // Continuation, what is exercised, then the cashflow.

@@ -4,15 +4,16 @@ use Prim.Native.Nat.{ℕ, ◌+◌, ◌<◌, ◌≤◌}
 use native.Mathlib.Omega.{arith}
 use mathlib.Core.Path.{◌≡◌, sym, ap, ◌∙◌}
 use mathlib.Core.List.{List}
-use lib.ListN.{length, get_or, set}
+use lib.ListN.{length, get_or, set, replicate}
 use lib.Seq.{ext_get_or}
-use Rattle.floats.specs.declared.Refusal.{Refusal}
+use lib.Ieee.{Float}
+use Rattle.floats.specs.Refusals.{Refusal}
 use Rattle.floats.specs.Answers.{Check, Outcome, follow, on_outcome}
 use Rattle.terms.specs.Terms.{Bond, CallSchedule, no_entries, bond_with_puts}
 use Rattle.terms.specs.Checks.{on_check, lowest}
 use Rattle.bondevents.specs.declared.Side.{Side}
 use Rattle.bondevents.specs.declared.Side.TheVariants.{Call, Put}
-use Rattle.bondevents.specs.Exercises.{Exercise}
+use Rattle.bondevents.specs.declared.Exercise.{Exercise}
 use Rattle.bondevents.specs.declared.CallStep.{CallStep}
 use Rattle.bondevents.specs.Steps.{Axis}
 use Rattle.bondevents.specs.Calls.{none, new_step, over_entries, exercises, joined, put_above, puts_below, call_steps}
@@ -23,6 +24,12 @@ use Rattle.bondevents.proofs.laws.CallSteps.{filled, steps_are}
 use Rattle.bondevents.proofs.Filling.{Filling, more}
 use Rattle.terms.proofs.Laws.{same_at}
 use Rattle.floats.specs.declared.Reason.TheVariants as reason
+
+-- A list over a row in which nothing stands yet.
+pub from_none : (side : Side) (a : Axis) (bond : Bond) (starts ends : List ℕ) (strikes : List Float) {n : Exercise} {r : Outcome (List Exercise)} → n ≡ none
+    → r ≡ over_entries side a bond starts ends strikes (replicate 513 n) → r ≡ over_entries side a bond starts ends strikes no_exercises
+unfolding no_exercises
+from_none side a bond starts ends strikes e p = p ∙ ap (λ (n : Exercise). over_entries side a bond starts ends strikes (replicate 513 n)) e
 
 module _ (a : Axis) (bond : Bond) (calls : CallSchedule) where
   -- One list over all its entries; the prices don't read the puts.

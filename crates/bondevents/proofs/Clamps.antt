@@ -13,7 +13,7 @@ use lib.Ieee.Fits.{down_pos, of_int-fits}
 use lib.Ieee.Exact.{HasValue}
 use lib.Ieee.Back.{unsigned_back, round_whole}
 use Rattle.floats.specs.Answers.{plus_zero, one, Answer}
-use Rattle.floats.specs.declared.Refusal.{Refusal}
+use Rattle.floats.specs.Refusals.{Refusal}
 use Rattle.floats.specs.Whole.{rounded, ceiled, round_at, ceil_at}
 use Rattle.floats.specs.laws.Fractions.{leq_of_le}
 use Rattle.floats.specs.laws.Order.{le_of_lt as float-le-of-lt, le_of_not_lt, lt_of_not_le, number_of-finite, number_of_le, T_of, T-of_not, between, le_trans as float-le-trans}

@@ -5,13 +5,14 @@ use mathlib.Core.Path.{◌≡◌, ◌∙◌, sym}
 use mathlib.Core.List.{List, map}
 use lib.ListN.{length, get_or, length-map, get_or-map}
 use lib.Seq.{ext_get_or}
-use Rattle.std.specs.Prelude.{None}
+use mathlib.Core.Bool.{false}
+use lib.Ieee.{nan}
 use Rattle.bondevents.specs.declared.CallStep.{CallStep}
 use Rattle.bondevents.proofs.Filling.{Filling}
 
 -- What stands past the end of a row of steps.
 abbrev pub past_end : CallStep
-past_end = record { call = None; put = None }
+past_end = record { call = record { marked = false; price = nan }; put = record { marked = false; price = nan } }
 
 module _ {A B : Type 0} (f : A → B) (d : A) (size : ℕ) (source : List A) where
   -- The places before i hold the rule's values.

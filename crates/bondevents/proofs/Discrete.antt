@@ -13,7 +13,7 @@ use lib.Ieee.{Float, nan}
 use Rattle.floats.specs.Answers.{Answer, plus_zero, Outcome, follow, on_outcome}
 use Rattle.terms.specs.Terms.{Bond}
 use Rattle.bondevents.specs.declared.Side.{Side}
-use Rattle.bondevents.specs.Exercises.{Exercise}
+use Rattle.bondevents.specs.declared.Exercise.{Exercise}
 use Rattle.bondevents.specs.Steps.{Axis, time_of, call_step_of}
 use Rattle.bondevents.specs.Calls.{none, keep, eligible, principal, call_price, redemptions, over_steps, with_entry}
 use Rattle.bondevents.specs.Parts.{entry_of, priced, in_window, Principals, over_prices}

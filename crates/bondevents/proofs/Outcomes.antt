@@ -7,7 +7,7 @@ use lib.ListN.{length, get_or, set}
 use lib.Ieee.{Float}
 use Rattle.floats.specs.Answers.{on_outcome, Outcome, follow}
 use Rattle.bondevents.specs.declared.Side.{Side}
-use Rattle.bondevents.specs.Exercises.{Exercise}
+use Rattle.bondevents.specs.declared.Exercise.{Exercise}
 use Rattle.bondevents.specs.Calls.{none, keep}
 use Rattle.terms.proofs.Laws.{same_at}
 

@@ -10,10 +10,10 @@ use mathlib.Core.List.{List, [], ◌∷◌, ◌++◌, append_assoc}
 use lib.ListN.{length, get_or, take, drop, set, length-set, take-append-drop}
 use lib.Seq.{drop-cons, take-suc-set, drop-set-lt, set-get_or}
 use lib.Ieee.{Float}
-use Rattle.floats.specs.declared.Refusal.{Refusal}
+use Rattle.floats.specs.Refusals.{Refusal}
 use Rattle.floats.specs.Answers.{Answer, on_outcome, Outcome, follow}
 use Rattle.bondevents.specs.declared.Side.{Side}
-use Rattle.bondevents.specs.Exercises.{Exercise}
+use Rattle.bondevents.specs.declared.Exercise.{Exercise}
 use Rattle.bondevents.specs.Calls.{none, keep}
 use Rattle.bondevents.specs.Parts.{over_prices}
 use Rattle.bondevents.proofs.Outcomes.{follow-given, follow-follow, follow_same}
@@ -96,10 +96,11 @@ module _ (side : Side) (E : ℕ → Bool) (P : ℕ → Answer) (steps : ℕ) (fe
       unfolding on_outcome
       keeps {x} {k} d v w = turn kept i s h d k (at_answer d ∙ ap (λ (b : Answer). follow b λ x. Ok (keep side (get_or kept i d) x)) v ∙ ap Ok (sym w))
 
-      pub refuse : {q : Refusal} → a ≡ Err q → Err q ≡ over_prices side E P steps 0 row
+      pub refuse : {q : Refusal} {z : Outcome (List Exercise)} → a ≡ Err q → z ≡ Err q → z ≡ over_prices side E P steps 0 row
       unfolding on_outcome
-      refuse {q} v =
-          sym
+      refuse {q} v w =
+          w
+          ∙ sym
           (stopped kept i s h none q
           (at_answer none ∙ ap (λ (b : Answer). follow b λ x. Ok (keep side (get_or kept i none) x)) v))
 

@@ -9,7 +9,7 @@ use lib.ListN.{length, get_or, set}
 use Rattle.floats.specs.Answers.{Answer, Outcome, follow, on_outcome}
 use Rattle.terms.specs.Terms.{Bond}
 use Rattle.bondevents.specs.declared.Side.{Side}
-use Rattle.bondevents.specs.Exercises.{Exercise}
+use Rattle.bondevents.specs.declared.Exercise.{Exercise}
 use Rattle.bondevents.specs.Steps.{Axis}
 use Rattle.bondevents.specs.Calls.{Entry, eligible, call_price, keep, over_steps}
 use Rattle.bondevents.specs.Parts.{over_prices}

@@ -1,5 +1,5 @@
 -- Definitions only. Which steps a call or put entry reaches, the principal and the price there, and the price kept: of calls the lowest, of puts the highest.
-use Rattle.std.specs.Prelude.{ℕ, zero, suc, Bool, cond, ◌&&◌, List, [], ◌∷◌, get_or, replicate, eqb, ltb, Float, Some, None, Ok, Err}
+use Rattle.std.specs.Prelude.{ℕ, zero, suc, Bool, true, false, cond, ◌&&◌, List, [], ◌∷◌, get_or, replicate, eqb, ltb, Float, Ok, Err}
 use Rattle.std.specs.Float.{binary64}
 use Rattle.std.specs.Float.Ieee.{add, mul, div, le, lt}
 use Rattle.floats.specs.Answers.{Answer, plus_zero, refusal, tested, when_finite, Check, Outcome, follow}
@@ -9,7 +9,7 @@ use Rattle.terms.specs.Terms.{Leg, CallSchedule, Bond}
 use Rattle.terms.specs.Checks.{on_check, indexed, lowest}
 use Rattle.bondevents.specs.declared.Side.{Side}
 use Rattle.bondevents.specs.declared.Side.TheVariants.{Call, Put}
-use Rattle.bondevents.specs.Exercises.{Exercise, marked, price_of}
+use Rattle.bondevents.specs.declared.Exercise.{Exercise}
 use Rattle.bondevents.specs.declared.CallStep.{CallStep}
 use Rattle.bondevents.specs.Steps.{Axis, time_of, step_of, call_step_of}
 use Rattle.floats.specs.declared.Reason.TheVariants as reason
@@ -68,9 +68,9 @@ call_price a bond e step =
     (refusal reason.NoPrincipal 0)
     (when_finite (mul binary64 e.strike (principal a bond.leg e step)) 0 λ paid. tested (div binary64 paid bond.units) 0)
 
--- No exercise: no price.
+-- No exercise: unmarked, and the price is 0 then.
 abbrev pub none : Exercise
-none = None
+none = record { marked = false; price = plus_zero }
 
 -- CallStep::new makes a step without a call price, and without a put price.
 abbrev pub new_step : CallStep
@@ -84,7 +84,7 @@ kept Put x y = max_of x y
 
 unfoldable pub keep : Side → Exercise → Float → Exercise
 unfolding kept
-keep side c price = Some (cond (marked c) (kept side (price_of c) price) price)
+keep side c price = record { marked = true; price = cond c.marked (kept side c.price price) price }
 
 -- One entry over the count steps from step on; a step that isn't eligible computes nothing.
 unfoldable pub over_steps : Side → Axis → Bond → Entry → ℕ → ℕ → List Exercise → Outcome (List Exercise)
@@ -122,7 +122,7 @@ joined [] ps = []
 
 -- A put above the call.
 abbrev pub put_above : CallStep → Bool
-put_above c = (marked c.call && (marked c.put)) && lt (price_of c.call) (price_of c.put)
+put_above c = (c.call.marked && c.put.marked) && lt c.call.price c.put.price
 
 -- 38: a put above the call at a step, lowest step as its place.
 abbrev pub puts_below : List CallStep → Check

@@ -1,6 +1,6 @@
 -- Definitions only. The event grid and the grid entry.
 use Rattle.std.specs.Prelude.{replicate, Ok, Some, None}
-use Rattle.floats.specs.declared.Refusal.{Refusal}
+use Rattle.floats.specs.Refusals.{Refusal}
 use Rattle.floats.specs.Answers.{plus_zero, Outcome, follow, on_outcome}
 use Rattle.terms.specs.declared.Settlement.{Settlement}
 use Rattle.terms.specs.Terms.{Leg, CallSchedule, Bond, TimeGrid}

@@ -13,7 +13,7 @@ use Rattle.terms.specs.Entries.{grid_checks}
 use Rattle.bondevents.specs.declared.axis.Axis.{Axis as LentAxis}
 use Rattle.bondevents.specs.declared.Side.{Side}
 use Rattle.bondevents.specs.declared.Side.TheVariants.{Call, Put}
-use Rattle.bondevents.specs.Exercises.{Exercise, marked, price_of}
+use Rattle.bondevents.specs.declared.Exercise.{Exercise}
 use Rattle.bondevents.specs.declared.CallStep.{CallStep}
 use Rattle.bondevents.specs.declared.BondEventGrid.{BondEventGrid}
 use Rattle.bondevents.specs.Steps.{Axis}
@@ -84,7 +84,7 @@ no_grid = zero_grid
 
 -- A mark is 1 where a price stands.
 abbrev pub mark_of : Exercise → ℕ
-mark_of c = cond (marked c) 1 0
+mark_of c = cond c.marked 1 0
 
 -- A step's call, or its put.
 unfoldable pub side_of : Side → CallStep → Exercise
@@ -97,13 +97,13 @@ side_mark side step = mark_of (side_of side step)
 
 unfoldable pub side_price : Side → CallStep → Float
 unfolding side_of
-side_price side step = price_of (side_of side step)
+side_price side step = (side_of side step).price
 
 -- A step's mark for the walk: 0 nothing, 1 a call, 2 a put, 3 both.
 abbrev pub step_mark : CallStep → ℕ
-step_mark s = cond (marked s.call) (cond (marked s.put) 3 1) (cond (marked s.put) 2 0)
+step_mark s = cond s.call.marked (cond s.put.marked 3 1) (cond s.put.marked 2 0)
 
 -- The prices of all steps for the walk: call and put of each step side by side.
 unfoldable pub step_prices : List CallStep → List Float
-step_prices (s ∷ steps) = price_of s.call ∷ price_of s.put ∷ step_prices steps
+step_prices (s ∷ steps) = s.call.price ∷ s.put.price ∷ step_prices steps
 step_prices [] = []

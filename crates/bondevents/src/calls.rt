@@ -1,8 +1,8 @@
 // The price of each step on one side: of calls the lowest that an entry gives there, of puts the highest.
 
-ghost use Rattle.std.specs.Prelude.{◌≡◌, List, ℕ, ◌≤◌, ◌<◌, length, get_or, set, Ok};
+ghost use Rattle.std.specs.Prelude.{◌≡◌, ◌≤◌, ◌<◌, length, get_or, set, Ok};
 ghost use Rattle.std.specs.Float.{nan};
-ghost use Rattle.floats.specs.Answers.{follow};
+ghost use Rattle.floats.specs.Answers.{follow, outcome_of};
 ghost use Rattle.bondevents.specs.Calls.{none, keep, over_steps, with_entry};
 ghost use Rattle.bondevents.specs.Parts.{axis_in, without_puts, entry_of, priced, in_window, over_prices, Principals};
 ghost use Rattle.terms.specs.Market.{leg_in, leg_of};
@@ -10,7 +10,7 @@ ghost use Rattle.terms.specs.Market.{leg_in, leg_of};
 use crate::axis::Axis;
 use crate::principal::call_principal;
 use crate::steps::call_step_of;
-use crate::{Entry, Side};
+use crate::{Entry, Exercise, Side};
 use floats::finite::tested;
 use floats::{Reason, Refusal};
 use terms::market::Leg;
@@ -41,7 +41,7 @@ fn in_window(axis: Axis, from: f64, to: f64, step: usize) -> bool
 }
 
 // A window over its steps; `principals` has the principal at each step.
-#[tactic(auto, using(crate::proofs::Scanning::scanning))]
+#[tactic(auto, using(crate::proofs::Scanning::scanning), unfolding(floats::specs::Answers::outcome_of))]
 fn over_window(
     side: Side,
     axis: Axis,
@@ -50,19 +50,18 @@ fn over_window(
     strike: f64,
     units: f64,
     principals: &[f64; 513],
-    row: [Option<f64>; 513],
-) -> Result<[Option<f64>; 513], Refusal>
-    ensures { result ≡ over_prices side (in_window (axis_in axis) from to) (λ step. priced strike (get_or principals.now step nan) units) axis.steps 0 row }
+    row: &mut [Exercise; 513],
+) -> Result<(), Refusal>
+    ensures { outcome_of result row.new ≡ over_prices side (in_window (axis_in axis) from to) (λ step. priced strike (get_or principals.now step nan) units) axis.steps 0 row.old }
 {
-    let mut kept = row;
     for step in 0..axis.steps {
         if !in_window(axis, from, to, step) {
             continue;
         }
         let price = call_price(strike, principals[step], units)?;
-        kept[step] = side.keep(kept[step], price);
+        row[step] = row[step].keep(side, price);
     }
-    Ok(kept)
+    Ok(())
 }
 
 // A discrete call or put at its step.
@@ -72,15 +71,14 @@ fn at_step(
     strike: f64,
     principal: f64,
     units: f64,
-    row: [Option<f64>; 513],
-) -> Result<[Option<f64>; 513], Refusal>
+    row: &mut [Exercise; 513],
+) -> Result<(), Refusal>
     requires { step ≤ 512 }
-    ensures { result ≡ follow (priced strike principal units) λ x. Ok (set row step (keep side (get_or row step none) x)) }
+    ensures { outcome_of result row.new ≡ follow (priced strike principal units) λ x. Ok (set row.old step (keep side (get_or row.old step none) x)) }
 {
     let price = call_price(strike, principal, units)?;
-    let mut kept = row;
-    kept[step] = side.keep(kept[step], price);
-    Ok(kept)
+    row[step] = row[step].keep(side, price);
+    Ok(())
 }
 
 // A discrete call or put: on settlement step 0, otherwise the day's step, where that is tried.
@@ -91,10 +89,10 @@ fn with_call(
     units: f64,
     date: u32,
     strike: f64,
-    row: [Option<f64>; 513],
-) -> Result<[Option<f64>; 513], Refusal>
+    row: &mut [Exercise; 513],
+) -> Result<(), Refusal>
     requires { (length leg.kinds.now ≡ length leg.days.now) × (length leg.amounts.now ≡ length leg.days.now) }
-    ensures { result ≡ over_steps side (axis_in axis) (without_puts (leg_in leg) units) (entry_of date date strike) axis.steps 0 row }
+    ensures { outcome_of result row.new ≡ over_steps side (axis_in axis) (without_puts (leg_in leg) units) (entry_of date date strike) axis.steps 0 row.old }
 {
     let principal = call_principal(leg, date);
     if date == axis.settlement.day {
@@ -104,11 +102,12 @@ fn with_call(
     if step < axis.steps {
         return at_step(side, step, strike, principal, units, row);
     }
-    Ok(row)
+    Ok(())
 }
 
-// One entry. Those ending before settlement are skipped; a window finds its principals in the table.
-#[tactic(auto, using(crate::proofs::Discrete::entries))]
+// One entry, into the row of the entries before it. Those ending before settlement are skipped; a window finds its principals in
+// the table. The row is written where it lies: to hand 513 places on by value takes longer than to fill them.
+#[tactic(auto, using(crate::proofs::Discrete::entries), unfolding(floats::specs::Answers::outcome_of))]
 pub fn with_entry(
     side: Side,
     axis: Axis,
@@ -116,14 +115,14 @@ pub fn with_entry(
     units: f64,
     entry: Entry,
     principals: &[f64; 513],
-    row: [Option<f64>; 513],
-) -> Result<[Option<f64>; 513], Refusal>
+    row: &mut [Exercise; 513],
+) -> Result<(), Refusal>
     requires kinds_len { (length leg.kinds.now ≡ length leg.days.now) × (length leg.amounts.now ≡ length leg.days.now) }
     requires principals { (entry.start ≡ entry.end → ⊥) → Principals (axis_in axis) (leg_of leg) axis.steps principals.now }
-    ensures { result ≡ with_entry side (axis_in axis) (without_puts (leg_in leg) units) (entry_of entry.start entry.end entry.strike) row }
+    ensures { outcome_of result row.new ≡ with_entry side (axis_in axis) (without_puts (leg_in leg) units) (entry_of entry.start entry.end entry.strike) row.old }
 {
     if entry.end < axis.settlement.day {
-        return Ok(row);
+        return Ok(());
     }
     if entry.start == entry.end {
         return with_call(side, axis, leg, units, entry.start, entry.strike, row);

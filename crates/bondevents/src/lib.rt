@@ -1,5 +1,5 @@
 // Contractual cashflows, the issuer's calls and the holder's puts on a uniform time grid.
-#![tactic(auto, unfolding(floats::specs::Answers::on_outcome))]
+#![tactic(auto, unfolding(floats::specs::Answers::on_outcome, floats::specs::Answers::outcome_of))]
 
 pub mod axis;
 pub mod calls;
@@ -8,7 +8,7 @@ pub mod principal;
 pub mod steps;
 
 ghost use Rattle.std.specs.Prelude.{◌≡◌};
-ghost use Rattle.bondevents.specs.Calls.{new_step, kept, keep};
+ghost use Rattle.bondevents.specs.Calls.{none, new_step, kept, keep};
 
 use floats::Refusal;
 use floats::max::greater;
@@ -40,23 +40,48 @@ impl Side {
             Side::Put => greater(x, y),
         }
     }
+}
 
-    // A step's price with one more: of calls the lowest is kept, of puts the highest.
-    pub fn keep(self, held: Option<f64>, price: f64) -> Option<f64>
-        ensures { result ≡ keep self held price }
+// Whether a price stands at a step, and the price, 0 without one. No `Option`: what is read of a step is read of any mark and
+// any price beside it.
+#[derive(Clone, Copy)]
+pub struct Exercise {
+    pub marked: bool,
+    pub price: f64,
+}
+
+impl Exercise {
+    // No price.
+    pub fn none() -> Self
+        ensures { result ≡ none }
     {
-        match held {
-            Some(before) => Some(self.kept(before, price)),
-            None => Some(price),
+        Exercise {
+            marked: false,
+            price: 0.0,
+        }
+    }
+
+    // Of calls the lowest price is kept, of puts the highest.
+    #[tactic(auto, unfolding(crate::specs::Calls::keep))]
+    pub fn keep(self, side: Side, price: f64) -> Self
+        ensures { result ≡ keep side self price }
+    {
+        Exercise {
+            marked: true,
+            price: if self.marked {
+                side.kept(self.price, price)
+            } else {
+                price
+            },
         }
     }
 }
 
-// One step of the grid: its call price and its put price, where it has them.
+// One step of the grid: its call and its put.
 #[derive(Clone, Copy)]
 pub struct CallStep {
-    pub call: Option<f64>,
-    pub put: Option<f64>,
+    pub call: Exercise,
+    pub put: Exercise,
 }
 
 impl CallStep {
@@ -65,13 +90,13 @@ impl CallStep {
         ensures { result ≡ new_step }
     {
         CallStep {
-            call: None,
-            put: None,
+            call: Exercise::none(),
+            put: Exercise::none(),
         }
     }
 }
 
-// The grid; places past the last step are zero and have no price.
+// The grid; places past the last step are zero and unmarked.
 #[derive(Clone, Copy)]
 pub struct BondEventGrid {
     pub maturity_time: f64,

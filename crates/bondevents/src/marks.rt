@@ -1,13 +1,13 @@
 // The steps of all 513 places of the grid, as marks beside prices.
 
 ghost use Rattle.std.specs.Prelude.{◌≡◌, map};
-ghost use Rattle.bondevents.specs.Parts.{mark_of, side_of, side_mark, side_price, step_mark, step_prices};
+ghost use Rattle.bondevents.specs.Parts.{side_of, side_mark, side_price, step_mark, step_prices};
 
-use crate::{CallStep, Side};
+use crate::{CallStep, Exercise, Side};
 
-// A step's call price, or its put price.
+// A step's call, or its put.
 #[tactic(auto, unfolding(crate::specs::Parts::side_of))]
-fn side_of(side: Side, step: CallStep) -> Option<f64>
+fn side_of(side: Side, step: CallStep) -> Exercise
     ensures { result ≡ side_of side step }
 {
     match side {
@@ -20,14 +20,15 @@ fn side_of(side: Side, step: CallStep) -> Option<f64>
 fn side_mark(side: Side, step: CallStep) -> u8
     ensures { result ≡ side_mark side step }
 {
-    side_of(side, step).is_some() as u8
+    side_of(side, step).marked as u8
 }
 
-// The price, 0 without one.
+// The price beside it.
+#[tactic(auto, unfolding(crate::specs::Parts::side_price))]
 fn side_price(side: Side, step: CallStep) -> f64
     ensures { result ≡ side_price side step }
 {
-    side_of(side, step).unwrap_or(0.0)
+    side_of(side, step).price
 }
 
 // What is read of each step.
@@ -60,11 +61,11 @@ pub fn prices_of(side: Side, steps: &[CallStep; 513]) -> [f64; 513]
 fn step_mark(step: CallStep) -> u8
     ensures { result ≡ step_mark step }
 {
-    match (step.call, step.put) {
-        (Some(_), Some(_)) => 3,
-        (Some(_), None) => 1,
-        (None, Some(_)) => 2,
-        (None, None) => 0,
+    match (step.call.marked, step.put.marked) {
+        (true, true) => 3,
+        (true, false) => 1,
+        (false, true) => 2,
+        (false, false) => 0,
     }
 }
 
@@ -74,7 +75,7 @@ pub fn step_marks(steps: &[CallStep; 513]) -> [u8; 513]
     each_step(steps, 0, |step| step_mark(step))
 }
 
-// For the walk: call and put price of each step side by side, 0 without one.
+// For the walk: call and put price of each step side by side.
 pub fn step_prices(steps: &[CallStep; 513]) -> [f64; 1026]
     ensures { result ≡ step_prices steps.now }
 {

@@ -1,6 +1,6 @@
 -- Definitions only. The input checks of a book: each bond's as if it were alone, over the whole book.
 use Rattle.std.specs.Prelude.{ℕ, zero, suc, ◌+◌, Bool, cond, ◌||◌, List, [], ◌∷◌, length, get_or, ltb, Result, Ok, Err}
-use Rattle.floats.specs.declared.Refusal.{Refusal}
+use Rattle.floats.specs.Refusals.{Refusal}
 use Rattle.floats.specs.Answers.{Check, Outcome, on_outcome}
 use Rattle.terms.specs.Terms.{Leg, CallSchedule}
 use Rattle.terms.specs.Checks.{on_check, first_of, single, outside, settings, day_count}

@@ -5,7 +5,7 @@ use mathlib.Core.Path.{◌≡◌, refl, sym, ap, ◌∙◌}
 use mathlib.Core.Bool.{Bool, true, false, cond, not}
 use lib.Ieee.{Float}
 use Rattle.floats.proofs.Laws.{taken, left}
-use Rattle.floats.specs.declared.Refusal.{Refusal}
+use Rattle.floats.specs.Refusals.{Refusal}
 use Rattle.floats.specs.declared.Reason.TheVariants as reason
 use Rattle.floats.specs.Answers.{Answer, Outcome, on_outcome, refusal, not_finite, tested}
 use Rattle.brackets.specs.declared.NoRoot.{NoRoot}

@@ -1,6 +1,6 @@
 -- Definitions only. The call list that notices give: by value in 64 places, by series, rising; places past its last entry, or all after a refusal, are zero.
 use Rattle.std.specs.Prelude.{ℕ, ◌-◌, Some, None, List, ◌++◌, map, length, replicate, take}
-use Rattle.floats.specs.declared.Refusal.{Refusal}
+use Rattle.floats.specs.Refusals.{Refusal}
 use Rattle.floats.specs.Answers.{plus_zero}
 use Rattle.terms.specs.Terms.{CallSchedule}
 use Rattle.terms.specs.Checks.{on_check}

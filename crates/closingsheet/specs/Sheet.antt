@@ -1,6 +1,6 @@
 -- Definitions only. A bond's line of the closing sheet, by what the tree value answers.
 use Rattle.std.specs.Prelude.{ℕ, cond, List, [], ◌∷◌, ltb, take, replicate, Float, Option, Some, None, Result, Ok, Err}
-use Rattle.floats.specs.declared.Refusal.{Refusal}
+use Rattle.floats.specs.Refusals.{Refusal}
 use Rattle.floats.specs.Reasons.{reason_number}
 use Rattle.bondreport.specs.Columns.{blank_line, put_at}
 use Rattle.bondreport.specs.Numbers.{byte_left, digits_left, whole_left}

@@ -1,6 +1,7 @@
 // The event grid: for terms that are checked already, and the grid entry, which checks them.
 
-ghost use Rattle.std.specs.Prelude.{◌≡◌, ◌≤◌, length};
+ghost use Rattle.std.specs.Prelude.{◌≡◌, ◌≤◌, length, OnErr};
+ghost use Rattle.floats.specs.Answers.{outcome_of};
 ghost use Rattle.bondevents.specs.Grid.{event_grid, grid_answer};
 ghost use Rattle.bondevents.specs.Parts.{no_grid, checked_grid};
 ghost use Rattle.terms.specs.Market.{bond_in, calls_in, controls_of};
@@ -18,7 +19,7 @@ use terms::market::{Bond, CallSchedule, TimeGrid};
 use terms::time::{epoch_of, time_from};
 
 // The grid that is all zero.
-fn zero_grid() -> BondEventGrid
+pub fn zero_grid() -> BondEventGrid
     ensures { result ≡ no_grid }
 {
     let cashflows = [0.0; 513];
@@ -32,18 +33,21 @@ fn zero_grid() -> BondEventGrid
     }
 }
 
-// The grid of terms that are checked, or 20, 27 or 38.
+// The grid of terms that are checked, or 20, 27 or 38. It is written where it lies: to hand 20 KB up takes longer than to work
+// them out. Where it is refused, what is lent stays as it is.
 pub fn event_grid(
     settlement: Settlement,
     bond: Bond<'_>,
     calls: CallSchedule<'_>,
     controls: TimeGrid,
-) -> Result<BondEventGrid, Refusal>
+    grid: &mut BondEventGrid,
+) -> Result<(), Refusal>
     requires le_maximum { (1 ≤ controls.maximum) × (controls.maximum ≤ 512) }
     requires days_len_bound { (length bond.leg.days.now ≤ 256) × (length bond.leg.kinds.now ≡ length bond.leg.days.now) × (length bond.leg.amounts.now ≡ length bond.leg.days.now) }
     requires ends_len { (length calls.ends.now ≡ length calls.starts.now) × (length calls.strikes.now ≡ length calls.starts.now) }
     requires put_ends_len { (length bond.puts.ends.now ≡ length bond.puts.starts.now) × (length bond.puts.strikes.now ≡ length bond.puts.starts.now) }
-    ensures { result ≡ event_grid settlement (bond_in bond) (calls_in calls) (controls_of controls) }
+    ensures written { outcome_of result grid.new ≡ event_grid settlement (bond_in bond) (calls_in calls) (controls_of controls) }
+    ensures untouched { OnErr result (grid.new ≡ grid.old) }
 {
     let epoch = epoch_of(settlement);
     let leg = bond.leg;
@@ -53,18 +57,11 @@ pub fn event_grid(
         maturity,
         steps: steps_of(maturity, controls.per_year, controls.maximum),
     };
-    // A match and no `?`, which would copy the steps once more.
-    let calls = match call_steps(axis, bond, calls) {
-        Ok(steps) => steps,
-        Err(refusal) => return Err(refusal),
-    };
-    let cashflows = paid_into(axis, leg.days, leg.amounts);
-    Ok(BondEventGrid {
-        maturity_time: maturity,
-        steps: axis.steps as u32,
-        cashflows,
-        calls,
-    })
+    call_steps(axis, bond, calls, &mut grid.calls)?;
+    grid.maturity_time = maturity;
+    grid.steps = axis.steps as u32;
+    grid.cashflows = paid_into(axis, leg.days, leg.amounts);
+    Ok(())
 }
 
 // The input checks, then the grid.
@@ -73,11 +70,13 @@ fn checked_grid(
     bond: Bond<'_>,
     calls: CallSchedule<'_>,
     controls: TimeGrid,
-) -> Result<BondEventGrid, Refusal>
-    ensures { result ≡ checked_grid settlement (bond_in bond) (calls_in calls) (controls_of controls) }
+    grid: &mut BondEventGrid,
+) -> Result<(), Refusal>
+    ensures written { outcome_of result grid.new ≡ checked_grid settlement (bond_in bond) (calls_in calls) (controls_of controls) }
+    ensures untouched { OnErr result (grid.new ≡ grid.old) }
 {
     grid_checks(settlement, bond, calls, controls)?;
-    event_grid(settlement, bond, calls, controls)
+    event_grid(settlement, bond, calls, controls, grid)
 }
 
 // The grid entry: the input checks, then the grid.
@@ -89,15 +88,15 @@ pub fn bond_event_grid(
 ) -> GridAnswer
     ensures { result ≡ grid_answer settlement (bond_in bond) (calls_in calls) (controls_of controls) }
 {
-    let answer = checked_grid(settlement, bond, calls, controls);
-    match answer {
-        Ok(grid) => GridAnswer {
+    let mut grid = zero_grid();
+    match checked_grid(settlement, bond, calls, controls, &mut grid) {
+        Ok(()) => GridAnswer {
             refusal: None,
             grid,
         },
         Err(refusal) => GridAnswer {
             refusal: Some(refusal),
-            grid: zero_grid(),
+            grid,
         },
     }
 }

@@ -4,11 +4,11 @@ ghost use Rattle.std.specs.Prelude.{◌≡◌, ◌≤◌, Err};
 ghost use Rattle.bondevents.specs.Calls.{joined, put_above, puts_below};
 ghost use Rattle.floats.specs.declared.Reason.TheVariants as reason;
 
-use bondevents::CallStep;
+use bondevents::{CallStep, Exercise};
 use floats::{Reason, Refusal};
 
 // The call and the put of each step.
-pub fn joined_steps(calls: &[Option<f64>; 513], puts: &[Option<f64>; 513]) -> [CallStep; 513]
+pub fn joined_steps(calls: &[Exercise; 513], puts: &[Exercise; 513]) -> [CallStep; 513]
     ensures { result ≡ joined calls.now puts.now }
 {
     let none = CallStep::new();
@@ -26,10 +26,7 @@ pub fn joined_steps(calls: &[Option<f64>; 513], puts: &[Option<f64>; 513]) -> [C
 fn put_above(step: CallStep) -> bool
     ensures { result ≡ put_above step }
 {
-    match (step.call, step.put) {
-        (Some(call), Some(put)) => call < put,
-        _ => false,
-    }
+    step.call.marked && step.put.marked && step.call.price < step.put.price
 }
 
 // 38 at a step.

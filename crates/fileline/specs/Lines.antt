@@ -1,6 +1,6 @@
 -- Definitions only. The line of a file that a refusal is about.
 use Rattle.std.specs.Prelude.{ℕ, List, map, get_or}
-use Rattle.floats.specs.declared.Refusal.{Refusal}
+use Rattle.floats.specs.Refusals.{Refusal}
 use Rattle.floats.specs.Reasons.{reason_number}
 use Rattle.filebond.specs.Bond.{first_of_kind, calls_of, market_of}
 use Rattle.places.specs.declared.Whose.{Whose}

@@ -11,7 +11,7 @@ use lib.Dec.{T, ltb, leb, eqb, leb→le, le→leb}
 use lib.IntN.{pos}
 use lib.Ieee.{Float, nan, inf, fin, binary64, is_nan, lt, le, eq, in_float}
 use lib.Ieee.Scale.{finite}
-use Rattle.floats.specs.declared.Refusal.{Refusal}
+use Rattle.floats.specs.Refusals.{Refusal}
 use Rattle.floats.specs.Answers.{Outcome, on_outcome, not_finite}
 
 -- ---- a test of the definition, by the flag that the code went by

@@ -4,7 +4,7 @@ use Rattle.std.specs.Float.{binary64}
 use Rattle.std.specs.Float.Ieee.{of_bits}
 use Rattle.std.specs.Float.Ieee.Scale.{finite}
 use Rattle.floats.specs.declared.Reason.{Reason}
-use Rattle.floats.specs.declared.Refusal.{Refusal}
+use Rattle.floats.specs.Refusals.{Refusal}
 use Rattle.floats.specs.declared.Reason.TheVariants as reason
 use Rattle.floats.specs.Reasons.{reason_number}
 
@@ -64,6 +64,11 @@ on_outcome (Err r) f g = f r
 -- A refusal met on the way is handed up unchanged.
 abbrev pub follow : {A B : Type 0} → Outcome A → (A → Outcome B) → Outcome B
 follow a k = on_outcome a Err k
+
+-- What is left in the place of what a function was lent, or its refusal.
+unfoldable pub outcome_of : {A : Type 0} → Check → A → Outcome A
+outcome_of (Ok tt) x = Ok x
+outcome_of (Err r) x = Err r
 
 -- ---- tested operations
 

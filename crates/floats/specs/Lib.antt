@@ -1,3 +1,4 @@
+pub mod Refusals
 pub mod Reasons
 pub mod Answers
 pub mod Whole

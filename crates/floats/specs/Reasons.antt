@@ -1,6 +1,6 @@
 -- Definitions only. The number by which each reason of a refusal is known.
 use Rattle.std.specs.Prelude.{ℕ, Option, Some, None}
-use Rattle.floats.specs.declared.Refusal.{Refusal}
+use Rattle.floats.specs.Refusals.{Refusal}
 use Rattle.floats.specs.declared.Reason.{Reason}
 use Rattle.floats.specs.declared.Reason.TheVariants.{Setting, Count, Day, Number, CallOrder, SigmaOrder, NothingPaid, PillarOrder, Rate, NoPrincipal, NoRoom, NoVariance, NodeTooFar, Probability, Factor, Outside, NotFinite, YieldBase, NoBracket, NotConverged, BondNumber, TooWide, DayCount, SameTime, NoTime, SpreadAbove, PutCount, PutAbove, BookSize, Desk, NoticeCount, NoticeRange, NoticeRepeated, FactorNotPositive, TableSize, ShiftedSigma}
 

@@ -103,9 +103,9 @@ impl Reason {
     }
 }
 
-// Why and where a call is refused.
+// Why and where a call is refused: by a `Reason`, where no other type of reasons, as a number, is named.
 #[derive(Clone, Copy, Debug, PartialEq, Eq)]
-pub struct Refusal {
-    pub reason: Reason,
+pub struct Refusal<R = Reason> {
+    pub reason: R,
     pub place: u32,
 }

@@ -1,12 +1,11 @@
 // Fitting the tree to the curve, one layer: the weighted sum of state prices, the shift, and the state prices of the next layer.
 
 ghost use Rattle.std.specs.Prelude.{◌≡◌, true, ◌*◌, ◌+◌, ◌^◌, ◌<◌, ◌≤◌, length, Ok};
-ghost use Rattle.floats.specs.Answers.{plus_zero};
+ghost use Rattle.floats.specs.Answers.{plus_zero, outcome_of};
 ghost use Rattle.elementary.specs.Exponential.{exp_at};
 ghost use Rattle.forwardinduction.specs.Fit.{weighted};
 ghost use Rattle.lattice.specs.laws.Stored.{numbers_in, row_of};
 ghost use Rattle.lattice.specs.laws.Positions.{spot_at, past, start_of, Layered};
-ghost use Rattle.lattice.specs.laws.Rows.{outcome_of};
 ghost use Rattle.forwardinduction.specs.laws.Exps.{rate_argument, weight_argument};
 ghost use Rattle.forwardinduction.specs.laws.FitSteps.{weigh_one, shift_from, discounted_of, add_at, share_at, add_three, onward_at};
 
@@ -117,7 +116,7 @@ fn passed(count: usize, at: usize) -> usize
 }
 
 // A contribution is stored as it is at a position that is not reached, else added to what is there.
-#[tactic(auto, unfolding(floats::specs::Answers::on_outcome, crate::specs::laws::FitSteps::add_at, lattice::specs::laws::Rows::outcome_of))]
+#[tactic(auto, unfolding(floats::specs::Answers::on_outcome, crate::specs::laws::FitSteps::add_at, floats::specs::Answers::outcome_of))]
 fn add_at(next: &mut [f64], at: usize, count: usize, x: f64, place: u32) -> Result<(), Refusal>
     requires { at < length next.old }
     ensures { outcome_of result next.new ≡ add_at place at count x next.old }
@@ -131,7 +130,7 @@ fn add_at(next: &mut [f64], at: usize, count: usize, x: f64, place: u32) -> Resu
 }
 
 // The discounted price × probability, contributed.
-#[tactic(auto, unfolding(floats::specs::Answers::on_outcome, crate::specs::laws::FitSteps::share_at, lattice::specs::laws::Rows::outcome_of))]
+#[tactic(auto, unfolding(floats::specs::Answers::on_outcome, crate::specs::laws::FitSteps::share_at, floats::specs::Answers::outcome_of))]
 fn add_share(
     next: &mut [f64],
     at: usize,
@@ -149,7 +148,7 @@ fn add_share(
 
 // Down, middle, up: a node's three contributions. `before` and `after` count what is reached without the node and with it.
 // The numbers are one node's, taken from the slices as they are read; nobody else has them together.
-#[tactic(auto, unfolding(floats::specs::Answers::on_outcome, crate::specs::laws::FitSteps::add_three, lattice::specs::laws::Rows::outcome_of))]
+#[tactic(auto, unfolding(floats::specs::Answers::on_outcome, crate::specs::laws::FitSteps::add_three, floats::specs::Answers::outcome_of))]
 fn add_three(
     next: &mut [f64],
     flat: bool,

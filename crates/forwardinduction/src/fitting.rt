@@ -19,7 +19,7 @@ use floats::Refusal;
 use terms::market::Curve;
 
 // One step: the shift of the current row, then the other row.
-#[tactic(auto, unfolding(floats::specs::Answers::on_outcome, crate::specs::laws::Advances::step_at, lattice::specs::laws::Rows::outcome_of))]
+#[tactic(auto, unfolding(floats::specs::Answers::on_outcome, crate::specs::laws::Advances::step_at, floats::specs::Answers::outcome_of))]
 fn fit_step(
     nodes: &[i32],
     probabilities: &[f64],

@@ -7,7 +7,8 @@ ghost use Rattle.terms.specs.Curve.{curve_over};
 ghost use Rattle.forwardinduction.specs.Fit.{shift_of};
 ghost use Rattle.lattice.specs.laws.Stored.{numbers_in, row_of};
 ghost use Rattle.lattice.specs.laws.Positions.{start_of, Layered};
-ghost use Rattle.lattice.specs.laws.Rows.{outcome_of, Both};
+ghost use Rattle.lattice.specs.laws.Rows.{Both};
+ghost use Rattle.floats.specs.Answers.{outcome_of};
 ghost use Rattle.forwardinduction.specs.laws.Advances.{layer_shift, advanced_at};
 
 use crate::fit::{onward, shift_from, weighted_sum};
@@ -45,7 +46,7 @@ pub fn layer_shift(
 }
 
 // The current row's contributions into the other: at an even step from the first to the second.
-#[tactic(auto, unfolding(floats::specs::Answers::on_outcome, crate::specs::laws::Advances::advanced_at, lattice::specs::laws::Rows::outcome_of))]
+#[tactic(auto, unfolding(floats::specs::Answers::on_outcome, crate::specs::laws::Advances::advanced_at, floats::specs::Answers::outcome_of))]
 pub fn advance(
     nodes: &[i32],
     probabilities: &[f64],

@@ -2,7 +2,7 @@
 use Rattle.std.specs.Prelude.{ℕ, cond, List, [], ◌∷◌, ltb, Float, Ok, Err}
 use Rattle.std.specs.Float.{binary64}
 use Rattle.std.specs.Float.Ieee.{add, mul, div, neg, le, lt}
-use Rattle.floats.specs.declared.Refusal.{Refusal}
+use Rattle.floats.specs.Refusals.{Refusal}
 use Rattle.floats.specs.declared.Reason.{Reason}
 use Rattle.floats.specs.declared.Reason.TheVariants as reason
 use Rattle.floats.specs.Answers.{Answer, Outcome, plus_zero, one, follow, refusal, when_finite}

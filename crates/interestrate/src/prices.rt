@@ -1,9 +1,9 @@
 // The price of the paid cashflows at a yield, and its derivative by the yield.
-ghost use Rattle.std.specs.Prelude.{◌≡◌, ◌≤◌, ◌<◌, length};
-ghost use Rattle.interestrate.specs.Prices.{simply, compoundly, continuously, discount_and_derivative, with_flow, flows, price_and_derivative};
-ghost use Rattle.interestrate.specs.laws.Rows.{KnownFlow, KnownRow, RowReaches, RowRoom, join_sums, known_at};
+ghost use Rattle.std.specs.Prelude.{◌≡◌, ◌≤◌, OnErr, true, length};
+ghost use Rattle.floats.specs.Answers.{outcome_of};
+ghost use Rattle.interestrate.specs.Prices.{simply, compoundly, continuously, discount_and_derivative, flows, price_and_derivative};
+ghost use Rattle.interestrate.specs.laws.Rows.{DiscountRow, RowRoom, join_sums};
 ghost use Rattle.terms.specs.Market.{leg_in};
-ghost use Rattle.terms.specs.Times.{time_from};
 
 use crate::rates::frequency_value;
 use crate::rows::{FlowRow, discount_row};
@@ -102,65 +102,60 @@ pub fn yield_discount_and_derivative(
     }
 }
 
-// A flow's discount and derivative each join their sum by mul_add.
-#[tactic(auto, unfolding(floats::specs::Answers::on_outcome, crate::specs::laws::Rows::join_sums))]
-fn join_sums(amount: f64, flow: YieldPrice, sum: YieldPrice) -> Result<YieldPrice, Refusal>
-    ensures { result ≡ join_sums amount flow.price flow.derivative sum.price sum.derivative }
+// A flow's discount and derivative each join their sum by mul_add; both sums stay where one is refused.
+#[tactic(auto, unfolding(floats::specs::Answers::on_outcome, floats::specs::Answers::outcome_of, crate::specs::laws::Rows::join_sums))]
+fn join_sums(amount: f64, flow: YieldPrice, sum: &mut YieldPrice) -> Result<(), Refusal>
+    ensures joined { outcome_of result sum.new ≡ join_sums amount flow.price flow.derivative sum.old.price sum.old.derivative }
+    ensures unchanged { OnErr result (sum.new ≡ sum.old) }
 {
     let price = mul_add_at(amount, flow.price, sum.price, 0)?;
     let derivative = mul_add_at(amount, flow.derivative, sum.derivative, 0)?;
-    Ok(YieldPrice { price, derivative })
+    *sum = YieldPrice { price, derivative };
+    Ok(())
 }
 
-// One flow: its discount and derivative, worked out where they aren't known, each join their sum.
-#[tactic(auto, unfolding(floats::specs::Answers::on_outcome, crate::specs::Prices::on_price, crate::specs::Prices::with_flow, crate::specs::laws::Rows::join_sums))]
-fn with_flow(
-    at: Yield,
-    day: u32,
-    amount: f64,
-    known: Option<YieldPrice>,
-    sum: YieldPrice,
-) -> Result<YieldPrice, Refusal>
-    requires { KnownFlow known (discount_and_derivative at.rate (time_from at.settlement day) at.compounding) }
-    ensures { result ≡ with_flow at.rate at.compounding at.settlement day amount sum.price sum.derivative }
-{
-    if let Some(flow) = known {
-        return join_sums(amount, flow, sum);
-    }
-    let time = time_from(at.settlement, day);
-    let flow = yield_discount_and_derivative(at.rate, time, at.compounding)?;
-    join_sums(amount, flow, sum)
-}
-
-// What the row knows of a flow.
-#[tactic(auto, unfolding(floats::specs::Answers::on_outcome, crate::specs::laws::Rows::known_at))]
-fn known_at(row: Option<FlowRow<'_>>, i: usize) -> Option<YieldPrice>
-    requires { RowReaches row i }
-    ensures { result ≡ known_at row.entry i }
-{
-    let FlowRow { discounts, slopes } = row?;
-    Some(YieldPrice {
-        price: discounts[i],
-        derivative: slopes[i],
-    })
-}
-
-// Flow by flow, from a price and a derivative on.
-fn summed(
+// Flow by flow, from a price and a derivative on: the row has each flow's discount and derivative.
+fn summed_row(
     at: Yield,
     days: &[u32],
     amounts: &[f64],
-    row: Option<FlowRow<'_>>,
+    row: FlowRow<'_>,
     first: YieldPrice,
 ) -> Result<YieldPrice, Refusal>
     requires amounts_len { length amounts.now ≡ length days.now }
-    requires known { KnownRow row (λ time. discount_and_derivative at.rate time at.compounding) at.settlement days.now }
+    requires room { RowRoom (length days.now) row.discounts.now row.slopes.now }
+    requires known { DiscountRow true (λ time. discount_and_derivative at.rate time at.compounding) at.settlement days.now row.discounts.now row.slopes.now }
     ensures { result ≡ flows at.rate at.compounding at.settlement days.now amounts.now first.price first.derivative }
 {
     let mut sum = first;
     for i in 0..days.len() {
         if at.settlement.day < days[i] {
-            sum = with_flow(at, days[i], amounts[i], known_at(row, i), sum)?;
+            let flow = YieldPrice {
+                price: row.discounts[i],
+                derivative: row.slopes[i],
+            };
+            join_sums(amounts[i], flow, &mut sum)?;
+        }
+    }
+    Ok(sum)
+}
+
+// Flow by flow, from a price and a derivative on: each flow's discount and derivative are worked out.
+fn summed(
+    at: Yield,
+    days: &[u32],
+    amounts: &[f64],
+    first: YieldPrice,
+) -> Result<YieldPrice, Refusal>
+    requires amounts_len { length amounts.now ≡ length days.now }
+    ensures { result ≡ flows at.rate at.compounding at.settlement days.now amounts.now first.price first.derivative }
+{
+    let mut sum = first;
+    for i in 0..days.len() {
+        if at.settlement.day < days[i] {
+            let time = time_from(at.settlement, days[i]);
+            let flow = yield_discount_and_derivative(at.rate, time, at.compounding)?;
+            join_sums(amounts[i], flow, &mut sum)?;
         }
     }
     Ok(sum)
@@ -180,9 +175,9 @@ fn by_row(
 {
     if discount_row(at, days, discounts, slopes) {
         let row = FlowRow { discounts, slopes };
-        return summed(at, days, amounts, Some(row), first);
+        return summed_row(at, days, amounts, row, first);
     }
-    summed(at, days, amounts, None, first)
+    summed(at, days, amounts, first)
 }
 
 // The flows of a part of at most 64.

@@ -8,7 +8,7 @@ use lib.Dec.{T}
 use lib.IntN.{ℤ, pred_ℤ, suc_ℤ}
 use lib.Ieee.{Float, nan, inf, fin, binary64, add, sub, mul, div, fits}
 use lib.Ieee.Scale.{finite}
-use Rattle.floats.specs.declared.Refusal.{Refusal}
+use Rattle.floats.specs.Refusals.{Refusal}
 use Rattle.floats.specs.Answers.{one, two, not_finite, Outcome, plus_zero, tested, when_finite, refusal}
 use Rattle.floats.specs.Whole.{rounded}
 use Rattle.floats.specs.laws.Propagation.{passed_test, add_left, add_right, sub-left, sub_right, mul_left, div_left}

@@ -3,7 +3,7 @@ use Rattle.std.specs.Prelude.{ℕ, ◌<◌, ◌≡◌, false, ◌⊎◌, List, T
 use Rattle.std.specs.Float.Ieee.{le}
 use Rattle.floats.specs.Answers.{Answer, plus_zero, Outcome}
 use Rattle.floats.specs.Reasons.{reason_number, refusal_number}
-use Rattle.floats.specs.declared.Refusal.{Refusal}
+use Rattle.floats.specs.Refusals.{Refusal}
 use Rattle.terms.specs.Terms.{CallSchedule, Market, bond_with_puts, with_puts}
 use Rattle.terms.specs.CallLists.{MadeFrom, LoweredFrom, Reordered, StrikeAbove}
 use Rattle.terms.specs.Entries.{tree_checks}

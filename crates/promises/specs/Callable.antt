@@ -2,7 +2,7 @@
 use Rattle.std.specs.Prelude.{ℕ, zero, suc, true, false, cond, List, [], ◌∷◌, ◌++◌, length, get_or, replicate, ltb, ℤ, pos, Float, Ok, Err, Option, Some, None}
 use Rattle.std.specs.Float.{binary64}
 use Rattle.std.specs.Float.Ieee.{add, mul, sub, neg, lt}
-use Rattle.floats.specs.declared.Refusal.{Refusal}
+use Rattle.floats.specs.Refusals.{Refusal}
 use Rattle.floats.specs.Answers.{Answer, plus_zero, one, refusal, follow, tested, when_finite, Check, Outcome, on_outcome}
 use Rattle.floats.specs.Extremes.{min_of}
 use Rattle.elementary.specs.Exponential.{exp_at}
@@ -11,7 +11,7 @@ use Rattle.terms.specs.Numbers.{float, target_limit}
 use Rattle.terms.specs.Terms.{CallSchedule, Bond, TimeGrid, Market}
 use Rattle.terms.specs.Checks.{on_check, first_of, leg_count, call_count, settlement_day, leg_days, call_days, pillar_days, units_range, amount_range, strike_range, call_order, sigma_order, any_paid, maturity_apart}
 use Rattle.terms.specs.Entries.{setting_checks, model_counts, tree_fields, model_numbers, late_checks}
-use Rattle.bondevents.specs.Exercises.{Exercise, marked, price_of}
+use Rattle.bondevents.specs.declared.Exercise.{Exercise}
 use Rattle.bondevents.specs.Steps.{Axis, step_cashflows}
 use Rattle.bondevents.specs.Calls.{Entry, eligible, call_price}
 use Rattle.bondevents.specs.Grid.{axis_of}
@@ -59,7 +59,7 @@ market_checks limit m calls =
 -- The lowest per step is kept.
 unfoldable pub keep_lowest : Exercise → Float → Exercise
 unfolding min_of
-keep_lowest c price = Some (cond (marked c) (min_of (price_of c) price) price)
+keep_lowest c price = record { marked = true; price = cond c.marked (min_of c.price price) price }
 
 -- One entry over the count steps from step on; a step that isn't eligible computes nothing.
 unfoldable pub over_steps : Axis → Bond → Entry → ℕ → ℕ → List Exercise → Outcome (List Exercise)
@@ -87,7 +87,7 @@ over_entries a bond [] ends strikes cs = Ok cs
 
 -- A step without a call.
 abbrev pub uncalled : Exercise
-uncalled = None
+uncalled = record { marked = false; price = plus_zero }
 
 abbrev pub call_steps : Axis → Bond → CallSchedule → Outcome (List Exercise)
 call_steps a bond calls = over_entries a bond calls.starts calls.ends calls.strikes (replicate 513 uncalled)
@@ -142,7 +142,7 @@ discount_of r node place =
 
 -- The lower of continuation and call price.
 abbrev pub called : Exercise → Float → Float
-called c continuation = cond (marked c) (min_of continuation (price_of c)) continuation
+called c continuation = cond c.marked (min_of continuation c.price) continuation
 
 -- Continuation, then the lower of it and the call price, then the cashflow.
 unfoldable pub node_value : Reads → ℤ → Transition → List At → ℕ → Answer

@@ -1,6 +1,6 @@
 -- Definitions only. What is promised of the search behind a yield and behind a spread: how many evaluations it makes.
 use Rattle.std.specs.Prelude.{ℕ, ◌≤◌, ◌≡◌, Float, Err}
-use Rattle.floats.specs.declared.Refusal.{Refusal}
+use Rattle.floats.specs.Refusals.{Refusal}
 use Rattle.terms.specs.declared.Settlement.{Settlement}
 use Rattle.terms.specs.Terms.{Leg, CallSchedule}
 use Rattle.terms.specs.Entries.{target_checks}

@@ -15,7 +15,7 @@ use Rattle.terms.specs.Terms.{Leg, CallSchedule, Pillars, no_entries}
 use Rattle.terms.specs.Times.{time_from, year_fraction}
 use Rattle.terms.specs.Checks.{lowest, on_check}
 use Rattle.terms.specs.Curve.{curve_over}
-use Rattle.bondevents.specs.Exercises.{Exercise, marked}
+use Rattle.bondevents.specs.declared.Exercise.{Exercise}
 use Rattle.bondevents.specs.Steps.{raw_step, paid_into}
 use Rattle.bondevents.specs.Calls.{new_step}
 use Rattle.bondevents.specs.Grid.{grid_answer}
@@ -58,15 +58,15 @@ pub record Starred : Type 0 where
   pub by_365 : year_fraction (by 0 364) 395 ≡ div binary64 (float 31) (float 365)
   pub by_360 : year_fraction (by 1 364) 395 ≡ div binary64 (float 31) (float 360)
   -- A call on the 31st after a settlement on the 30th stands at step 1, and with one step nowhere. It is on settlement by no day.
-  pub call_at_1 : marked (call_at 395 (called_on 30 30) 12 1) ≡ true
-  pub call_not_at_0 : marked (call_at 395 (called_on 30 30) 12 0) ≡ false
-  pub call-nowhere : marked (call_at 395 (called_on 30 30) 1 0) ≡ false
+  pub call_at_1 : (call_at 395 (called_on 30 30) 12 1).marked ≡ true
+  pub call_not_at_0 : (call_at 395 (called_on 30 30) 12 0).marked ≡ false
+  pub call-nowhere : (call_at 395 (called_on 30 30) 1 0).marked ≡ false
   -- A call's principal goes by the day: what is redeemed on 31 January 1901 is called on the 30th.
   pub principal_by_day : number_of 395 (called_on 394 394) 2 ≡ 0
   pub no_principal : number_of 395 (called_on 395 395) 2 ≡ 20
   -- From a 30th to its 31st is a window, its two bounds equal: it reaches the step at that time.
-  pub window : marked (call_at 759 (called_on 394 395) 1 1) ≡ true
-  pub window-only-there : marked (call_at 759 (called_on 394 395) 1 0) ≡ false
+  pub window : (call_at 759 (called_on 394 395) 1 1).marked ≡ true
+  pub window-only-there : (call_at 759 (called_on 394 395) 1 0).marked ≡ false
   -- All paid on the 31st after a settlement on the 30th: 35 in the grid, a value in the straight value and a price of a yield.
   pub grid_35 : number_of 30 (called_on 30 30) 1 ≡ 35
   pub straight-kept : straight_value (by 2 29) (redeemed 30) (float 0) (pillars_on 29 40) ≡ Ok (float 100)

@@ -4,7 +4,7 @@ use Rattle.std.specs.Float.Ieee.{le}
 use Rattle.terms.specs.declared.Settlement.{Settlement}
 use Rattle.terms.specs.Terms.{CallSchedule, Bond, TimeGrid, Market, no_entries, bond_with_puts, with_puts}
 use Rattle.terms.specs.CallLists.{MadeFrom, LoweredFrom, Reordered}
-use Rattle.bondevents.specs.Exercises.{Exercise}
+use Rattle.bondevents.specs.declared.Exercise.{Exercise}
 use Rattle.bondevents.specs.declared.CallStep.{CallStep}
 use Rattle.bondevents.specs.declared.GridAnswer.{GridAnswer}
 use Rattle.bondevents.specs.Calls.{none}

@@ -2,7 +2,7 @@
 use Rattle.std.specs.Prelude.{ℕ, ◌≡◌, Bool, false, ◌||◌, List, [], ◌∷◌, T, eqb, Err}
 use Rattle.floats.specs.Reasons.{reason_number}
 use Rattle.floats.specs.declared.Reason.{Reason}
-use Rattle.floats.specs.declared.Refusal.{Refusal}
+use Rattle.floats.specs.Refusals.{Refusal}
 use Rattle.terms.specs.Terms.{CallSchedule, Market}
 use Rattle.lattice.specs.Layers.{Room}
 use Rattle.lattice.specs.laws.Proper.{Each}

@@ -3,7 +3,7 @@ use Rattle.std.specs.Prelude.{ℕ, ◌≤◌, ◌<◌, ◌≡◌, ◌⊎◌, Lis
 use Rattle.std.specs.Float.{binary64}
 use Rattle.std.specs.Float.Ieee.{div}
 use Rattle.floats.specs.Reasons.{reason_number}
-use Rattle.floats.specs.declared.Refusal.{Refusal}
+use Rattle.floats.specs.Refusals.{Refusal}
 use Rattle.floats.specs.Answers.{Check, Outcome, follow, when_finite}
 use Rattle.terms.specs.Numbers.{float}
 use Rattle.terms.specs.Terms.{CallSchedule, Market, with_spread}

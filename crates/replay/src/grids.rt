@@ -2,26 +2,20 @@
 
 use crate::inputs::{Inputs, bond_fits};
 use crate::record::Record;
-use bondevents::GridAnswer;
+use bondevents::{Exercise, GridAnswer};
 
 // Whether a step is what the record holds of it.
-fn same_step(
-    record: &Record,
-    step: usize,
-    cashflow: f64,
-    call: Option<f64>,
-    put: Option<f64>,
-) -> bool {
+fn same_step(record: &Record, step: usize, cashflow: f64, call: Exercise, put: Exercise) -> bool {
     if step > 24 {
         return false;
     }
     let called = record.number(123 + step) == 1;
     let given_back = record.number(173 + step) == 1;
-    called == call.is_some()
+    called == call.marked
         && cashflow == record.float(98 + step)
-        && call.unwrap_or(0.0) == record.float(148 + step)
-        && given_back == put.is_some()
-        && put.unwrap_or(0.0) == record.float(198 + step)
+        && call.price == record.float(148 + step)
+        && given_back == put.marked
+        && put.price == record.float(198 + step)
 }
 
 fn same_grid(answer: GridAnswer, record: &Record) -> bool {

@@ -2,15 +2,15 @@
 
 ghost use Rattle.std.specs.Prelude.{◌≡◌, ◌+◌, ◌*◌, ◌^◌, ◌<◌, ◌≤◌, length, get_or, replicate, Ok};
 ghost use Rattle.bondevents.specs.Calls.{new_step};
-ghost use Rattle.floats.specs.Answers.{follow};
+ghost use Rattle.floats.specs.Answers.{follow, outcome_of};
 ghost use Rattle.lattice.specs.laws.Positions.{start_of, Layered};
-ghost use Rattle.lattice.specs.laws.Rows.{current_part, outcome_of};
+ghost use Rattle.lattice.specs.laws.Rows.{current_part};
 ghost use Rattle.backwardinduction.specs.laws.WalkSteps.{rolled_at};
 ghost use Rattle.forwardinduction.specs.laws.Fitting.{row_in};
 ghost use Rattle.rollback.specs.Walking.{steps_of, walk_over, root_at, LaidIn, Aligned, Walkable};
 
 use backwardinduction::walk::{Rates, Reads, roll};
-use bondevents::CallStep;
+use bondevents::{CallStep, Exercise};
 use floats::Refusal;
 use forwardinduction::rows::current;
 
@@ -43,8 +43,14 @@ impl Events<'_> {
         let at = step as usize;
         let mark = self.marks[at];
         CallStep {
-            call: (mark % 2 == 1).then_some(self.prices[at * 2]),
-            put: (mark > 1).then_some(self.prices[at * 2 + 1]),
+            call: Exercise {
+                marked: mark % 2 == 1,
+                price: self.prices[at * 2],
+            },
+            put: Exercise {
+                marked: mark > 1,
+                price: self.prices[at * 2 + 1],
+            },
         }
     }
 }

@@ -20,7 +20,7 @@ use bracketedroot::solver::bracketed_root;
 use brackets::brackets::counted;
 use brackets::{NoRoot, Root};
 use entrychecks::entries::spread_checks;
-use eventgrid::grid::event_grid;
+use eventgrid::grid::{event_grid, zero_grid};
 use rollback::walking::{Events, Lattice};
 use sought::{Priced, Sought};
 use terms::curve::{pillar_times, timed_pillars};
@@ -156,16 +156,15 @@ fn checked_spread(
     requires curve_times_value { curve_times.now ≡ pillar_times market.settlement market.pillars.days.now }
     ensures { result ≡ found_for (quoted_of market.entry) (calls_in calls) (room_in nodes probabilities first second) }
 {
-    // A match and no `?`, which would copy the grid once more.
-    let grid = match event_grid(market.settlement, market.bond, calls, market.controls) {
-        Ok(grid) => grid,
-        Err(refusal) => {
-            return Err(NoRoot {
-                refusal,
-                evaluations: 1,
-            });
-        }
-    };
+    let mut grid = zero_grid();
+    let answer = event_grid(
+        market.settlement,
+        market.bond,
+        calls,
+        market.controls,
+        &mut grid,
+    );
+    counted(answer, 1)?;
     let curve = Curve {
         times: curve_times,
         factors: market.pillars.factors,

@@ -1,7 +1,7 @@
 -- Definitions only. Cells as rows, and rows as a page.
 use Rattle.std.specs.Prelude.{ℕ, ◌-◌, List, [], ◌∷◌, ◌++◌, length, replicate, Float, Some, None}
 use Rattle.floats.specs.declared.Reason.{Reason}
-use Rattle.floats.specs.declared.Refusal.{Refusal}
+use Rattle.floats.specs.Refusals.{Refusal}
 use Rattle.spreadtable.specs.declared.SpreadTable.{SpreadTable}
 use Rattle.floats.specs.declared.Reason.TheVariants as reason
 

@@ -19,7 +19,7 @@ use crate::rows::stopped_row;
 use crate::walks::walked_row;
 use bondevents::BondEventGrid;
 use bondevents::marks::{step_marks, step_prices};
-use eventgrid::grid::event_grid;
+use eventgrid::grid::{event_grid, zero_grid};
 use rollback::walking::{Events, Lattice};
 use terms::market::{CallSchedule, Curve, HullWhite, Market};
 use treebasedbondpricer::fitted::{FittedTree, fitted_tree};
@@ -161,13 +161,20 @@ pub fn checked_row(
     requires curve_times_value { curve_times.now ≡ pillar_times market.settlement market.pillars.days.now }
     ensures { result ≡ appended w (row_text (spread_cell (walk_on (market_in market) (calls_in calls) (room_in nodes probabilities first second))) spreads.now) }
 {
-    let answer = event_grid(market.settlement, market.bond, calls, market.controls);
+    let mut grid = zero_grid();
+    let answer = event_grid(
+        market.settlement,
+        market.bond,
+        calls,
+        market.controls,
+        &mut grid,
+    );
     let curve = Curve {
         times: curve_times,
         factors: market.pillars.factors,
     };
     match answer {
-        Ok(grid) => row_on(
+        Ok(()) => row_on(
             w,
             grid,
             market.model,

@@ -10,7 +10,7 @@ use lib.Dec.{ltb, leb-suc-zero}
 use borrow.Author.Rules.{rules}
 use borrow.Author.Tests.{lt-ltb, le-ltb, le-leb, lt-leb, eq-eqb, ne_eqb}
 use Rattle.floats.specs.declared.Reason.{Reason}
-use Rattle.floats.specs.declared.Refusal.{Refusal}
+use Rattle.floats.specs.Refusals.{Refusal}
 use Rattle.terms.specs.declared.Settlement.{Settlement}
 use Rattle.floats.specs.Answers.{Check}
 use Rattle.terms.specs.Checks.{on_check, first_of, single, outside, any_paid}

@@ -1,7 +1,7 @@
 -- The input checks of a call list made from an accepted one: refused with 4 where a strike is above 1,000,000, else accepted. A reordered list is accepted. Assumes nothing.
 use Rattle.std.specs.Prelude.{◌≡◌, Ok, Err}
 use Rattle.std.proofs.Common.{◌∙◌, arith}
-use Rattle.floats.specs.declared.Refusal.{Refusal}
+use Rattle.floats.specs.Refusals.{Refusal}
 use Rattle.floats.specs.declared.Reason.TheVariants as reason
 use Rattle.terms.specs.declared.Settlement.{Settlement}
 use Rattle.terms.specs.Terms.{CallSchedule, Bond, TimeGrid, Market}

@@ -1,8 +1,9 @@
 -- Definitions only. The input checks, number by number; the place is the lowest index, 0 for single fields, counts and 7.
-use Rattle.std.specs.Prelude.{ℕ, zero, suc, ◌-◌, Bool, not, cond, ◌&&◌, ◌||◌, List, [], ◌∷◌, length, get_or, eqb, ltb, leb, Float, Ok, Err}
+use Rattle.std.specs.Prelude.{ℕ, zero, suc, ◌-◌, Bool, not, cond, ◌&&◌, ◌||◌, List, [], ◌∷◌, length, get_or, eqb, ltb, leb, Float, Result, Ok, Err}
 use Rattle.std.specs.Float.Ieee.{neg, lt, le, eq}
 use Rattle.floats.specs.declared.Reason.{Reason}
-use Rattle.floats.specs.declared.Refusal.{Refusal}
+use Rattle.floats.specs.declared.Refusal as refusals
+use Rattle.floats.specs.Refusals.{Refusal}
 use Rattle.floats.specs.Answers.{Answer, plus_zero, on_outcome, not_finite, Check}
 use Rattle.terms.specs.declared.Settlement.{Settlement}
 use Rattle.terms.specs.Numbers.{float, amount_limit, million}
@@ -27,8 +28,8 @@ unfolding on_check
 first_of [] = Ok tt
 first_of (c ∷ cs) = on_check c Err (first_of cs)
 
--- A cause that has one place.
-abbrev pub single : Reason → ℕ → Bool → Check
+-- A cause that has one place. The reason may be of any type, as a number.
+abbrev pub single : {R : Type 0} → R → ℕ → Bool → Result (Unit {0}) (refusals.Refusal R)
 single why place bad = cond bad (Err (record { reason = why; place = place })) (Ok tt)
 
 -- The lowest index from i on, of count indices, at which the cause holds.

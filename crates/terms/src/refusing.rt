@@ -1,16 +1,15 @@
 // How a cause becomes a check: refused with its reason and place.
 
-ghost use Rattle.std.specs.Prelude.{◌≡◌, ◌≤◌, ◌<◌, ℕ, Bool};
-ghost use Rattle.floats.specs.Answers.{refusal};
+ghost use Rattle.std.specs.Prelude.{◌≡◌, ◌≤◌, ◌<◌, ℕ, Bool, Err};
 ghost use Rattle.terms.specs.Checks as checks;
 ghost use Rattle.terms.specs.Checks.{lowest};
 
 use floats::{Reason, Refusal};
 
-// Refused for this reason at an index, which is the place.
-pub fn refused_at<T>(reason: Reason, i: usize) -> Result<T, Refusal>
+// Refused for this reason, of any type, at an index, which is the place.
+pub fn refused_at<T, R>(reason: R, i: usize) -> Result<T, Refusal<R>>
     requires { i ≤ 256 }
-    ensures { result ≡ refusal reason i }
+    ensures { result ≡ Err (record { reason = reason; place = i }) }
 {
     Err(Refusal {
         reason,
@@ -18,8 +17,8 @@ pub fn refused_at<T>(reason: Reason, i: usize) -> Result<T, Refusal>
     })
 }
 
-// Refused for this reason at place 0 where the cause holds.
-pub fn single(reason: Reason, bad: bool) -> Result<(), Refusal>
+// Refused for this reason, of any type, at place 0 where the cause holds.
+pub fn single<R: Drop>(reason: R, bad: bool) -> Result<(), Refusal<R>>
     ensures { result ≡ checks.single reason 0 bad }
 {
     if bad { refused_at(reason, 0) } else { Ok(()) }

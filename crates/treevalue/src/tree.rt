@@ -8,7 +8,7 @@ ghost use Rattle.treebasedbondpricer.specs.laws.Entered.{value_on};
 ghost use Rattle.treebasedbondpricer.specs.Slices.{lent_in, lent_out, room_in};
 
 use entrychecks::entries::tree_checks;
-use eventgrid::grid::event_grid;
+use eventgrid::grid::{event_grid, zero_grid};
 use floats::Refusal;
 use latticevalue::value::lattice_value;
 use terms::curve::{pillar_times, timed_pillars};
@@ -33,11 +33,14 @@ pub fn checked_value(
     requires curve_times_value { curve_times.now ≡ pillar_times market.settlement market.pillars.days.now }
     ensures { result ≡ value_on (market_in market) (calls_in calls) (room_in nodes probabilities first second) }
 {
-    // A match and no `?`, which would copy the grid once more.
-    let grid = match event_grid(market.settlement, market.bond, calls, market.controls) {
-        Ok(grid) => grid,
-        Err(refusal) => return Err(refusal),
-    };
+    let mut grid = zero_grid();
+    event_grid(
+        market.settlement,
+        market.bond,
+        calls,
+        market.controls,
+        &mut grid,
+    )?;
     let curve = Curve {
         times: curve_times,
         factors: market.pillars.factors,

@@ -6,7 +6,7 @@ use Rattle.floats.specs.laws.Order.{number, number_of_le, le_refl, le_trans, le_
 use Rattle.floats.specs.laws.Extremes.{min-below, min-mono, max-mono}
 use Rattle.floats.specs.Extremes.{min_of, max_of}
 use Rattle.bondevents.specs.declared.Side.TheVariants.{Call, Put}
-use Rattle.bondevents.specs.Exercises.{Exercise, marked, price_of}
+use Rattle.bondevents.specs.declared.Exercise.{Exercise}
 use Rattle.bondevents.specs.declared.CallStep.{CallStep}
 use Rattle.bondevents.specs.laws.Sides.{Before}
 use Rattle.bondevents.specs.laws.NoLower.{Thinner, NoLower}
@@ -22,26 +22,26 @@ le_max_first a b n = go (lt a b) refl
 
 called-no_lower : (c d : Exercise) (x y : Float) → Thinner Call c d → T (le x y) → T (le (called c x) (called d y))
 unfolding Before
-called-no_lower c d x y n h = go (marked c) (marked d) n.marked_too n.price
+called-no_lower c d x y n h = go c.marked d.marked n.marked_too n.price
   where
-    go : (p q : Bool) → (q ≡ true → p ≡ true) → (q ≡ true → Before Call (price_of c) (price_of d)) → T (le (cond p (min_of x (price_of c)) x) (cond q (min_of y (price_of d)) y))
-    go true true m k = min-mono x y (price_of c) (price_of d) h (k refl)
-    go true false m k = le_trans (min_of x (price_of c)) x y (min-below x (price_of c) (number_of_le x y h).0) h
+    go : (p q : Bool) → (q ≡ true → p ≡ true) → (q ≡ true → Before Call c.price d.price) → T (le (cond p (min_of x c.price) x) (cond q (min_of y d.price) y))
+    go true true m k = min-mono x y c.price d.price h (k refl)
+    go true false m k = le_trans (min_of x c.price) x y (min-below x c.price (number_of_le x y h).0) h
     go false true m k = absurd (false≢true (m refl))
     go false false m k = h
 
 -- One law for both lists: a thinner call, or a put that the other's is thinner than, lowers nothing.
 pub exercised-no_lower : (c d : CallStep) (x y : Float) → NoLower c d → T (le x y) → T (le (exercised c x) (exercised d y))
 unfolding Before
-exercised-no_lower c d x y n h = go (marked c.put) (marked d.put) n.put.marked_too n.put.price
+exercised-no_lower c d x y n h = go c.put.marked d.put.marked n.put.marked_too n.put.price
   where
     u : T (le (called c.call x) (called d.call y))
     u = called-no_lower c.call d.call x y n.call h
 
-    go : (p q : Bool) → (p ≡ true → q ≡ true) → (p ≡ true → Before Put (price_of d.put) (price_of c.put)) → T (le (cond p (max_of (called c.call x) (price_of c.put)) (called c.call x)) (cond q (max_of (called d.call y) (price_of d.put)) (called d.call y)))
-    go true true m k = max-mono (called c.call x) (called d.call y) (price_of c.put) (price_of d.put) u (k refl)
+    go : (p q : Bool) → (p ≡ true → q ≡ true) → (p ≡ true → Before Put d.put.price c.put.price) → T (le (cond p (max_of (called c.call x) c.put.price) (called c.call x)) (cond q (max_of (called d.call y) d.put.price) (called d.call y)))
+    go true true m k = max-mono (called c.call x) (called d.call y) c.put.price d.put.price u (k refl)
     go true false m k = absurd (false≢true (m refl))
     go false true m k =
-        le_trans (called c.call x) (called d.call y) (max_of (called d.call y) (price_of d.put)) u
-        (le_max_first (called d.call y) (price_of d.put) (number_of_le (called c.call x) (called d.call y) u).1)
+        le_trans (called c.call x) (called d.call y) (max_of (called d.call y) d.put.price) u
+        (le_max_first (called d.call y) d.put.price (number_of_le (called c.call x) (called d.call y) u).1)
     go false false m k = u

@@ -6,8 +6,8 @@ use mathlib.Core.List.{List}
 use Rattle.std.proofs.Math.Numerals.{add-one}
 use Rattle.std.proofs.Math.ListN.{length}
 use Rattle.std.specs.Float.Ieee.{Float, nan}
-use Rattle.floats.specs.declared.Refusal.{Refusal}
-use Rattle.floats.specs.Answers.{plus_zero, Check, Outcome, follow, on_outcome}
+use Rattle.floats.specs.Refusals.{Refusal}
+use Rattle.floats.specs.Answers.{plus_zero, Check, Outcome, follow, on_outcome, outcome_of}
 use Rattle.bondevents.specs.declared.CallStep.{CallStep}
 use Rattle.bondevents.specs.Calls.{new_step}
 use Rattle.backwardinduction.specs.declared.walk.Rates.{Rates}
@@ -16,7 +16,7 @@ use Rattle.backwardinduction.specs.Walk.{rolled, walk_from}
 use Rattle.lattice.specs.laws.Stored.{numbers_in, transitions_in, row_of}
 use Rattle.lattice.specs.laws.StoredAt.{drop_one, get_d_inside}
 use Rattle.lattice.specs.laws.Positions.{start_of}
-use Rattle.lattice.specs.laws.Rows.{current_part, outcome_of, Both}
+use Rattle.lattice.specs.laws.Rows.{current_part, Both}
 use Rattle.backwardinduction.specs.laws.WalkSteps.{rolled_at}
 use Rattle.backwardinduction.proofs.laws.WalkPlaces.{reads_of, rolled_at_lem}
 use Rattle.lattice.specs.laws.Laid.{front_nodes, layers_in, final_in, Laid}

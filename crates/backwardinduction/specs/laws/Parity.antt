@@ -2,8 +2,8 @@
 use Rattle.std.specs.Prelude.{ℕ, ◌+◌, ◌%◌, ◌≤◌, ◌≡◌, true, false, List, ◌++◌, length, take, drop, replicate, Float}
 use Rattle.std.proofs.Common.{ap, ◌∙◌, arith, eq-eqb, ne_eqb, length-take-le, take_at}
 use Rattle.std.proofs.lemmas.List.{length-replicate}
-use Rattle.floats.specs.Answers.{Check, Outcome}
-use Rattle.lattice.specs.laws.Rows.{even, current_part, outcome_of}
+use Rattle.floats.specs.Answers.{Check, Outcome, outcome_of}
+use Rattle.lattice.specs.laws.Rows.{even, current_part}
 
 module _ (step : ℕ) (h : step % 2 ≡ 0) where
   pub even_now : even step ≡ true

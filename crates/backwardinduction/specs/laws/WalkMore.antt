@@ -1,7 +1,6 @@
 -- The walk over all layers: the steps as marks and prices, and the row that is left. Assumes nothing.
 use Rattle.std.specs.Prelude.{ℕ, zero, suc, ◌+◌, ◌*◌, ◌%◌, ◌≤◌, ◌<◌, ◌≡◌, refl, List, [], ◌∷◌, eqb, ltb, length, get_or, replicate, ℤ, Float}
 use Rattle.std.proofs.Common.{ap, ◌∙◌, arith}
-use Rattle.std.specs.Bool.{then_some}
 use Rattle.std.specs.Float.{nan}
 use Rattle.bondevents.specs.declared.CallStep.{CallStep}
 use Rattle.bondevents.specs.Calls.{new_step}
@@ -13,8 +12,8 @@ use Rattle.lattice.specs.laws.Stored.{row_of}
 abbrev pub call_of : ℕ → Float → Float → CallStep
 call_of mark call put =
     record {
-      call = then_some (eqb (mark % 2) 1) call;
-      put = then_some (ltb 1 mark) put;
+      call = record { marked = eqb (mark % 2) 1; price = call };
+      put = record { marked = ltb 1 mark; price = put };
     }
 
 -- All steps: a mark each, and call and put price side by side.

@@ -3,12 +3,12 @@ use Rattle.std.specs.Prelude.{ℕ, ◌<◌, ◌≡◌, refl, List, [], ◌∷◌
 use Rattle.std.proofs.Common.{sym, ◌∙◌, arith}
 use Rattle.std.proofs.Math.Path.{ap}
 use Rattle.std.specs.Float.{nan}
-use Rattle.floats.specs.declared.Refusal.{Refusal}
-use Rattle.floats.specs.Answers.{Answer, Check, Outcome, follow, on_outcome}
+use Rattle.floats.specs.Refusals.{Refusal}
+use Rattle.floats.specs.Answers.{Answer, Check, Outcome, follow, on_outcome, outcome_of}
 use Rattle.lattice.specs.Layers.{At, value_at}
 use Rattle.lattice.specs.Lattice.{root_layer}
 use Rattle.lattice.specs.laws.Stored.{numbers_in, row_of}
-use Rattle.lattice.specs.laws.Rows.{outcome_of, Both}
+use Rattle.lattice.specs.laws.Rows.{Both}
 use Rattle.lattice.specs.laws.Laid.{front_nodes}
 use Rattle.forwardinduction.specs.laws.Fitting.{row_in}
 

@@ -5,7 +5,7 @@ use Rattle.std.proofs.Common.{subst, ◌∙◌}
 use Rattle.std.proofs.Math.Logic.{inl, inr}
 use Rattle.std.specs.Float.Ieee.{lt}
 use Rattle.std.specs.Float.Ieee.Scale.{finite}
-use Rattle.floats.specs.declared.Refusal.{Refusal}
+use Rattle.floats.specs.Refusals.{Refusal}
 use Rattle.floats.specs.Answers.{plus_zero, Check, Outcome, follow}
 use Rattle.terms.specs.Checks.{on_check}
 use Rattle.terms.specs.Terms.{CallSchedule, Bond, bond_with_puts}
@@ -15,7 +15,7 @@ use Rattle.terms.specs.laws.Lockstep.{GivenOr27, is_given, is_27}
 use Rattle.terms.specs.laws.Sequence.{lowest-refused}
 use Rattle.bondevents.specs.declared.Side.{Side}
 use Rattle.bondevents.specs.declared.Side.TheVariants.{Call, Put}
-use Rattle.bondevents.specs.Exercises.{Exercise, price_of}
+use Rattle.bondevents.specs.declared.Exercise.{Exercise}
 use Rattle.bondevents.specs.declared.CallStep.{CallStep}
 use Rattle.bondevents.specs.Steps.{Axis}
 use Rattle.bondevents.specs.Calls.{none, exercises, joined, puts_below, call_steps}
@@ -94,8 +94,8 @@ module _ (a : Axis) (bond : Bond) (calls : CallSchedule) where
       above cs ps (Err s) e x = let q : s ≡ r = cc in rw (← q) (lowest-refused reason.PutAbove _ _ 0 s e).same_reason
 
 -- An exercise is as thin as itself.
-same_thin : (side : Side) (c : Exercise) → T (finite (price_of c)) → Thinner side c c
-same_thin side c f = record { marked_too = λ h. h; price = λ h. before-refl side (price_of c) f }
+same_thin : (side : Side) (c : Exercise) → T (finite c.price) → Thinner side c c
+same_thin side c f = record { marked_too = λ h. h; price = λ h. before-refl side c.price f }
 
 joined-no_lower : (cs ps ds qs : List Exercise) → length ps ≡ length cs → length qs ≡ length ds → ThinnerRow Call cs ds → ThinnerRow Put qs ps → NoLowerSteps (joined cs ps) (joined ds qs)
 joined-no_lower cs ps ds qs e f t u k = rw (joined_at cs ps k e, joined_at ds qs k f) (record { call = t k; put = u k })

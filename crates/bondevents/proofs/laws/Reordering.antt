@@ -11,7 +11,7 @@ use Rattle.terms.specs.CallLists.{Entries, Reordered, size, strike_of}
 use Rattle.terms.proofs.Pairing.{reordered-back}
 use Rattle.bondevents.specs.declared.Side.{Side}
 use Rattle.bondevents.specs.declared.Side.TheVariants.{Call, Put}
-use Rattle.bondevents.specs.Exercises.{Exercise, marked, price_of}
+use Rattle.bondevents.specs.declared.Exercise.{Exercise}
 use Rattle.bondevents.specs.Steps.{Axis}
 use Rattle.bondevents.specs.Calls.{Entry, call_price, none, exercises}
 use Rattle.bondevents.specs.laws.Pricing.{Above, price_of-value, price-fits, price-signed}
@@ -50,28 +50,28 @@ pub record Exact (x : Float) : Type 0 where
 
 -- So is a price that stands at a step, where strikes and units are above 0.
 pub step-exact : (side : Side) (a : Axis) (bond : Bond) (entries : CallSchedule) (k : ℕ) (c : Exercise) → T (lt plus_zero bond.units)
-    → ((i : ℕ) → i < size entries → T (lt plus_zero (strike_of entries i))) → LowestAt side a bond entries k c → marked c ≡ true → Exact (price_of c)
+    → ((i : ℕ) → i < size entries → T (lt plus_zero (strike_of entries i))) → LowestAt side a bond entries k c → c.marked ≡ true → Exact c.price
 step-exact side a bond entries k c u strikes p h =
     let (i, l, r, y) = p.of_entry h in
-    let t = price_of-value a bond (entry_of entries i) k (price_of c) y in
+    let t = price_of-value a bond (entry_of entries i) k c.price y in
     record {
-      signed = price-signed a bond (entry_of entries i) k (price_of c) (strikes i l) u t;
-      fitting = price-fits a bond (entry_of entries i) k (price_of c) t;
+      signed = price-signed a bond (entry_of entries i) k c.price (strikes i l) u t;
+      fitting = price-fits a bond (entry_of entries i) k c.price t;
     }
 
 -- Two exercises each thinner than the other are the same.
-same_kept : (side : Side) (c d : Exercise) → Thinner side c d → Thinner side d c → (marked c ≡ false → c ≡ none) → (marked d ≡ false → d ≡ none)
-    → (marked c ≡ true → Exact (price_of c)) → (marked d ≡ true → Exact (price_of d)) → d ≡ c
-same_kept side c d p q e g x y = go (marked c) refl (marked d) refl
+same_kept : (side : Side) (c d : Exercise) → Thinner side c d → Thinner side d c → (c.marked ≡ false → c ≡ none) → (d.marked ≡ false → d ≡ none)
+    → (c.marked ≡ true → Exact c.price) → (d.marked ≡ true → Exact d.price) → d ≡ c
+same_kept side c d p q e g x y = go c.marked refl d.marked refl
   where
-    go : (s : Bool) → marked c ≡ s → (t : Bool) → marked d ≡ t → d ≡ c
+    go : (s : Bool) → c.marked ≡ s → (t : Bool) → d.marked ≡ t → d ≡ c
     go false h false k = g k ∙ sym (e h)
     go false h true k = absurd (true≢false (sym (p.marked_too k) ∙ h))
     go true h false k = absurd (true≢false (sym (q.marked_too h) ∙ k))
     go true h true k =
         same_step d c (k ∙ sym h)
-        (same_of_eq binary64 false (price_of d) (price_of c) (y k).fitting (x h).fitting (y k).signed (x h).signed
-        (before_both side (price_of d) (price_of c) (q.price h) (p.price k)))
+        (same_of_eq binary64 false d.price c.price (y k).fitting (x h).fitting (y k).signed (x h).signed
+        (before_both side d.price c.price (q.price h) (p.price k)))
 
 module _ (side : Side) (a : Axis) (bond : Bond) (first second : CallSchedule) (n : Entries first) (u : Above bond.units) (strikes : (i : ℕ) → i < size first → T (lt plus_zero (strike_of first i))) (r : Reordered first second) (cs : List Exercise) (h : exercises side a bond first ≡ Ok cs) where
   reordered-given : (ds : List Exercise) × (exercises side a bond second ≡ Ok ds)

@@ -14,7 +14,7 @@ use Rattle.terms.specs.laws.GridChecks.{grid-terms}
 use Rattle.terms.specs.laws.TermChecks.{leg-counted, paid-passed}
 use Rattle.bondevents.specs.declared.Side.{Side}
 use Rattle.bondevents.specs.declared.Side.TheVariants.{Call, Put}
-use Rattle.bondevents.specs.Exercises.{Exercise}
+use Rattle.bondevents.specs.declared.Exercise.{Exercise}
 use Rattle.bondevents.specs.declared.CallStep.{CallStep}
 use Rattle.bondevents.specs.Steps.{Axis, step_of, paid_into}
 use Rattle.bondevents.specs.Calls.{Entry, discrete, none, counted, redemptions, redemption_step_of, principal, exercises, call_steps}

@@ -6,7 +6,7 @@ use mathlib.Core.List.{List, [], ◌∷◌}
 use Rattle.terms.specs.Terms.{CallSchedule, Bond, bond_with_puts}
 use Rattle.floats.specs.Answers.{Outcome, follow, on_outcome}
 use Rattle.bondevents.specs.declared.Side.{Side}
-use Rattle.bondevents.specs.Exercises.{Exercise}
+use Rattle.bondevents.specs.declared.Exercise.{Exercise}
 use Rattle.bondevents.specs.Steps.{Axis}
 use Rattle.bondevents.specs.Calls.{Entry, call_price, none, with_entry, over_entries, exercises}
 use Rattle.bondevents.specs.laws.Pricing.{same_price}

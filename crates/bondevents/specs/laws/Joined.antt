@@ -7,7 +7,7 @@ use Rattle.std.specs.Float.Ieee.Scale.{finite}
 use Rattle.floats.specs.laws.Order.{number_of-finite, le_trans, le_of_not_lt, not_le_of_lt}
 use Rattle.terms.specs.laws.Sequence.{indexed-passed, indexed_of_none}
 use Rattle.bondevents.specs.declared.Side.TheVariants.{Call}
-use Rattle.bondevents.specs.Exercises.{Exercise, marked, price_of}
+use Rattle.bondevents.specs.declared.Exercise.{Exercise}
 use Rattle.bondevents.specs.declared.CallStep.{CallStep}
 use Rattle.bondevents.specs.Calls.{none, new_step, joined, put_above, puts_below}
 use Rattle.bondevents.specs.laws.Sides.{Before}
@@ -32,11 +32,11 @@ joined-long (c ∷ cs) [] e = absurd (omega arith)
 joined-long (c ∷ cs) (p ∷ ps) e = ap suc (joined-long cs ps (omega arith))
 
 -- A call that is dropped or raised has no put above it where it had none.
-still_below : (c d p : Exercise) → T (finite (price_of c)) → T (finite (price_of p)) → Thinner Call c d → T (not (put_above (step c p))) → T (not (put_above (step d p)))
+still_below : (c d p : Exercise) → T (finite c.price) → T (finite p.price) → Thinner Call c d → T (not (put_above (step c p))) → T (not (put_above (step d p)))
 unfolding Before
-still_below c d p f g t = go (marked c) (marked d) (marked p) (lt (price_of c) (price_of p)) (lt (price_of d) (price_of p)) refl refl t.marked_too t.price
+still_below c d p f g t = go c.marked d.marked p.marked (lt c.price p.price) (lt d.price p.price) refl refl t.marked_too t.price
   where
-    go : (a b m u v : Bool) → lt (price_of c) (price_of p) ≡ u → lt (price_of d) (price_of p) ≡ v → (b ≡ true → a ≡ true) → (b ≡ true → Before Call (price_of c) (price_of d)) → T (not ((a && m) && u)) → T (not ((b && m) && v))
+    go : (a b m u v : Bool) → lt c.price p.price ≡ u → lt d.price p.price ≡ v → (b ≡ true → a ≡ true) → (b ≡ true → Before Call c.price d.price) → T (not ((a && m) && u)) → T (not ((b && m) && v))
     go a false m u v w e h k n = tt
     go a true false u v w e h k n = tt
     go a true true u false w e h k n = tt
@@ -44,11 +44,11 @@ still_below c d p f g t = go (marked c) (marked d) (marked p) (lt (price_of c) (
     go true true true true true w e h k n = n
     go true true true false true w e h k n =
         absurd
-        (not_le_of_lt (price_of d) (price_of p) (subst T (sym e) tt)
-        (le_trans (price_of p) (price_of c) (price_of d) (le_of_not_lt (price_of c) (price_of p) (number_of-finite (price_of c) f) (number_of-finite (price_of p) g) (subst (λ (b : Bool). T (not b)) (sym w) tt)) (k refl)))
+        (not_le_of_lt d.price p.price (subst T (sym e) tt)
+        (le_trans p.price c.price d.price (le_of_not_lt c.price p.price (number_of-finite c.price f) (number_of-finite p.price g) (subst (λ (b : Bool). T (not b)) (sym w) tt)) (k refl)))
 
 -- So of rows: the 38 that the first list passed, the second passes.
-pub rows-below : (cs ds ps : List Exercise) → length ps ≡ length cs → length ds ≡ length cs → ((k : ℕ) → T (finite (price_of (get_or cs k none)))) → ((k : ℕ) → T (finite (price_of (get_or ps k none)))) → ThinnerRow Call cs ds → puts_below (joined cs ps) ≡ Ok tt → puts_below (joined ds ps) ≡ Ok tt
+pub rows-below : (cs ds ps : List Exercise) → length ps ≡ length cs → length ds ≡ length cs → ((k : ℕ) → T (finite (get_or cs k none).price)) → ((k : ℕ) → T (finite (get_or ps k none).price)) → ThinnerRow Call cs ds → puts_below (joined cs ps) ≡ Ok tt → puts_below (joined ds ps) ≡ Ok tt
 rows-below cs ds ps e g fc fp t h =
     indexed_of_none reason.PutAbove (λ k. put_above (get_or (joined ds ps) k new_step)) (joined ds ps) λ k l.
     subst (λ (s : CallStep). T (not (put_above s))) (sym (joined_at ds ps k (e ∙ sym g)))

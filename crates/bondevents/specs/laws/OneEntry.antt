@@ -3,13 +3,13 @@ use Rattle.std.specs.Prelude.{◌≡◌, ◌⊎◌, Bool, true, false, cond, Lis
 use Rattle.std.proofs.Math.Path.{refl}
 use Rattle.std.proofs.Common.{sym, ap, ◌∙◌, subst, inl, inr, true≢false, add-zero, zero-add, arith}
 use Rattle.std.proofs.Math.ListN.{get_or-eq_default}
-use Rattle.floats.specs.declared.Refusal.{Refusal}
+use Rattle.floats.specs.Refusals.{Refusal}
 use Rattle.terms.specs.Terms.{Bond}
 use Rattle.floats.specs.Answers.{Outcome, follow}
 use Rattle.terms.specs.laws.Outcomes.{given_or_refused, answer-cases, of_given, of_refused, valued-value, valued-refused}
 use Rattle.terms.specs.laws.Searching.{below_or_not}
 use Rattle.bondevents.specs.declared.Side.{Side}
-use Rattle.bondevents.specs.Exercises.{Exercise}
+use Rattle.bondevents.specs.declared.Exercise.{Exercise}
 use Rattle.bondevents.specs.Steps.{Axis}
 use Rattle.bondevents.specs.Calls.{Entry, eligible, call_price, none, keep, over_steps, with_entry}
 

@@ -5,7 +5,7 @@ use native.Mathlib.Omega.{arith}
 use Rattle.std.proofs.Math.Numerals.{add-one}
 use Rattle.std.specs.Prelude.{◌≡◌, refl, Ok, Err}
 use Rattle.std.proofs.Math.Path.{sym, ap}
-use Rattle.floats.specs.declared.Refusal.{Refusal}
+use Rattle.floats.specs.Refusals.{Refusal}
 use Rattle.floats.specs.Answers.{Check, Outcome, on_outcome}
 use Rattle.terms.specs.Checks.{on_check}
 use Rattle.bookchecks.specs.declared.RefusedBond.{RefusedBond}

@@ -3,7 +3,7 @@ use Rattle.std.specs.Prelude.{ℕ, ◌≤◌, ◌<◌, ◌≡◌, refl, Bool, tr
 use Rattle.std.proofs.Common.{arith, ◌∙◌, ltb-false}
 use Rattle.std.proofs.Math.Path.{sym, ap}
 use Rattle.std.proofs.Math.Bool.{cond}
-use Rattle.floats.specs.declared.Refusal.{Refusal}
+use Rattle.floats.specs.Refusals.{Refusal}
 use Rattle.floats.specs.Answers.{plus_zero, Check, Outcome}
 use Rattle.terms.specs.Checks.{on_check, first_of, outside}
 use Rattle.terms.specs.Entries.{tree_checks}

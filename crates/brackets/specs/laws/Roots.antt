@@ -4,7 +4,7 @@ use Rattle.std.specs.Prelude.{◌≡◌, refl, Bool, true, false, not, cond, ◌
 use Rattle.std.proofs.Common.{sym, ap, subst}
 use Rattle.std.specs.Float.{binary64}
 use Rattle.std.specs.Float.Ieee.{sub, lt, le, eq}
-use Rattle.floats.specs.declared.Refusal.{Refusal}
+use Rattle.floats.specs.Refusals.{Refusal}
 use Rattle.floats.specs.Answers.{Answer, plus_zero}
 use Rattle.floats.specs.Middle.{midpoint_at}
 use Rattle.floats.specs.laws.Order.{lt_le_clash}

@@ -2,7 +2,7 @@
 use Rattle.std.specs.Prelude.{◌≡◌, refl, Bool, List, [], ◌∷◌, ℕ, ◌<◌, T, Ok, Err}
 use Rattle.std.proofs.Common.{sym, ◌∙◌, arith, T_not}
 use Rattle.floats.specs.declared.Reason.{Reason}
-use Rattle.floats.specs.declared.Refusal.{Refusal}
+use Rattle.floats.specs.Refusals.{Refusal}
 use Rattle.floats.specs.Answers.{Check}
 use Rattle.terms.specs.Checks.{on_check, first_of, lowest}
 use Rattle.terms.specs.laws.Sequence.{Sought, nowhere, found, sought}

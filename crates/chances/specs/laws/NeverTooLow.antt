@@ -6,7 +6,7 @@ use Rattle.std.proofs.Math.Dec.{T, not_T}
 use Rattle.std.specs.Float.Ieee.{binary64, add, mul, div, neg, le, lt, of_bits}
 use Rattle.std.specs.Float.Ieee.Bits.{is_false}
 use Rattle.std.specs.Float.Ieee.Scale.{finite}
-use Rattle.floats.specs.declared.Refusal.{Refusal}
+use Rattle.floats.specs.Refusals.{Refusal}
 use Rattle.floats.specs.Answers.{Answer, plus_zero, two, on_outcome, not_finite, Outcome, follow, refusal}
 use Rattle.floats.specs.Extremes.{max_of}
 use Rattle.floats.specs.laws.Order as order

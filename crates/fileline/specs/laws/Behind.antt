@@ -1,7 +1,7 @@
 -- The line behind a refusal of a file's bond is that of an entry at fault. Assumes nothing.
 use Rattle.floats.specs.Reasons.{reason_number}
 use Rattle.std.specs.Prelude.{ℕ, ◌≡◌, refl, List, Err}
-use Rattle.floats.specs.declared.Refusal.{Refusal}
+use Rattle.floats.specs.Refusals.{Refusal}
 use Rattle.terms.specs.Entries.{tree_checks}
 use Rattle.filebond.specs.Bond.{calls_of, market_of}
 use Rattle.places.specs.declared.Whose.{Whose}

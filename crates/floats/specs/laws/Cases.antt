@@ -1,6 +1,6 @@
 -- What holds of every case of a choice holds of the choice, each case with what is known in it. In the shape that `search` wants. Of answers: which numbers they are refused with. Assumes nothing.
 use Rattle.std.specs.Prelude.{ℕ, ◌≡◌, refl, Bool, true, false, cond, Float, Ok, Err}
-use Rattle.floats.specs.declared.Refusal.{Refusal}
+use Rattle.floats.specs.Refusals.{Refusal}
 use Rattle.floats.specs.Reasons.{reason_number}
 use Rattle.floats.specs.Answers.{Answer, Outcome, on_outcome}
 

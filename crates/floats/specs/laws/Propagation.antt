@@ -5,7 +5,7 @@ use Rattle.std.proofs.Common.{sym, ap, subst, ◌∙◌, T_not, arith}
 use Rattle.std.specs.Float.{nan, inf, fin, Format}
 use Rattle.std.specs.Float.Ieee.{unlike, add, sub, mul, div, neg}
 use Rattle.std.specs.Float.Ieee.Scale.{finite}
-use Rattle.floats.specs.declared.Refusal.{Refusal}
+use Rattle.floats.specs.Refusals.{Refusal}
 use Rattle.floats.specs.Answers.{Answer, Outcome, refusal, on_outcome, follow, not_finite, when_finite, tested}
 use Rattle.floats.specs.declared.Reason.TheVariants as reason
 

@@ -3,7 +3,7 @@ use Rattle.std.specs.Prelude.{ℕ, ◌+◌, ◌*◌, ◌<◌, ◌≡◌, refl, B
 use Rattle.std.proofs.Common.{sym, ap, ◌∙◌, add-one, arith}
 use mathlib.Core.List.{List, [], ◌∷◌}
 use Rattle.std.specs.Float.{nan}
-use Rattle.floats.specs.declared.Refusal.{Refusal}
+use Rattle.floats.specs.Refusals.{Refusal}
 use Rattle.floats.specs.Answers.{Answer, one, on_outcome, Check, Outcome, follow}
 use Rattle.terms.specs.laws.Outcomes.{same_given, given_or_refused, follow-given, follow-refused}
 use Rattle.hullwhite.specs.laws.Filled.{check_of}

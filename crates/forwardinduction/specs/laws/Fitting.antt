@@ -2,14 +2,14 @@
 use Rattle.std.specs.Prelude.{ℕ, ◌≤◌, ◌≡◌, Bool, true, false, cond, List, length, take, ℤ, Float, Ok, Err}
 use Rattle.std.proofs.Math.Path.{sym, ap}
 use Rattle.std.proofs.Common.{◌∙◌, length-take-le}
-use Rattle.floats.specs.declared.Refusal.{Refusal}
-use Rattle.floats.specs.Answers.{Answer, on_outcome, Check, Outcome, follow}
+use Rattle.floats.specs.Refusals.{Refusal}
+use Rattle.floats.specs.Answers.{Answer, on_outcome, Check, Outcome, follow, outcome_of}
 use Rattle.terms.specs.laws.Outcomes.{follow-given, follow-refused}
 use Rattle.lattice.specs.Layers.{At}
 use Rattle.lattice.specs.laws.Stored.{numbers_in, row_of}
 use Rattle.lattice.specs.laws.Laid.{front_nodes}
 use Rattle.lattice.specs.laws.Binds.{went_on, stopped_at}
-use Rattle.lattice.specs.laws.Rows.{even, outcome_of, current_part, Both}
+use Rattle.lattice.specs.laws.Rows.{even, current_part, Both}
 use Rattle.forwardinduction.specs.laws.Advances.{layer_shift, advanced_at, Moved, step_at}
 
 -- The row of a step whose layer of c nodes stands in front.

@@ -6,7 +6,7 @@ use mathlib.Core.List.{List, [], ◌∷◌}
 use Rattle.std.proofs.Math.ListN.{length, drop}
 use Rattle.std.proofs.Math.Seq.{drop-cons}
 use Rattle.floats.specs.Answers.{Answer, plus_zero, on_outcome, follow}
-use Rattle.floats.specs.declared.Refusal.{Refusal}
+use Rattle.floats.specs.Refusals.{Refusal}
 use Rattle.floats.specs.Extremes.{max_of, min_of}
 use Rattle.hullwhite.specs.Variance.{with_piece, pieces, variance_over}
 

@@ -13,12 +13,15 @@ use lib.Seq.{drop-cons}
 use Rattle.std.proofs.Common.{min, length-append}
 use Rattle.std.proofs.lemmas.List.{nil_from_length}
 use lib.Ieee.{Float, nan}
-use Rattle.floats.specs.declared.Refusal.{Refusal}
+use Rattle.floats.specs.Refusals.{Refusal}
 use Rattle.terms.specs.declared.Epoch.{Epoch}
 use Rattle.interestrate.specs.declared.Compounding.{Compounding}
 use Rattle.interestrate.specs.declared.YieldPrice.{YieldPrice}
-use Rattle.floats.specs.Answers.{Outcome}
-use Rattle.interestrate.specs.Prices.{on_price, from_price, with_flow, flows}
+use Rattle.terms.specs.Times.{time_from}
+use Rattle.floats.specs.Answers.{Outcome, Check, outcome_of}
+use Rattle.floats.proofs.Lent.{passes-call, refuses-call}
+use Rattle.interestrate.specs.Prices.{on_price, from_price, discount_and_derivative, with_flow, flows}
+use Rattle.interestrate.specs.laws.Rows.{join_sums, flow_known, flow_refused}
 
 module _ (y : Float) (compounding : Compounding) (settlement : Epoch) (days : List ℕ) (amounts : List Float) (price₀ derivative₀ : Float) where
   pub record Going (i : ℕ) (price derivative : Float) : Type 0 where
@@ -51,7 +54,7 @@ module _ (y : Float) (compounding : Compounding) (settlement : Epoch) (days : Li
         ≡ flows y compounding settlement days amounts price₀ derivative₀
     follows h u e = sym (rw (lt-ltb settlement.day (get_or days i 0) u, ← e) at (turn h)) ∙ g.rest
 
-    pub paid : {s : Outcome YieldPrice} (v : YieldPrice)
+    paid : {s : Outcome YieldPrice} (v : YieldPrice)
         → i < length days
         → settlement.day < get_or days i 0
         → s ≡ with_flow y compounding settlement (get_or days i 0) (get_or amounts i nan) price derivative
@@ -64,7 +67,7 @@ module _ (y : Float) (compounding : Compounding) (settlement : Epoch) (days : Li
     unfolding on_price
     unpaid h u = record { within = omega arith; rest = sym (rw (le-ltb settlement.day (get_or days i 0) u) at (turn h)) ∙ g.rest }
 
-    pub stopped : {s r : Outcome YieldPrice} {q : Refusal}
+    stopped : {s r : Outcome YieldPrice} {q : Refusal}
         → i < length days
         → settlement.day < get_or days i 0
         → s ≡ with_flow y compounding settlement (get_or days i 0) (get_or amounts i nan) price derivative
@@ -73,6 +76,30 @@ module _ (y : Float) (compounding : Compounding) (settlement : Epoch) (days : Li
         → r ≡ flows y compounding settlement days amounts price₀ derivative₀
     unfolding on_price
     stopped h u e v p = p ∙ (rw v at (follows h u e))
+
+    -- A flow whose discount and derivative are refused.
+    pub refused : {r : Outcome YieldPrice} {q : Refusal}
+        → i < length days
+        → settlement.day < get_or days i 0
+        → discount_and_derivative y (time_from settlement (get_or days i 0)) compounding ≡ Err q
+        → r ≡ Err q
+        → r ≡ flows y compounding settlement days amounts price₀ derivative₀
+    refused h u e p = stopped h u (flow_refused y compounding settlement (get_or days i 0) (get_or amounts i nan) price derivative e) refl p
+
+    -- A flow whose discount and derivative are known: what joining them to the sums says, and the sums v that it leaves.
+    module _ (v : YieldPrice) (says : Check) {flow : YieldPrice}
+        (h : i < length days)
+        (u : settlement.day < get_or days i 0)
+        (known : discount_and_derivative y (time_from settlement (get_or days i 0)) compounding ≡ Ok flow)
+        (e : outcome_of says v ≡ join_sums (get_or amounts i nan) flow.price flow.derivative price derivative) where
+      with_known : outcome_of says v ≡ with_flow y compounding settlement (get_or days i 0) (get_or amounts i nan) price derivative
+      with_known = e ∙ flow_known y compounding settlement (get_or days i 0) (get_or amounts i nan) price derivative flow.price flow.derivative known
+
+      pub joined : {t : Unit {0}} → says ≡ Ok t → Going (i + 1) v.price v.derivative
+      joined was = paid v h u with_known (passes-call v was)
+
+      pub not_joined : {r : Outcome YieldPrice} {q : Refusal} → says ≡ Err q → r ≡ Err q → r ≡ flows y compounding settlement days amounts price₀ derivative₀
+      not_joined was p = stopped h u with_known (refuses-call v was) p
 
     pub done : length days ≤ i → Ok (record { price = price; derivative = derivative }) ≡ flows y compounding settlement days amounts price₀ derivative₀
     unfolding flows

@@ -1,10 +1,10 @@
 -- Compounded interest by rows: what each loop leaves at an index, and that together they give each flow's discount and derivative. Assumes nothing.
-use Rattle.std.specs.Prelude.{ℕ, ◌+◌, ◌≤◌, ◌<◌, ◌≡◌, refl, Bool, true, false, cond, ◌&&◌, List, T, length, get_or, set, Float, Ok, Err, Option, Some, None}
+use Rattle.std.specs.Prelude.{ℕ, ◌+◌, ◌≤◌, ◌<◌, ◌≡◌, refl, Bool, true, false, cond, ◌&&◌, List, T, length, get_or, set, Float, Ok, Err}
 use Rattle.std.proofs.Common.{sym, ap, ◌∙◌, subst, le_refl, arith, below_more}
-use Rattle.std.proofs.lemmas.Option.{none-some, same_Some}
 use Rattle.std.specs.Float.{nan, inf, fin, binary64}
 use Rattle.std.specs.Float.Ieee.{add, sub, mul, div, neg, eq, le}
 use Rattle.std.specs.Float.Ieee.Scale.{finite}
+use Rattle.floats.specs.Refusals.{Refusal}
 use Rattle.floats.specs.declared.Reason.TheVariants as reason
 use Rattle.floats.specs.Answers.{Answer, on_outcome, not_finite, plus_zero, one, Outcome}
 use Rattle.floats.specs.laws.Propagation.{finite-back, finite-clash, add_left, mul_left, div_left, passes}
@@ -19,14 +19,9 @@ use Rattle.terms.specs.declared.Epoch.{Epoch}
 use Rattle.terms.specs.Times.{time_from}
 use Rattle.interestrate.specs.declared.Compounding.{Compounding}
 use Rattle.interestrate.specs.declared.YieldPrice.{YieldPrice}
-use Rattle.interestrate.specs.declared.rows.FlowRow.{FlowRow}
 use Rattle.interestrate.specs.Prices.{on_price, from_price, from_answer, no, finitely, compoundly, discount_and_derivative, with_flow}
 
 -- ---- what is known of a row
-
--- What is known of a flow is this price and derivative.
-abbrev pub KnownFlow : Option YieldPrice → Outcome YieldPrice → Type 0
-KnownFlow known a = (v : YieldPrice) → known ≡ Some v → a ≡ Ok v
 
 abbrev pub time_at : Epoch → List ℕ → ℕ → Float
 time_at settlement days i = time_from settlement (get_or days i 0)
@@ -42,36 +37,6 @@ no_row = record { each = λ i h g. false_not g }
 pub record RowRoom (n : ℕ) (discounts slopes : List Float) : Type 0 where
   pub discounts-fit : length discounts ≡ n
   pub slopes-fit : length slopes ≡ n
-
--- ---- what a row knows of a flow
-
--- Flow i stands in the row, if there is one.
-abbrev pub RowReaches : Option FlowRow → ℕ → Type 0
-RowReaches row i = (r : FlowRow) → row ≡ Some r → (i < length r.discounts.now) × (i < length r.slopes.now)
-
-unfoldable pub known_at : Option FlowRow → ℕ → Option YieldPrice
-known_at (Some r) i = Some (record { price = get_or r.discounts.now i nan; derivative = get_or r.slopes.now i nan })
-known_at None i = None
-
--- What the row knows of each flow is what f gives at its time.
-pub record KnownRow (row : Option FlowRow) (f : Float → Outcome YieldPrice) (settlement : Epoch) (days : List ℕ) : Type 0 where
-  pub reaches : (i : ℕ) → i < length days → RowReaches row i
-  pub each : (i : ℕ) → i < length days → KnownFlow (known_at row i) (f (time_at settlement days i))
-
-module _ {f : Float → Outcome YieldPrice} {settlement : Epoch} {days : List ℕ} where
-  -- A row that was filled is known.
-  pub row-known : (r : FlowRow) → length r.discounts.now ≡ length days → length r.slopes.now ≡ length days
-      → ((i : ℕ) → i < length days → f (time_at settlement days i) ≡ Ok (record { price = get_or r.discounts.now i nan; derivative = get_or r.slopes.now i nan }))
-      → KnownRow (Some r) f settlement days
-  unfolding known_at
-  row-known r d s h = record {
-    reaches = λ i l q e. subst (λ (z : FlowRow). (i < length z.discounts.now) × (i < length z.slopes.now)) (same_Some r q e) (omega arith, omega arith);
-    each = λ i l v e. h i l ∙ ap Ok (same_Some _ v e);
-  }
-
-  pub no_row-known : KnownRow None f settlement days
-  unfolding known_at
-  no_row-known = record { reaches = λ i l q e. absurd (none-some q e); each = λ i l v e. absurd (none-some v e) }
 
 -- ---- each flow's time, and the exponent of its discount
 
@@ -233,7 +198,7 @@ compounded_row_lem rate frequency log settlement days {times₀} {xs₀} {times}
       ∙ ap (λ (z : Float). Ok (record { price = d; derivative = z })) (sym (s.filling.below i ht ∙ is));
 }
 
--- ---- a flow whose discount and derivative are known
+-- ---- a flow whose discount and derivative are known, or refused
 
 -- Each joins its sum by mul_add.
 unfoldable pub join_sums : Float → Float → Float → Float → Float → Outcome YieldPrice
@@ -247,3 +212,9 @@ pub flow_known : (rate : Float) (compounding : Compounding) (settlement : Epoch)
     → join_sums amount discount slope price derivative ≡ with_flow rate compounding settlement day amount price derivative
 unfolding with_flow join_sums on_price
 flow_known rate compounding settlement day amount price derivative discount slope e = ap (λ (a : Outcome YieldPrice). from_price a (λ d s. join_sums amount d s price derivative)) (sym e)
+
+pub flow_refused : (rate : Float) (compounding : Compounding) (settlement : Epoch) (day : ℕ) (amount price derivative : Float) {q : Refusal}
+    → discount_and_derivative rate (time_from settlement day) compounding ≡ Err q
+    → Err q ≡ with_flow rate compounding settlement day amount price derivative
+unfolding with_flow join_sums on_price
+flow_refused rate compounding settlement day amount price derivative e = ap (λ (a : Outcome YieldPrice). from_price a (λ d s. join_sums amount d s price derivative)) (sym e)

@@ -2,7 +2,7 @@
 use Rattle.std.specs.Prelude.{ℕ, ◌+◌, ◌-◌, ◌*◌, ◌≤◌, ◌≡◌, refl, false, length, take, drop, ℤ, Float, Ok, Err}
 use Rattle.std.proofs.Common.{arith, add-one, sym, ap, ◌∙◌, length-drop}
 use mathlib.Core.List.{List, ◌∷◌, ◌++◌}
-use Rattle.floats.specs.declared.Refusal.{Refusal}
+use Rattle.floats.specs.Refusals.{Refusal}
 use Rattle.floats.specs.Answers.{Check, Outcome, follow, on_outcome}
 use Rattle.terms.specs.laws.Outcomes.{same_given, given_or_refused, follow-given, follow-refused, of_given, given_of}
 use Rattle.hullwhite.specs.laws.Filled.{check_of}

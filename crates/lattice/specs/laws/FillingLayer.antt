@@ -5,7 +5,7 @@ use Rattle.std.proofs.Math.Path.{◌≡◌}
 use Rattle.std.proofs.Common.{sym, ap, ◌∙◌, length-append, length-drop, get_or-append-add, get_or-drop}
 use mathlib.Core.List.{List, [], ◌∷◌, ◌++◌, append-nil}
 use Rattle.std.proofs.Math.Seq.{append_snoc}
-use Rattle.floats.specs.declared.Refusal.{Refusal}
+use Rattle.floats.specs.Refusals.{Refusal}
 use Rattle.floats.specs.Answers.{plus_zero, Outcome, follow, on_outcome}
 use Rattle.hullwhite.specs.laws.Filled.{check_of}
 use Rattle.lattice.specs.declared.Transition.{Transition}

@@ -3,7 +3,7 @@ use Prim.Native.Nat.{ℕ, suc, ◌+◌, ◌*◌}
 use Rattle.std.proofs.Common.{arith, sym, ap}
 use Rattle.std.specs.Prelude.{◌≡◌, refl, Bool, true, false, cond, List, ◌++◌, drop, ℤ, Float, Ok, Err}
 use Rattle.std.proofs.Math.ListN.{length}
-use Rattle.floats.specs.declared.Refusal.{Refusal}
+use Rattle.floats.specs.Refusals.{Refusal}
 use Rattle.floats.specs.Answers.{Outcome, follow, on_outcome}
 use Rattle.terms.specs.laws.Outcomes.{same_given, given_or_refused}
 use Rattle.hullwhite.specs.laws.Filled.{check_of}

@@ -1,6 +1,6 @@
 -- What a step that was grown brings: its transitions go along its layer, the next layer is known, its spacing is not below 0, and it fits. Assumes nothing.
 use Rattle.std.specs.Prelude.{◌+◌, ◌≡◌, refl, Bool, true, false, cond, List, length, ℤ, Err}
-use Rattle.floats.specs.declared.Refusal.{Refusal}
+use Rattle.floats.specs.Refusals.{Refusal}
 use Rattle.rounded.specs.laws.RootBounds.{NotBelow}
 use Rattle.floats.specs.Answers.{Outcome}
 use Rattle.terms.specs.laws.Outcomes.{Gives, nothing}

@@ -7,7 +7,7 @@ use Rattle.std.specs.Float.Ieee.{binary64, add, sub, mul, div, neg, le, lt, fits
 use Rattle.std.specs.Float.Ieee.Fits.{div-fits}
 use Rattle.std.specs.Float.Ieee.Scale.{finite}
 use Rattle.floats.specs.declared.Reason.{Reason}
-use Rattle.floats.specs.declared.Refusal.{Refusal}
+use Rattle.floats.specs.Refusals.{Refusal}
 use Rattle.floats.specs.Answers.{plus_zero, one, two, on_outcome, Outcome, refusal}
 use Rattle.floats.specs.Whole.{rounded}
 use Rattle.floats.specs.laws.Arithmetic.{mul_mono_left, mul_mono_right, div_mono_left}

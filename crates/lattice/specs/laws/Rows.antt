@@ -1,6 +1,5 @@
--- Which of the two lent rows is current at a step, and how the answer of a function beside the row that it leaves is read as an outcome. Assumes nothing.
-use Rattle.std.specs.Prelude.{ℕ, ◌%◌, Bool, cond, List, take, eqb, Float, Ok, Err}
-use Rattle.floats.specs.Answers.{Check, Outcome}
+-- Which of the two lent rows is current at a step. Assumes nothing.
+use Rattle.std.specs.Prelude.{ℕ, ◌%◌, Bool, cond, List, take, eqb, Float}
 
 -- An even step.
 abbrev pub even : ℕ → Bool
@@ -9,11 +8,6 @@ even step = eqb (step % 2) 0
 -- At an even step a part of the first row, at an odd step of the second.
 abbrev pub current_part : ℕ → ℕ → List Float → List Float → List Float
 current_part step count first second = cond (even step) (take count first) (take count second)
-
--- What is left behind, or the refusal.
-unfoldable pub outcome_of : {A : Type 0} → Check → A → Outcome A
-outcome_of (Ok tt) x = Ok x
-outcome_of (Err r) x = Err r
 
 -- The two lent rows.
 pub record Both : Type 0 where

@@ -8,7 +8,7 @@ use mathlib.Core.List.{List, [], ◌∷◌, ◌++◌}
 use lib.ListN.{length, get_or, take, drop, set, take-append-drop}
 use lib.IntN.{ℤ}
 use lib.Ieee.{Float, nan}
-use Rattle.floats.specs.declared.Refusal.{Refusal}
+use Rattle.floats.specs.Refusals.{Refusal}
 use Rattle.floats.specs.Answers.{Check, Outcome}
 use Rattle.lattice.specs.declared.NextLayer.{NextLayer}
 use Rattle.lattice.specs.Lattice.{grown}

@@ -11,7 +11,7 @@ use Rattle.std.proofs.Math.Bool.{or_comm}
 use mathlib.Core.List.{List, [], ◌∷◌}
 use Rattle.std.proofs.lemmas.Bool.{lt-leb}
 use Rattle.std.specs.Float.Ieee.Bits.{is_true, is_false}
-use Rattle.floats.specs.declared.Refusal.{Refusal}
+use Rattle.floats.specs.Refusals.{Refusal}
 use Rattle.floats.specs.Answers.{Check}
 use Rattle.terms.specs.Numbers.{float, amount_limit}
 use Rattle.terms.specs.Terms.{Leg, CallSchedule, SigmaSchedule, Market, no_entries, with_puts}

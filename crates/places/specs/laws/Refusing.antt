@@ -4,7 +4,7 @@ use Rattle.floats.specs.declared.Reason.{Reason}
 use Rattle.std.specs.Prelude.{ℕ, ◌≤◌, ◌<◌, ◌≡◌, ◌⊎◌, Bool, true, false, List, [], ◌∷◌, ◌++◌, Float, Ok, Err}
 use Rattle.std.proofs.Math.Path.{refl}
 use Rattle.std.proofs.Common.{sym, ◌∙◌, inl, inr, arith, rules}
-use Rattle.floats.specs.declared.Refusal.{Refusal}
+use Rattle.floats.specs.Refusals.{Refusal}
 use Rattle.floats.specs.Answers.{Check}
 use Rattle.terms.specs.Terms.{CallSchedule, Market, no_entries, with_puts}
 use Rattle.terms.specs.Checks.{on_check, first_of, single, lowest, settings, day_count, leg_count, call_count, settlement_day, leg_days, call_days, pillar_days, amount_range, strike_range, call_order, sigma_order, any_paid}

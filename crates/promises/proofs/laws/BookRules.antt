@@ -5,7 +5,7 @@ use Rattle.std.proofs.Common.{arith, eq-or-lt_of_le, le_of_suc-le-suc, sym, subs
 use Rattle.std.proofs.Math.Path.{ap}
 use Rattle.std.proofs.Math.ListN.{get_or}
 use Rattle.std.specs.Float.Ieee.{le}
-use Rattle.floats.specs.declared.Refusal.{Refusal}
+use Rattle.floats.specs.Refusals.{Refusal}
 use Rattle.floats.specs.Answers.{Answer, plus_zero, not_finite, Check, Outcome}
 use Rattle.floats.specs.laws.Order.{not_le_of_lt}
 use Rattle.terms.specs.Numbers.{million}

@@ -8,7 +8,7 @@ use Rattle.std.proofs.Math.Logic.{inl, inr}
 use mathlib.Core.List.{List, ◌++◌}
 use Rattle.std.proofs.Math.ListN.{get_or}
 use Rattle.std.specs.Float.Ieee.{le}
-use Rattle.floats.specs.declared.Refusal.{Refusal}
+use Rattle.floats.specs.Refusals.{Refusal}
 use Rattle.floats.specs.Answers.{Answer, plus_zero, Outcome}
 use Rattle.terms.specs.Terms.{CallSchedule, Market, with_puts}
 use Rattle.lattice.specs.Layers.{Room}

@@ -6,7 +6,7 @@ use Rattle.std.specs.Prelude.{◌≡◌, false, T, Float, Ok, Err}
 use Rattle.std.proofs.Math.Dec.{lit≤}
 use Rattle.std.specs.Float.{binary64}
 use Rattle.std.specs.Float.Ieee.{sub, neg, le}
-use Rattle.floats.specs.declared.Refusal.{Refusal}
+use Rattle.floats.specs.Refusals.{Refusal}
 use Rattle.floats.specs.Answers.{Answer, one}
 use Rattle.floats.specs.Reasons.{reason_number}
 use Rattle.floats.specs.Middle.{midpoint_at}

@@ -1,7 +1,7 @@
 -- Yield from price and spread from price make at most 386 evaluations, none where the input is refused. Assumes nothing.
 use Rattle.std.specs.Prelude.{ℕ, ◌≤◌, ◌≡◌, refl, Float, Ok, Err}
 use native.Mathlib.Omega.{arith}
-use Rattle.floats.specs.declared.Refusal.{Refusal}
+use Rattle.floats.specs.Refusals.{Refusal}
 use Rattle.floats.specs.Answers.{Check, Outcome, on_outcome}
 use Rattle.terms.specs.declared.Settlement.{Settlement}
 use Rattle.terms.specs.Times.{epoch_of}

@@ -4,7 +4,7 @@ use Rattle.std.specs.Prelude.{ℕ, ◌≡◌, ◌⊎◌, List, map, T, length, r
 use Rattle.std.proofs.Math.Path.{refl}
 use Rattle.std.proofs.Common.{sym, ap, subst, ◌∙◌, inl, inr}
 use Rattle.std.specs.Float.Ieee.{le}
-use Rattle.floats.specs.declared.Refusal.{Refusal}
+use Rattle.floats.specs.Refusals.{Refusal}
 use Rattle.floats.specs.laws.Order.{not_le_of_lt}
 use Rattle.terms.specs.Terms.{CallSchedule, Market, with_puts}
 use Rattle.terms.specs.CallLists.{StrikeAbove, strike_of}

@@ -4,7 +4,7 @@ use Rattle.floats.specs.Reasons.{reason_number}
 use Rattle.std.specs.Prelude.{ℕ, zero, suc, ◌≡◌, refl, Bool, true, false, ◌&&◌, ◌||◌, List, [], ◌∷◌, T, eqb, Float, Ok, Err}
 use Rattle.std.proofs.Common.{sym, ap, subst, ◌∙◌, eqb-true}
 use Rattle.std.proofs.lemmas.Bool.{false≢true}
-use Rattle.floats.specs.declared.Refusal.{Refusal}
+use Rattle.floats.specs.Refusals.{Refusal}
 use Rattle.floats.specs.Answers.{Answer, on_outcome, Check, Outcome}
 use Rattle.terms.specs.Checks.{on_check, lowest}
 use Rattle.floats.specs.laws.Cases.{Holds, of_cond, of_answer, RefusedOnly, value-only, refused-only, then_only}

@@ -10,7 +10,7 @@ use Rattle.std.proofs.Math.ListN.{length}
 use Rattle.std.proofs.Math.IntN.{pred_ℤ, suc_ℤ}
 use Rattle.std.specs.Float.{binary64}
 use Rattle.std.specs.Float.Ieee.{mul, le}
-use Rattle.floats.specs.declared.Refusal.{Refusal}
+use Rattle.floats.specs.Refusals.{Refusal}
 use Rattle.floats.specs.Answers.{Answer, two, on_outcome, Outcome, follow, when_finite, refusal}
 use Rattle.terms.specs.Numbers.{float, epsilon}
 use Rattle.terms.specs.laws.Outcomes.{same_given, given_or_refused, of_given, valued-value}

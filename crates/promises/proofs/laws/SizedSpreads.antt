@@ -3,7 +3,7 @@ use Rattle.floats.specs.Reasons.{reason_number}
 use Rattle.std.specs.Prelude.{ℕ, ◌≡◌, List, Float, Ok, Err}
 use Rattle.std.proofs.Common.{arith, ap, ◌∙◌}
 use Rattle.std.proofs.Math.Path.{refl}
-use Rattle.floats.specs.declared.Refusal.{Refusal}
+use Rattle.floats.specs.Refusals.{Refusal}
 use Rattle.floats.specs.Answers.{Check, Outcome, follow, on_outcome}
 use Rattle.terms.specs.Numbers.{target_limit}
 use Rattle.terms.specs.Terms.{CallSchedule, Market, with_spread}

@@ -3,7 +3,7 @@ use Rattle.floats.specs.Reasons.{reason_number}
 use Rattle.std.specs.Prelude.{ℕ, ◌≡◌, refl, List, ◌∷◌, T, Float, Ok, Err}
 use Rattle.std.proofs.Math.Path.{subst}
 use Rattle.std.specs.Float.Ieee.{binary64, of_bits, of_int, sub, neg, lt, le}
-use Rattle.floats.specs.declared.Refusal.{Refusal}
+use Rattle.floats.specs.Refusals.{Refusal}
 use Rattle.floats.specs.Answers.{Answer, one, not_finite, tested, Check, Outcome}
 use Rattle.terms.specs.Numbers.{float, target_limit}
 use Rattle.terms.specs.Terms.{CallSchedule}

@@ -5,7 +5,7 @@ use Rattle.std.proofs.Common.{sym, ◌∙◌, inl, inr}
 use Rattle.std.proofs.Math.Bool.{cond}
 use Rattle.std.proofs.Math.ListN.{get_or-map}
 use Rattle.std.specs.Float.Ieee.{Float, binary64, sub, neg, lt}
-use Rattle.floats.specs.declared.Refusal.{Refusal}
+use Rattle.floats.specs.Refusals.{Refusal}
 use Rattle.floats.specs.Answers.{Answer, plus_zero, one, refusal, tested, Check, Outcome, follow, on_outcome}
 use Rattle.terms.specs.declared.Settlement.{Settlement}
 use Rattle.terms.specs.Numbers.{float, target_limit}
@@ -18,7 +18,7 @@ use Rattle.terms.specs.laws.Sequence.{indexed_of_none}
 use Rattle.terms.specs.laws.GridChecks.{grid-calls}
 use Rattle.terms.specs.laws.TreeChecks.{tree-grid, spread_is}
 use Rattle.bondevents.specs.declared.Side.TheVariants.{Call, Put}
-use Rattle.bondevents.specs.Exercises.{Exercise, marked, price_of}
+use Rattle.bondevents.specs.declared.Exercise.{Exercise}
 use Rattle.bondevents.specs.declared.CallStep.{CallStep}
 use Rattle.bondevents.specs.declared.BondEventGrid.{BondEventGrid}
 use Rattle.bondevents.specs.declared.GridAnswer.{GridAnswer}
@@ -100,9 +100,9 @@ beside_none [] = refl
 beside_none (c ∷ cs) = ap (λ (z : List CallStep). unput c ∷ z) (beside_none cs)
 
 none_above : (c : Exercise) → T (not (put_above (unput c)))
-none_above c = go (marked c)
+none_above c = go c.marked
   where
-    go : (b : Bool) → T (not ((b && false) && lt (price_of c) plus_zero))
+    go : (b : Bool) → T (not ((b && false) && lt c.price plus_zero))
     go true = tt
     go false = tt
 

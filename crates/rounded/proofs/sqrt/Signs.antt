@@ -14,7 +14,7 @@ use lib.Ieee.{Float, nan, inf, fin, up, down, lt, eq, of_bits}
 use lib.Ieee.Fits.{and_l, and_i, eq→eqb}
 use lib.Ieee.Positive.{num, positive}
 use lib.Ieee.Scale.{finite}
-use Rattle.floats.specs.declared.Refusal.{Refusal}
+use Rattle.floats.specs.Refusals.{Refusal}
 use Rattle.floats.specs.Answers.{Answer, plus_zero, refusal, tested, when_finite}
 use Rattle.floats.proofs.Laws.{left, taken}
 use Rattle.floats.specs.laws.Propagation.{passed_test, passed_on, passes, stopped}

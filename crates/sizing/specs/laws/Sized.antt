@@ -4,7 +4,7 @@ use Rattle.std.proofs.Common.{arith, ◌∙◌}
 use Rattle.std.proofs.Math.Path.{◌≡◌, refl, sym, ap}
 use Rattle.std.specs.Float.{binary64}
 use Rattle.std.specs.Float.Ieee.{div}
-use Rattle.floats.specs.declared.Refusal.{Refusal}
+use Rattle.floats.specs.Refusals.{Refusal}
 use Rattle.floats.specs.Answers.{Check, Outcome, follow, on_outcome, tested, when_finite}
 use Rattle.floats.specs.laws.Propagation.{passed_on, stopped}
 use Rattle.terms.specs.Checks.{on_check}

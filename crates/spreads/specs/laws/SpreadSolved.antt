@@ -5,7 +5,7 @@ use Rattle.std.proofs.Common.{◌∙◌}
 use Rattle.std.proofs.Math.Bool.{cond}
 use mathlib.Core.List.{List, map}
 use Rattle.std.specs.Float.Ieee.{Float, binary64, of_bits, sub, div, neg, lt}
-use Rattle.floats.specs.declared.Refusal.{Refusal}
+use Rattle.floats.specs.Refusals.{Refusal}
 use Rattle.floats.specs.Answers.{Answer, plus_zero, one, refusal, follow, tested, Check, Outcome, on_outcome, when_finite}
 use Rattle.terms.specs.Numbers.{float}
 use Rattle.terms.specs.Terms.{CallSchedule, Market}

@@ -4,7 +4,7 @@ use Rattle.std.proofs.Math.Path.{refl, ap}
 use Rattle.std.proofs.Common.{◌∙◌}
 use Rattle.std.proofs.Math.Bool.{true, false, cond}
 use Rattle.std.specs.Float.Ieee.{binary64, of_bits, of_int, sub, neg, lt}
-use Rattle.floats.specs.declared.Refusal.{Refusal}
+use Rattle.floats.specs.Refusals.{Refusal}
 use Rattle.floats.specs.Answers.{Answer, one, refusal, tested, follow, on_outcome, Check, Outcome}
 use Rattle.floats.specs.Extremes.{max_of}
 use Rattle.terms.specs.Numbers.{float}

@@ -2,7 +2,7 @@
 use Rattle.std.specs.Prelude.{◌≡◌, false, ℕ, ◌≤◌, ◌<◌, length, T, ltb, Ok, Err}
 use Rattle.std.proofs.Common.{nltb→le}
 use Rattle.std.specs.Float.Ieee.{lt, le}
-use Rattle.floats.specs.declared.Refusal.{Refusal}
+use Rattle.floats.specs.Refusals.{Refusal}
 use Rattle.floats.specs.Answers.{plus_zero, not_finite}
 use Rattle.floats.specs.laws.Fractions.{or_r}
 use Rattle.terms.specs.Numbers.{million}

@@ -2,7 +2,7 @@
 use Rattle.std.specs.Prelude.{◌≡◌, List, [], ◌∷◌, ◌++◌, Ok, Err}
 use Rattle.std.proofs.Math.Path.{refl}
 use Rattle.std.proofs.Common.{◌∙◌}
-use Rattle.floats.specs.declared.Refusal.{Refusal}
+use Rattle.floats.specs.Refusals.{Refusal}
 use Rattle.terms.specs.declared.Settlement.{Settlement}
 use Rattle.floats.specs.Answers.{Check}
 use Rattle.terms.specs.Terms.{CallSchedule, Bond, TimeGrid, bond_with_puts}

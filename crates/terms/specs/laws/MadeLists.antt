@@ -2,7 +2,7 @@
 use Rattle.std.specs.Prelude.{◌≡◌, ◌⊎◌, ℕ, ◌<◌, T, Ok, Err}
 use Rattle.std.proofs.Common.{inl, inr, arith}
 use Rattle.std.specs.Float.Ieee.{lt, le}
-use Rattle.floats.specs.declared.Refusal.{Refusal}
+use Rattle.floats.specs.Refusals.{Refusal}
 use Rattle.floats.specs.declared.Reason.TheVariants as reason
 use Rattle.floats.specs.Answers.{plus_zero}
 use Rattle.floats.specs.laws.Order.{number_of-finite, number_of_le, le_of_lt, le_of_not_lt, lt_of_lt_of_le, between}

@@ -1,6 +1,6 @@
 -- Every refusal of an input check has a number above 0, so 0 stands for no refusal. Assumes nothing.
 use Rattle.std.specs.Prelude.{◌<◌, ◌≡◌, Err}
-use Rattle.floats.specs.declared.Refusal.{Refusal}
+use Rattle.floats.specs.Refusals.{Refusal}
 use Rattle.floats.specs.Reasons.{reason_number}
 use Rattle.floats.specs.Answers.{Check}
 use Rattle.floats.specs.laws.Reasons.{reason-above_zero}

@@ -2,7 +2,7 @@
 use Rattle.std.specs.Prelude.{ℕ, Float, Ok, Err}
 use Rattle.std.proofs.Math.Path.{◌≡◌, refl}
 use Rattle.std.proofs.Common.{sym, ap, ◌∙◌, inl, inr, arith}
-use Rattle.floats.specs.declared.Refusal.{Refusal}
+use Rattle.floats.specs.Refusals.{Refusal}
 use Rattle.floats.specs.declared.Reason.TheVariants as reason
 use Rattle.floats.specs.Reasons.{refusal_number, reason_number}
 use Rattle.floats.specs.Answers.{Answer, Outcome, on_outcome}

@@ -4,7 +4,7 @@ use Rattle.std.proofs.Common.{arith, ◌∙◌}
 use Rattle.std.proofs.Math.Path.{sym, ap}
 use mathlib.Core.List.{List}
 use Rattle.std.specs.Float.Ieee.{binary64, div}
-use Rattle.floats.specs.declared.Refusal.{Refusal}
+use Rattle.floats.specs.Refusals.{Refusal}
 use Rattle.terms.specs.declared.Settlement.{Settlement}
 use Rattle.floats.specs.Answers.{Check, Outcome, follow, on_outcome, when_finite}
 use Rattle.terms.specs.Checks.{on_check}

@@ -1,7 +1,7 @@
 -- A fitted tree in the slices: its layers as fit and walk ask, its counts, spacings and shifts beside them. Assumes nothing.
 use Rattle.std.specs.Prelude.{ℕ, zero, suc, ◌≡◌, refl, Bool, List, ◌++◌, length, get_or, ℤ, Float, Ok, Err}
 use Rattle.std.proofs.Common.{arith, sym, ap, subst, ◌∙◌, append-nil, drop_of_length-le}
-use Rattle.floats.specs.declared.Refusal.{Refusal}
+use Rattle.floats.specs.Refusals.{Refusal}
 use Rattle.floats.specs.Answers.{Answer, Check, Outcome, follow}
 use Rattle.terms.specs.Terms.{HullWhite}
 use Rattle.terms.specs.laws.Outcomes.{Gives, gives, given_of, gives-follow, gives-valued, follow-given, follow-refused}

@@ -2,7 +2,7 @@
 use Rattle.std.specs.Prelude.{ℕ, ◌≡◌, Bool, List, map, ℤ, pos, Float, Ok, Err}
 use Rattle.std.proofs.Math.Path.{refl, sym, ap}
 use Rattle.std.proofs.Common.{subst, ◌∙◌}
-use Rattle.floats.specs.declared.Refusal.{Refusal}
+use Rattle.floats.specs.Refusals.{Refusal}
 use Rattle.floats.specs.Answers.{Answer, Outcome, follow, on_outcome}
 use Rattle.terms.specs.laws.Outcomes.{follow-given, follow-refused}
 use Rattle.bondevents.specs.declared.CallStep.{CallStep}

@@ -4,7 +4,7 @@ use Rattle.std.proofs.Common.{add-one, arith, ◌∙◌, drop_of_length-le, drop
 use Rattle.std.proofs.Math.Nat.{add-zero}
 use Rattle.std.proofs.Math.Path.{refl, sym, ap, subst}
 use Rattle.std.specs.Float.{nan}
-use Rattle.floats.specs.declared.Refusal.{Refusal}
+use Rattle.floats.specs.Refusals.{Refusal}
 use Rattle.floats.specs.Answers.{Outcome, follow, on_outcome}
 use Rattle.terms.specs.laws.Outcomes.{same_given, given_or_refused, follow-given, follow-refused, of_given}
 use Rattle.lattice.specs.Lattice.{root_layer}

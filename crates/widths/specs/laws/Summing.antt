@@ -6,7 +6,7 @@ use Rattle.std.proofs.Math.Path.{refl, sym, ap, subst}
 use Rattle.std.specs.Float.Ieee.{le}
 use Rattle.std.specs.Float.{nan}
 use Rattle.std.proofs.lemmas.Bool.{lt-leb}
-use Rattle.floats.specs.declared.Refusal.{Refusal}
+use Rattle.floats.specs.Refusals.{Refusal}
 use Rattle.floats.specs.declared.Reason.{Reason}
 use Rattle.floats.specs.Answers.{plus_zero, Outcome, follow, on_outcome, refusal}
 use Rattle.terms.specs.laws.Outcomes.{valued-value, valued-refused, same_given, given_or_refused, of_given}

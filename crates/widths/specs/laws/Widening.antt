@@ -11,7 +11,7 @@ use Rattle.std.proofs.Math.Seq.{take-append_seam}
 use Rattle.std.proofs.Math.IntN.{ℤ}
 use Rattle.std.specs.Float.Ieee.{le}
 use borrow.Author.Tests.{le-leb, lt-leb}
-use Rattle.floats.specs.declared.Refusal.{Refusal}
+use Rattle.floats.specs.Refusals.{Refusal}
 use Rattle.floats.specs.Answers.{Answer, plus_zero, on_outcome, Outcome, follow, refusal}
 use Rattle.rounded.specs.laws.RootBounds.{NotBelow}
 use Rattle.terms.specs.Numbers.{epsilon}

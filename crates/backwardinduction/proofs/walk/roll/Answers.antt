@@ -11,8 +11,8 @@ use mir.Facts.{to_z-of_z}
 use lib.ListN.{length, get_or, set, drop, drop_of_length-le, length-set}
 use lib.IntN.{ℤ, pos}
 use lib.Ieee.{Float, nan}
-use Rattle.floats.specs.declared.Refusal.{Refusal}
-use Rattle.floats.specs.Answers.{Answer, Check, Outcome, follow}
+use Rattle.floats.specs.Refusals.{Refusal}
+use Rattle.floats.specs.Answers.{Answer, Check, Outcome, follow, outcome_of}
 use Rattle.bondevents.specs.declared.CallStep.{CallStep}
 use Rattle.lattice.specs.declared.reach.Reach.{Reach}
 use Rattle.backwardinduction.specs.declared.walk.Rates.{Rates}
@@ -22,11 +22,10 @@ use Rattle.lattice.specs.laws.StoredAt.{drop_two, drop_three, middles_from_lem}
 use Rattle.lattice.specs.laws.Bounds.{Within}
 use Rattle.lattice.specs.laws.Reaching.{reach, nothing_below}
 use Rattle.lattice.specs.laws.Positions.{start_of, Layered, Held, roomy_next}
-use Rattle.lattice.specs.laws.Rows.{outcome_of}
 use Rattle.lattice.specs.laws.Binds.{went_on, stopped_at}
 use Rattle.backwardinduction.specs.laws.WalkSteps.{discount_with, value_with, rolled_at}
 use Rattle.backwardinduction.specs.laws.Discounts.{Ahead, ahead_none, ahead_count, ahead_next, ahead_here}
-use Rattle.forwardinduction.proofs.Outcomes.{passes}
+use Rattle.floats.proofs.Lent.{passes}
 use Rattle.backwardinduction.proofs.walk.roll.Invariants.{At}
 use Rattle.backwardinduction.proofs.walk.roll.Goals as goal
 

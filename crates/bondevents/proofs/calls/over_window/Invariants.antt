@@ -6,4 +6,4 @@ use Rattle.bondevents.proofs.Scanning.{Scanning}
 use Rattle.bondevents.proofs.calls.over_window.Given as goal
 
 abbrev pub invariant-loop-step : goal.invariant-loop-step
-invariant-loop-step l = Scanning l.side (in_window (axis_in l.axis) l.from l.to) (λ step. priced l.strike (get_or l.principals step nan) l.units) l.axis.steps l.initial.kept l.kept l.step
+invariant-loop-step l = Scanning l.side (in_window (axis_in l.axis) l.from l.to) (λ step. priced l.strike (get_or l.principals step nan) l.units) l.axis.steps l.initial.row l.row l.step

@@ -1,8 +1,7 @@
--- `bondevents::marks::side_mark` meets its contract: the side's price, and whether there is one. Assumes nothing.
+-- `bondevents::marks::side_mark` meets its contract: the side's mark as a byte. Assumes nothing.
 use mathlib.Core.Path.{◌≡◌, refl, ap, ◌∙◌}
 use mathlib.Core.Bool.{Bool, true, false, cond}
-use Rattle.bondevents.specs.Exercises.{marked}
-use Rattle.bondevents.specs.Parts.{side_mark}
+use Rattle.bondevents.specs.Parts.{mark_of, side_mark}
 use mir.Val.{bool_byte}
 use Rattle.bondevents.proofs.marks.side_mark.Goals as goal
 
@@ -12,4 +11,4 @@ byte_is false = refl
 
 pub returns : goal.returns
 unfolding side_mark
-returns c = byte_is c.is_some.result ∙ ap (λ (b : Bool). cond b 1 0) (c.is_some.ensures ∙ ap marked c.side_of.ensures)
+returns c = byte_is c.side_of.result.marked ∙ ap mark_of c.side_of.ensures

@@ -4,7 +4,7 @@ use Rattle.std.specs.Float.{binary64}
 use Rattle.std.specs.Float.Ieee.{lt, neg, mul, sub}
 use Rattle.std.specs.Float.Ieee.Scale.{finite}
 use Rattle.std.proofs.Common.{refl, rules, sym, ◌∙◌}
-use Rattle.floats.specs.declared.Refusal.{Refusal}
+use Rattle.floats.specs.Refusals.{Refusal}
 use Rattle.floats.specs.Answers.{Answer, one, follow, tested, when_finite}
 use Rattle.floats.specs.laws.Propagation.{passed_on, stopped}
 use Rattle.elementary.specs.Exponential.{half, series, exp_at, exp_m1_at}

@@ -3,7 +3,7 @@ use Rattle.std.specs.Prelude.{◌≡◌, ℕ, Float, Ok, Err}
 use Rattle.std.specs.Float.{binary64}
 use Rattle.std.specs.Float.Ieee.{mul}
 use Rattle.std.proofs.Common.{refl, rules, sym, ◌∙◌}
-use Rattle.floats.specs.declared.Refusal.{Refusal}
+use Rattle.floats.specs.Refusals.{Refusal}
 use Rattle.floats.specs.Answers.{Answer, when_finite}
 use Rattle.floats.specs.laws.Propagation.{passed_on, stopped}
 use Rattle.elementary.specs.Exponential.{exp_at}

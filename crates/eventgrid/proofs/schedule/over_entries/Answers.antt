@@ -2,12 +2,12 @@
 use borrow.Author.Rules.{rules}
 use native.Mathlib.Omega.{arith}
 use mathlib.Core.Path.{refl}
-use Rattle.bondevents.specs.Parts.{no_exercises}
-use Rattle.bondevents.proofs.Entering.{begin, stop, entering}
+use Rattle.floats.specs.Answers.{outcome_of}
+use Rattle.floats.proofs.Lent.{refuses-call, passes-call}
+use Rattle.bondevents.proofs.Entering.{begin, next, stop, entering}
 use Rattle.eventgrid.proofs.schedule.over_entries.Goals as goal
 
 pub loop-at-init : goal.loop-at-init
-unfolding no_exercises
 loop-at-init c = begin _ _ _ _ _ _ _ refl c.requires.ends_len.0 c.requires.ends_len.1
 
 pub with_entry-requires : goal.with_entry-requires
@@ -18,11 +18,13 @@ with_entry-requires c =
       principals = λ window. start.requires.by_index c.loop-at.at (omega arith) window;
     }
 
-pub returns-in_err-kept : goal.returns-in_err-kept
-returns-in_err-kept c = stop _ _ _ _ _ _ _ _ _ c.loop-at.invariant (omega arith) c.with_entry.ensures c.in_err-kept.was (search rules)
+pub returns-in_err-with_entry : goal.returns-in_err-with_entry
+returns-in_err-with_entry c =
+    stop _ _ _ _ _ _ _ _ _ c.loop-at.invariant (omega arith) c.with_entry.ensures (refuses-call _ c.in_err-with_entry.was) (refuses-call _ (search rules))
 
 pub loop-at-preserved : goal.loop-at-preserved
-loop-at-preserved c = search entering
+loop-at-preserved c = next _ _ _ _ _ _ _ _ _ c.loop-at.invariant (omega arith) c.with_entry.ensures (passes-call _ c.in_ok-with_entry.was)
 
 pub returns : goal.returns
+unfolding outcome_of
 returns c = search entering

@@ -3,7 +3,7 @@ use Rattle.std.specs.Prelude.{Ok}
 use Rattle.std.proofs.Common.{rules, sym, set, ◌∙◌}
 use Rattle.floats.specs.laws.Propagation.{stopped, passed_on}
 use Rattle.floats.proofs.Laws.{taken_lt}
-use Rattle.lattice.specs.laws.Rows.{outcome_of}
+use Rattle.floats.specs.Answers.{outcome_of}
 use Rattle.forwardinduction.specs.laws.FitSteps.{add_at}
 use Rattle.forwardinduction.proofs.fit.add_at.Goals as goal
 

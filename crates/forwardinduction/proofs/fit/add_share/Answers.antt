@@ -1,7 +1,7 @@
 -- `fit::add_share` meets its contract. Assumes nothing.
 use Rattle.std.proofs.Common.{rules, sym, ◌∙◌}
 use Rattle.floats.specs.laws.Propagation.{stopped}
-use Rattle.lattice.specs.laws.Rows.{outcome_of}
+use Rattle.floats.specs.Answers.{outcome_of}
 use Rattle.forwardinduction.specs.laws.FitSteps.{add_at, share_at}
 use Rattle.forwardinduction.proofs.fit.add_share.Goals as goal
 

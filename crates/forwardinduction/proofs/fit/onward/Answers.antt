@@ -11,8 +11,8 @@ use mir.Facts.{to_z-of_z}
 use lib.ListN.{length, get_or, drop, drop_of_length-le}
 use lib.IntN.{ℤ, pos}
 use lib.Ieee.{Float, nan}
-use Rattle.floats.specs.declared.Refusal.{Refusal}
-use Rattle.floats.specs.Answers.{Answer, Check, Outcome, follow}
+use Rattle.floats.specs.Refusals.{Refusal}
+use Rattle.floats.specs.Answers.{Answer, Check, Outcome, follow, outcome_of}
 use Rattle.lattice.specs.declared.reach.Reach.{Reach}
 use Rattle.lattice.specs.Layers.{node_float}
 use Rattle.lattice.specs.laws.Stored.{middles_in}
@@ -20,11 +20,10 @@ use Rattle.lattice.specs.laws.StoredAt.{drop_one, drop_two, drop_three, middles_
 use Rattle.lattice.specs.laws.Bounds.{Within}
 use Rattle.lattice.specs.laws.Reaching.{reach, nothing_below}
 use Rattle.lattice.specs.laws.Positions.{start_of, Layered, Held, roomy_next}
-use Rattle.lattice.specs.laws.Rows.{outcome_of}
 use Rattle.lattice.specs.laws.Binds.{went_on, stopped_at}
 use Rattle.forwardinduction.specs.laws.FitSteps.{discounted_of, add_three, onward_at}
 use Rattle.forwardinduction.specs.laws.Exps.{rate_argument, Kept, kept-none, kept_more}
-use Rattle.forwardinduction.proofs.Outcomes.{passes, refuses-call, followed, halted}
+use Rattle.floats.proofs.Lent.{passes, refuses-call, followed, halted}
 use Rattle.forwardinduction.proofs.fit.onward.Invariants.{At}
 use Rattle.forwardinduction.proofs.fit.onward.Goals as goal
 

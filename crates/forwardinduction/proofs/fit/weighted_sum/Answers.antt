@@ -11,7 +11,7 @@ use mir.Facts.{to_z-of_z}
 use lib.ListN.{length, get_or}
 use lib.IntN.{ℤ, pos}
 use lib.Ieee.{Float, nan}
-use Rattle.floats.specs.declared.Refusal.{Refusal}
+use Rattle.floats.specs.Refusals.{Refusal}
 use Rattle.floats.specs.Answers.{Answer, plus_zero, follow}
 use Rattle.lattice.specs.Layers.{node_float}
 use Rattle.forwardinduction.specs.Fit.{weighted}

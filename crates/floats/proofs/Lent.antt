@@ -1,10 +1,9 @@
 -- Laws in the shape that `search` wants, and the set `outcomes` of them: an answer beside the row that is left, read as an outcome. Assumes nothing.
-use Rattle.std.specs.Prelude.{Ok, Err}
-use mathlib.Core.Path.{◌≡◌, refl, sym, ap, ◌∙◌}
-use Rattle.floats.specs.declared.Refusal.{Refusal}
+use Rattle.std.specs.Prelude.{Ok, Err, OnErr}
+use mathlib.Core.Path.{◌≡◌, refl, sym, ap, subst, ◌∙◌}
+use Rattle.floats.specs.Refusals.{Refusal}
 use Rattle.floats.proofs.Laws.{answers}
-use Rattle.floats.specs.Answers.{Check, Outcome, follow, on_outcome}
-use Rattle.lattice.specs.laws.Rows.{outcome_of}
+use Rattle.floats.specs.Answers.{Check, Outcome, follow, on_outcome, outcome_of}
 
 -- ---- what is answered
 
@@ -19,6 +18,13 @@ refuses q x = refl
 pub refuses-call : {A : Type 0} {s : Check} {q : Refusal} (x : A) → s ≡ Err q → outcome_of s x ≡ Err q
 unfolding outcome_of
 refuses-call x e = ap (λ (z : Check). outcome_of z x) e
+
+pub passes-call : {A : Type 0} {s : Check} (x : A) → s ≡ Ok tt → outcome_of s x ≡ Ok x
+unfolding outcome_of
+passes-call x e = ap (λ (z : Check). outcome_of z x) e
+
+pub at_refusal : {s : Check} {q : Refusal} {P : Type 0} → OnErr s P → s ≡ Err q → P
+at_refusal {P = P} h e = subst (λ (z : Check). OnErr z P) e h
 
 -- ---- what a call answered, taken apart
 
