@@ -1,6 +1,6 @@
 // The price of each step on one side: of calls the lowest that an entry gives there, of puts the highest.
 
-ghost use Rattle.std.specs.Prelude.{◌≡◌, ◌≤◌, ◌<◌, length, get_or, set, Ok};
+ghost use Rattle.std.specs.Prelude.{◌≡◌, ◌≤◌, ◌<◌, length, get_or, set, Ok, OnErr};
 ghost use Rattle.std.specs.Float.{nan};
 ghost use Rattle.floats.specs.Answers.{follow, outcome_of};
 ghost use Rattle.bondevents.specs.Calls.{none, keep, over_steps, with_entry};
@@ -74,7 +74,8 @@ fn at_step(
     row: &mut [Exercise; 513],
 ) -> Result<(), Refusal>
     requires { step ≤ 512 }
-    ensures { outcome_of result row.new ≡ follow (priced strike principal units) λ x. Ok (set row.old step (keep side (get_or row.old step none) x)) }
+    ensures written { outcome_of result row.new ≡ follow (priced strike principal units) λ x. Ok (set row.old step (keep side (get_or row.old step none) x)) }
+    ensures untouched { OnErr result (row.new ≡ row.old) }
 {
     let price = call_price(strike, principal, units)?;
     row[step] = row[step].keep(side, price);
@@ -92,7 +93,8 @@ fn with_call(
     row: &mut [Exercise; 513],
 ) -> Result<(), Refusal>
     requires { (length leg.kinds.now ≡ length leg.days.now) × (length leg.amounts.now ≡ length leg.days.now) }
-    ensures { outcome_of result row.new ≡ over_steps side (axis_in axis) (without_puts (leg_in leg) units) (entry_of date date strike) axis.steps 0 row.old }
+    ensures written { outcome_of result row.new ≡ over_steps side (axis_in axis) (without_puts (leg_in leg) units) (entry_of date date strike) axis.steps 0 row.old }
+    ensures untouched { OnErr result (row.new ≡ row.old) }
 {
     let principal = call_principal(leg, date);
     if date == axis.settlement.day {
@@ -106,7 +108,8 @@ fn with_call(
 }
 
 // One entry, into the row of the entries before it. Those ending before settlement are skipped; a window finds its principals in
-// the table. The row is written where it lies: to hand 513 places on by value takes longer than to fill them.
+// the table. The row is written where it lies: to hand 513 places on by value takes longer than to fill them. Where the entry is
+// refused it stays as it was.
 #[tactic(auto, using(crate::proofs::Discrete::entries), unfolding(floats::specs::Answers::outcome_of))]
 pub fn with_entry(
     side: Side,
@@ -119,7 +122,8 @@ pub fn with_entry(
 ) -> Result<(), Refusal>
     requires kinds_len { (length leg.kinds.now ≡ length leg.days.now) × (length leg.amounts.now ≡ length leg.days.now) }
     requires principals { (entry.start ≡ entry.end → ⊥) → Principals (axis_in axis) (leg_of leg) axis.steps principals.now }
-    ensures { outcome_of result row.new ≡ with_entry side (axis_in axis) (without_puts (leg_in leg) units) (entry_of entry.start entry.end entry.strike) row.old }
+    ensures written { outcome_of result row.new ≡ with_entry side (axis_in axis) (without_puts (leg_in leg) units) (entry_of entry.start entry.end entry.strike) row.old }
+    ensures untouched { OnErr result (row.new ≡ row.old) }
 {
     if entry.end < axis.settlement.day {
         return Ok(());
@@ -129,5 +133,10 @@ pub fn with_entry(
     }
     let from = time_from(axis.settlement, entry.start);
     let to = time_from(axis.settlement, entry.end);
-    over_window(side, axis, from, to, entry.strike, units, principals, row)
+    let before = *row;
+    let answer = over_window(side, axis, from, to, entry.strike, units, principals, row);
+    if answer.is_err() {
+        *row = before;
+    }
+    answer
 }

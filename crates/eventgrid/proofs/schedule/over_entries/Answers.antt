@@ -20,10 +20,10 @@ with_entry-requires c =
 
 pub returns-in_err-with_entry : goal.returns-in_err-with_entry
 returns-in_err-with_entry c =
-    stop _ _ _ _ _ _ _ _ _ c.loop-at.invariant (omega arith) c.with_entry.ensures (refuses-call _ c.in_err-with_entry.was) (refuses-call _ (search rules))
+    stop _ _ _ _ _ _ _ _ _ c.loop-at.invariant (omega arith) c.with_entry.ensures.written (refuses-call _ c.in_err-with_entry.was) (refuses-call _ (search rules))
 
 pub loop-at-preserved : goal.loop-at-preserved
-loop-at-preserved c = next _ _ _ _ _ _ _ _ _ c.loop-at.invariant (omega arith) c.with_entry.ensures (passes-call _ c.in_ok-with_entry.was)
+loop-at-preserved c = next _ _ _ _ _ _ _ _ _ c.loop-at.invariant (omega arith) c.with_entry.ensures.written (passes-call _ c.in_ok-with_entry.was)
 
 pub returns : goal.returns
 unfolding outcome_of
