@@ -1,2 +1,3 @@
 pub mod Walking
 pub mod Filling
+pub mod Finding

@@ -2,7 +2,7 @@
 use Rattle.std.specs.Prelude.{ℕ, ◌+◌, ◌≤◌, min, ◌≡◌, Option, MatchOption, List, [], ◌∷◌, ◌++◌, map, length, take, drop, Float}
 use Rattle.bondline.specs.Forms.{Said}
 use Rattle.bondfile.specs.declared.Fields.{Fields}
-use Rattle.bondfile.specs.declared.Found.{Found}
+use Rattle.bondfile.specs.declared.SaidLine.{SaidLine}
 use Rattle.bondfile.specs.Entries.{first_whole, second_whole, flow_kind, first_number, second_number}
 use Rattle.bondfile.specs.File.{Numbered, entries_of, entries_from, of_kind, field_of}
 
@@ -13,7 +13,7 @@ pub record First (text : List ℕ) (kind at n : ℕ) (e : Said) (line next : ℕ
   pub within : next ≤ length text
 
 -- The next entry of a kind and where the line after it begins, or nothing where there is none.
-abbrev pub NextOf : List ℕ → ℕ → ℕ → ℕ → Option (Found × ℕ) → Type 0
+abbrev pub NextOf : List ℕ → ℕ → ℕ → ℕ → Option (SaidLine × ℕ) → Type 0
 NextOf text kind at n r = MatchOption r (of_kind kind (entries_from text at n) ≡ []) (λ f. First text kind at n f.0.entry f.0.line f.1)
 
 -- What a slice holds once the entries are stored: as many of the first as it has room for, and behind them what it held.

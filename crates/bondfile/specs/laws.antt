@@ -3,3 +3,4 @@ pub mod Files
 pub mod Accepted
 pub mod Kept
 pub mod Made
+pub mod OfKinds

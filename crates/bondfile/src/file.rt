@@ -1,11 +1,13 @@
 // The lines of a file, and the entries of a kind among them.
-ghost use Rattle.std.specs.Prelude.{◌≡◌, ◌+◌, ◌≤◌, length};
+ghost use Rattle.std.specs.Prelude.{◌≡◌, ◌+◌, ◌≤◌, ◌<◌, length, All};
+ghost use Rattle.bondfile.specs.Entries.{kind_of};
+ghost use Rattle.bondfile.specs.File.{entries_from, of_kind};
 ghost use Rattle.bondfile.specs.Storing.{NextOf};
 
-use crate::Found;
-use crate::entries::kind_number;
+use crate::entries::{kind_number, number_of};
+use crate::{Found, SaidLine};
 use bondline::lines::{line_entry, next_line};
-use bondline::{Entry, Fault};
+use bondline::{Entry, Fault, Kind};
 
 // The lines of a file from an index on, with the number of the line that begins there.
 #[derive(Drop)]
@@ -63,7 +65,7 @@ pub fn next_entry(
     kind: usize,
     mut at: usize,
     mut line: usize,
-) -> Option<(Found, usize)>
+) -> Option<(SaidLine, usize)>
     requires { (line ≤ at + 1) × (at ≤ length text.now) }
     ensures { NextOf text.now kind at line result }
 {
@@ -71,7 +73,7 @@ pub fn next_entry(
         let entry = line_entry(text, at);
         let next = next_line(text, at);
         if kind_number(entry) == kind {
-            return Some((Found { line, entry }, next));
+            return Some((SaidLine { line, entry }, next));
         }
         at = next;
         line += 1;
@@ -79,9 +81,10 @@ pub fn next_entry(
     None
 }
 
-// The entries of a kind from an index on, in the order of their lines, with the number of the line that begins there.
+// The entries of a kind by its number, from an index on, in the order of their lines, with the number of the line that begins
+// there.
 #[derive(Drop)]
-pub struct OfKind<'a> {
+pub struct OfNumber<'a> {
     text: &'a [u8],
     kind: usize,
     at: usize,
@@ -90,26 +93,65 @@ pub struct OfKind<'a> {
     ghost within: { at ≤ length text.now },
 }
 
-impl<'a> OfKind<'a> {
-    ghost use Rattle.bondfile.specs.File.{entries_of, entries_from, of_kind};
-    ghost use Rattle.bondfile.specs.Walks.{found_left};
+impl<'a> OfNumber<'a> {
+    ghost use Rattle.bondfile.specs.File.{entries_of};
+    ghost use Rattle.bondfile.specs.Walks.{said_left};
 
-    pub fn new(text: &'a [u8], kind: usize) -> OfKind<'a>
-        ensures { found_left result ≡ of_kind kind (entries_of text.now) }
+    pub fn new(text: &'a [u8], kind: usize) -> OfNumber<'a>
+        ensures { said_left result ≡ of_kind kind (entries_of text.now) }
     {
-        OfKind::starting(text, kind, 0, 1)
+        OfNumber::starting(text, kind, 0, 1)
     }
 
     // From an index on at which a line of this number begins.
-    pub fn starting(text: &'a [u8], kind: usize, at: usize, line: usize) -> OfKind<'a>
+    pub fn starting(text: &'a [u8], kind: usize, at: usize, line: usize) -> OfNumber<'a>
         requires { (line ≤ at + 1) × (at ≤ length text.now) }
-        ensures { found_left result ≡ of_kind kind (entries_from text.now at line) }
+        ensures { said_left result ≡ of_kind kind (entries_from text.now at line) }
     {
-        OfKind {
+        OfNumber {
             text,
             kind,
             at,
             line,
+        }
+    }
+}
+
+impl<'a> Iterator for OfNumber<'a> {
+    ghost use Rattle.std.specs.Iterator.{YieldsFirstBy, item_count};
+    ghost use Rattle.bondfile.specs.Walks.{said_left, numbered_said};
+
+    type Item = SaidLine;
+
+    ghost next_gives = { YieldsFirstBy numbered_said said_left };
+
+    ghost remaining = { item_count said_left };
+
+    fn next(&mut self) -> Option<SaidLine> {
+        let (found, next) = next_entry(self.text, self.kind, self.at, self.line)?;
+        self.at = next;
+        self.line = found.line + 1;
+        Some(found)
+    }
+}
+
+// The entries of a kind, in the order of their lines: none is a refused line, whose number is 12.
+#[derive(Drop)]
+pub struct OfKind<'a> {
+    said: OfNumber<'a>,
+    ghost entries: { All (λ e. kind_of e.entry < 12) (of_kind said.kind (entries_from said.text.now said.at said.line)) },
+}
+
+impl<'a> OfKind<'a> {
+    ghost use Rattle.bondfile.specs.Entries.{number_of};
+    ghost use Rattle.bondfile.specs.File.{entries_of};
+    ghost use Rattle.bondfile.specs.Walks.{found_left};
+
+    pub fn new(text: &'a [u8], kind: Kind) -> OfKind<'a>
+        ensures { found_left result ≡ of_kind (number_of kind) (entries_of text.now) }
+    {
+        OfKind {
+            said: OfNumber::new(text, number_of(kind)),
         }
     }
 }
@@ -125,9 +167,13 @@ impl<'a> Iterator for OfKind<'a> {
     ghost remaining = { item_count found_left };
 
     fn next(&mut self) -> Option<Found> {
-        let (found, next) = next_entry(self.text, self.kind, self.at, self.line)?;
-        self.at = next;
-        self.line = found.line + 1;
-        Some(found)
+        let said = self.said.next()?;
+        match said.entry {
+            Ok(entry) => Some(Found {
+                line: said.line,
+                entry,
+            }),
+            Err(_) => None,
+        }
     }
 }

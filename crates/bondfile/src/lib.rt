@@ -11,9 +11,16 @@ pub mod stored;
 
 // A line and what it says.
 #[derive(Clone, Copy, Debug)]
-pub struct Found {
+pub struct SaidLine {
     pub line: usize,
     pub entry: Result<Entry, Fault>,
+}
+
+// An entry and its line.
+#[derive(Clone, Copy, Debug)]
+pub struct Found {
+    pub line: usize,
+    pub entry: Entry,
 }
 
 // The first thing wrong with a file: more than 65,536 bytes; a line and its fault; a line whose kind may come only once, or is beyond its limit, and the kind;
@@ -36,4 +43,42 @@ pub struct Fields {
     pub maximum: u32,
     pub alpha: f64,
     pub spread: f64,
+}
+
+#[cfg(test)]
+mod tests {
+    use crate::file::OfKind;
+    use crate::lists::store;
+    use crate::singles::first_of;
+    use bondline::{Entry, Kind};
+
+    // Line 3 is refused, line 5 says nothing.
+    const TEXT: &[u8] =
+        b"units 100\ncall 45365 45730 101.5\ncall soon\nunits 7\n# a note\ncall 45400 45400 102\n";
+
+    #[test]
+    fn first_of_a_kind(rt: HostRuntime) {
+        let units = match first_of(TEXT, Kind::Units) {
+            Entry::Units(x) => x,
+            _ => 0.0,
+        };
+        assert_eq!(rt; units, 100.0);
+        let nothing = match first_of(TEXT, Kind::Quote) {
+            Entry::Blank => true,
+            _ => false,
+        };
+        assert!(rt; nothing, "no quote");
+    }
+
+    #[test]
+    fn entries_of_a_kind(rt: HostRuntime) {
+        let mut last = 0;
+        for found in OfKind::new(TEXT, Kind::Call) {
+            last = found.line;
+        }
+        assert_eq!(rt; last, 6);
+        let mut lines = [0; 4];
+        assert_eq!(rt; store(TEXT, Kind::Call, &mut lines, |found| found.line), 2);
+        assert_eq!(rt; lines, [2, 6, 0, 0]);
+    }
 }

@@ -41,16 +41,26 @@ module _ (b : Book) where
         desks-are : d ≡ desks
         desks-are = f ∙ ap (λ (m : ℕ). first_refused (λ i. single reason.Desk 0 (ltb 7 (get_or table i past_end).desk)) m 0) i ∙ same_desks b.fields table held
 
-        pub desk-refused : {q : RefusedBond} → d ≡ Err q → book_checks b ≡ Err q
+        pub held_desk-refused : {q : RefusedBond} → d ≡ Err q → book_checks b ≡ Err q
         unfolding on_book
-        desk-refused p = of-size ∙ ap (λ (k : BookCheck). on_book k Refused bonds) (sym desks-are ∙ p)
+        held_desk-refused p = of-size ∙ ap (λ (k : BookCheck). on_book k Refused bonds) (sym desks-are ∙ p)
 
-        pub bonds-checked : {r : BookCheck} → d ≡ Ok tt → r ≡ first_refused (λ i. bond_check b.shared b.lists (get_or table i past_end)) n 0 → book_checks b ≡ r
+        pub held_bonds-checked : {r : BookCheck} → d ≡ Ok tt → r ≡ first_refused (λ i. bond_check b.shared b.lists (get_or table i past_end)) n 0 → book_checks b ≡ r
         unfolding on_book
-        bonds-checked p g =
+        held_bonds-checked p g =
             of-size
             ∙ ap (λ (k : BookCheck). on_book k Refused bonds) (sym desks-are ∙ p)
             ∙ sym (g ∙ ap (λ (m : ℕ). first_refused (λ i. bond_check b.shared b.lists (get_or table i past_end)) m 0) i ∙ same_checks b.shared b.lists b.fields table held)
+
+  -- By its size, and by its desks and bonds themselves.
+  module _ {u : BookCheck} (e : u ≡ at_bond 0 (single reason.BookSize 0 (outside 1 32 (size_of b.fields)))) (t : u ≡ Ok tt) where
+    pub desk-refused : {d : BookCheck} {q : RefusedBond} → d ≡ desks → d ≡ Err q → Err q ≡ book_checks b
+    unfolding on_book
+    desk-refused f p = sym (of-size refl e t ∙ ap (λ (k : BookCheck). on_book k Refused bonds) (sym f ∙ p))
+
+    pub bonds-checked : {d r : BookCheck} → d ≡ desks → d ≡ Ok tt → r ≡ bonds → r ≡ book_checks b
+    unfolding on_book
+    bonds-checked f p g = g ∙ sym (of-size refl e t ∙ ap (λ (k : BookCheck). on_book k Refused bonds) (sym f ∙ p))
 
   -- A table, or the refusal.
   pub held-refused : {o : BookOutcome (List Holding)} {q : RefusedBond} → o ≡ Err q → book_checks b ≡ Err q → HeldBook b o

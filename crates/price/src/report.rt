@@ -7,7 +7,7 @@ use crate::tree::asked;
 use crate::typed::print_name;
 use crate::warnings::warnings;
 use bondfile::entries::number_of;
-use bondfile::singles::first_of;
+use bondfile::singles::first_said;
 use bondline::{Entry, Kind};
 use bondreport::order::{Call, Calls};
 use filebond::lists::Lists;
@@ -104,7 +104,7 @@ fn calls_part(out: Stdout, text: &[u8]) {
 }
 
 fn yield_part(out: Stdout, text: &[u8], quiet: bool) -> bool {
-    let Ok(Entry::Yield(price, compounding, frequency)) = first_of(text, number_of(Kind::Yield))
+    let Ok(Entry::Yield(price, compounding, frequency)) = first_said(text, number_of(Kind::Yield))
     else {
         return true;
     };
@@ -125,7 +125,7 @@ fn yield_part(out: Stdout, text: &[u8], quiet: bool) -> bool {
 }
 
 fn quote_part(out: Stdout, text: &[u8], quiet: bool) -> bool {
-    let Ok(Entry::Quote(price)) = first_of(text, number_of(Kind::Quote)) else {
+    let Ok(Entry::Quote(price)) = first_said(text, number_of(Kind::Quote)) else {
         return true;
     };
     match asked(text, Ask::Spread(price)) {

@@ -3,4 +3,4 @@ use Rattle.std.proofs.Common.{rules}
 use Rattle.bondfile.proofs.lists.entry_lines.Goals as goal
 
 pub returns : goal.returns
-returns c = c.store.ensures (λ e. e.line) (λ x r q. search (rules, q))
+returns c = c.store_said.ensures (λ e. e.line) (λ x r q. search (rules, q))

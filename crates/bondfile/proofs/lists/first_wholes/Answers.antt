@@ -4,4 +4,4 @@ use Rattle.bondfile.specs.Entries.{first_whole}
 use Rattle.bondfile.proofs.lists.first_wholes.Goals as goal
 
 pub returns : goal.returns
-returns c = c.store.ensures (λ e. first_whole e.entry) (λ x r q. search rules)
+returns c = c.store_said.ensures (λ e. first_whole e.entry) (λ x r q. search rules)
